@@ -1,0 +1,46 @@
+-- What a question answers: a value, or a refusal. One thing after another: the first refusal stands.
+-- Assumes nothing.
+use Prim.Native.Nat.{ℕ}
+use mathlib.Core.Path.{_≡_, refl, sym, ap, _∙_}
+use mathlib.Core.Bool.{Bool, true, false}
+use Rattle.answer.specs.declared.Refusal.{Refusal}
+use Rattle.answer.specs.declared.Checked.{Checked}
+use Rattle.answer.specs.declared.Checked.the-variants.{Fine, Refused}
+use Rattle.answer.specs.Refusals.{refusal}
+
+pub data Answer (A : Type 0) : Type 0 where
+  ok : A → Answer A
+  refused : Refusal → Answer A
+
+abbrev pub no : {A : Type 0} → ℕ → Answer A
+no n = refused (refusal n)
+
+-- a value, and what is done with it
+infixl 20 _then_
+abbrev pub _then_ : {A B : Type 0} → Answer A → (A → Answer B) → Answer B
+ok a then k = k a
+refused r then k = refused r
+
+-- what must hold, else that number
+abbrev pub need : {A : Type 0} → ℕ → Bool → Answer A → Answer A
+need n true x = x
+need n false x = no n
+
+-- an answer that is given only after a check was fine
+infixl 20 _before_
+abbrev pub _before_ : {A : Type 0} → Checked → Answer A → Answer A
+Fine before x = x
+Refused k before x = refused k
+
+-- ---- laws
+pub then-ok : {A B : Type 0} (x : Answer A) (k : A → Answer B) (a : A) → ok a ≡ x → k a ≡ (x then k)
+then-ok x k a e = rw (← e)
+
+pub then-no : {A B : Type 0} (x : Answer A) (k : A → Answer B) (r : Refusal) → refused r ≡ x → refused r ≡ (x then k)
+then-no x k r e = rw (← e)
+
+pub need-met : {A : Type 0} (n : ℕ) (b : Bool) (x : Answer A) → b ≡ true → x ≡ need n b x
+need-met n b x e = rw e
+
+pub need-not : {A : Type 0} (n : ℕ) (b : Bool) (x : Answer A) → b ≡ false → no n ≡ need n b x
+need-not n b x e = rw e

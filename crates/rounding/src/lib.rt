@@ -1,0 +1,1 @@
+// Only laws: see specs/.
