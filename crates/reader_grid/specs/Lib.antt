@@ -1,0 +1,2 @@
+-- Document 01, "GRID".
+pub mod Word
