@@ -1,0 +1,190 @@
+// Opening, 1 to 11: the header, the table's bounds, the checksum.
+ghost use mathlib.Core.Path.{_≡_};
+ghost use mathlib.Core.Bool.{_&&_};
+ghost use Prim.Native.Nat.{_+_, _-_, _*_, _≤_, _<_};
+ghost use lib.ListN.{length};
+ghost use lib.Dec.{leb};
+ghost use Rattle.answer.specs.Checks.{seek};
+ghost use Rattle.fields.specs.Le.{le};
+ghost use Rattle.crc.specs.Crc32.{crc32};
+ghost use Rattle.reader_head.specs.Magic.{startsWith};
+ghost use Rattle.reader_head.specs.Head.{startCheck, fieldsCheck, versionCheck, boundsCheck, headCheck, Long, isZero, notZero};
+use answer::Checked;
+
+pub fn wide(x: u32) -> usize
+    ensures { λ r. ⌜ (r ≡ x) × (r < 0x1_0000_0000) ⌝ }
+{
+    x as usize
+}
+
+// A number of two, and of four bytes.
+pub fn half(s: &[u8], at: usize) -> usize
+    requires { ⌜ at + 2 ≤ length (now s) ⌝ }
+    ensures { λ r. ⌜ r ≡ le 2 (now (s .entry)) at ⌝ }
+{
+    fields::u16_at(s, at) as usize
+}
+
+pub fn word(s: &[u8], at: usize) -> usize
+    requires { ⌜ at + 4 ≤ length (now s) ⌝ }
+    ensures { λ r. ⌜ (r ≡ le 4 (now (s .entry)) at) × (r < 0x1_0000_0000) ⌝ }
+{
+    wide(fields::u32_at(s, at))
+}
+
+fn starts_with(s: &[u8], t: &[u8]) -> bool
+    ensures { λ r. ⌜ r ≡ startsWith (now (s .entry)) (now (t .entry)) ⌝ }
+{
+    if s.len() < t.len() {
+        return false;
+    }
+    let mut i = 0;
+    while i < t.len() {
+        if s[i] != t[i] {
+            return false;
+        }
+        i += 1;
+    }
+    true
+}
+
+// 1 to 4: size, magic and major, profile.
+fn start(s: &[u8]) -> Checked
+    ensures { λ r. ⌜ r ≡ startCheck (now (s .entry)) ⌝ }
+{
+    if s.len() < 68 {
+        return answer::fail(1);
+    }
+    if 0xffff_ffff < s.len() {
+        return answer::fail(1);
+    }
+    if !starts_with(s, b"TZFB") {
+        return answer::fail(2);
+    }
+    if s[4] != 1 {
+        return answer::fail(2);
+    }
+    if s[48] == 1 {
+        return answer::fail(3);
+    }
+    if s[48] != 0 {
+        return answer::fail(4);
+    }
+    Checked::Fine
+}
+
+// 5 to 7: header fields, zone count, chunk target.
+fn fields(s: &[u8]) -> Checked
+    requires { ⌜ Long (now s) ⌝ }
+    ensures { λ r. ⌜ r ≡ fieldsCheck (now (s .entry)) ⌝ }
+{
+    if half(s, 6) != 64 {
+        return answer::fail(5);
+    }
+    if word(s, 12) != 100_000 {
+        return answer::fail(5);
+    }
+    if word(s, 16) != s.len() {
+        return answer::fail(5);
+    }
+    let zones = word(s, 40);
+    if zones < 1 {
+        return answer::fail(6);
+    }
+    if 65_535 < zones {
+        return answer::fail(6);
+    }
+    let target = word(s, 44);
+    if target < 1 {
+        return answer::fail(7);
+    }
+    if 65_535 < target {
+        return answer::fail(7);
+    }
+    Checked::Fine
+}
+
+// The first of the places from `from` on, and before `to`, at which a zero stands.
+pub fn text_end(s: &[u8], from: usize, to: usize) -> usize
+    requires { ⌜ (from ≤ to) × (to ≤ length (now s)) ⌝ }
+    ensures { λ r. ⌜ (r ≡ seek (isZero (now (s .entry))) (to - from) from) × (from ≤ r) × (r ≤ to) ⌝ }
+{
+    let mut i = from;
+    while i < to {
+        if s[i] == 0 {
+            return i;
+        }
+        i += 1;
+    }
+    i
+}
+
+// The same for what is no zero.
+fn zeros_end(s: &[u8], from: usize, to: usize) -> usize
+    requires { ⌜ (from ≤ to) × (to ≤ length (now s)) ⌝ }
+    ensures { λ r. ⌜ r ≡ seek (notZero (now (s .entry))) (to - from) from ⌝ }
+{
+    let mut i = from;
+    while i < to {
+        if s[i] != 0 {
+            return i;
+        }
+        i += 1;
+    }
+    i
+}
+
+// 8 and 9: version padding, version UTF-8.
+fn version(s: &[u8]) -> Checked
+    requires { ⌜ Long (now s) ⌝ }
+    ensures { λ r. ⌜ r ≡ versionCheck (now (s .entry)) ⌝ }
+{
+    let e = text_end(s, 24, 40);
+    if zeros_end(s, e, 40) != 40 {
+        return answer::fail(8);
+    }
+    if !utf8::utf8_ok(s, 24, e) {
+        return answer::fail(9);
+    }
+    Checked::Fine
+}
+
+// 10 and 11: section table bounds, CRC-32.
+fn bounds(s: &[u8]) -> Checked
+    requires { ⌜ Long (now s) ⌝ }
+    ensures { λ r. ⌜ r ≡ boundsCheck (now (s .entry)) ⌝ }
+{
+    let end = s.len() - 4;
+    if end < 64 + 16 * word(s, 20) {
+        return answer::fail(10);
+    }
+    if crc(&s[..end]) != word(s, end) {
+        return answer::fail(11);
+    }
+    Checked::Fine
+}
+
+fn crc(s: &[u8]) -> usize
+    ensures { λ r. ⌜ r ≡ crc32 (now (s .entry)) ⌝ }
+{
+    wide(crc::crc32_of(s))
+}
+
+// 1 to 11.
+pub fn head(s: &[u8]) -> Checked
+    ensures { λ r. ⌜ r ≡ headCheck (now (s .entry)) ⌝ }
+{
+    let a = start(s);
+    if let Checked::Refused(k) = a {
+        return Checked::Refused(k);
+    }
+    let b = fields(s);
+    if let Checked::Refused(k) = b {
+        return Checked::Refused(k);
+    }
+    let v = version(s);
+    if let Checked::Refused(k) = v {
+        return Checked::Refused(k);
+    }
+    bounds(s)
+}

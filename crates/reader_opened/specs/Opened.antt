@@ -1,0 +1,169 @@
+-- Document 01, "Opening, in this order", 17 to 20, and what is kept of an opened file.
+-- Assumes nothing.
+use Prim.Native.Nat.{ℕ, zero, suc, _+_, _-_, _*_, _%_, _≤_, _<_}
+use native.Mathlib.Omega.{arith}
+use mathlib.Core.Path.{_≡_, refl, sym, ap, _∙_}
+use mathlib.Core.Bool.{Bool, true, false, not}
+use mathlib.Core.List.{List, [], _∷_}
+use lib.ListN.{length, getD}
+use Rattle.fields.specs.Le.{le}
+use Rattle.answer.specs.declared.Checked.{Checked}
+use Rattle.answer.specs.declared.Checked.the-variants.{Fine, Refused}
+use Rattle.answer.specs.Checks.{claim, deny, first, each, andThen, seek, pick, atMost, below, same}
+use Rattle.answer.specs.CheckLaws.{fine-one, fine-rest, fine-claim, at-le, below-lt, lt-below, ge-below, le-at, gt-at}
+use Rattle.reader_head.specs.Head.{Headed}
+use Rattle.reader_table.specs.declared.Section.{Section}
+use Rattle.reader_table.specs.Table.{sections, has, offAt, lenAt, isType, entriesCheck, entryCheck, placedCheck, sectionOf, entryAt, pickSection}
+use Rattle.reader_opened.specs.declared.Grid.{Grid}
+use Rattle.reader_opened.specs.declared.Opened.{Opened}
+
+-- Types 1 to 7 and 9 present (17);
+unfoldable pub presentAt : List ℕ → ℕ → Checked
+presentAt s t = claim 17 (has s t (sections s))
+
+unfoldable pub presentCheck : List ℕ → Checked
+presentCheck s = first (each (presentAt s) 7 1 ∷ presentAt s 9 ∷ [])
+
+-- flag bit 0 set exactly if type 8 is there (18);
+unfoldable pub bit : Bool → ℕ
+bit true = 1
+bit false = 0
+
+unfoldable pub flagCheck : List ℕ → Checked
+flagCheck s = first (claim 18 (same (le 4 s 8 % 2) (bit (has s 8 (sections s)))) ∷ [])
+
+-- TZDIR is 24 times the zone count, POLYDIR and CHUNKDIR multiples of 24, RINGDIR of 28, RINGOPS of 4, GROUPDIR of 44 (19);
+unfoldable pub zonesCheck : Opened → Checked
+zonesCheck o = first (claim 19 (same (o .tzdir .len) (24 * o .zones)) ∷ [])
+
+unfoldable pub lengthsCheck : Opened → Checked
+lengthsCheck o =
+    first
+    (claim 19 (same (o .polydir .len % 24) 0)
+    ∷ claim 19 (same (o .ringdir .len % 28) 0)
+    ∷ claim 19 (same (o .ringops .len % 4) 0)
+    ∷ claim 19 (same (o .groupdir .len % 44) 0)
+    ∷ claim 19 (same (o .chunkdir .len % 24) 0)
+    ∷ [])
+
+-- the other five have at least one record (20).
+unfoldable pub countsCheck : Opened → Checked
+countsCheck o =
+    first
+    (claim 20 (atMost 24 (o .polydir .len))
+    ∷ claim 20 (atMost 28 (o .ringdir .len))
+    ∷ claim 20 (atMost 4 (o .ringops .len))
+    ∷ claim 20 (atMost 44 (o .groupdir .len))
+    ∷ claim 20 (atMost 24 (o .chunkdir .len))
+    ∷ [])
+
+-- GRID, 12 bytes: i16 first longitude, i16 first latitude, u16 columns, u16 rows, u32 candidate total. An i16 is kept 32,768 higher.
+unfoldable pub shifted : ℕ → ℕ
+shifted x = pick (below x 32_768) (x + 32_768) (x - 32_768)
+
+abbrev pub pickGrid : Bool → Grid → Grid → Grid
+pickGrid true a b = a
+pickGrid false a b = b
+
+unfoldable pub gridOf : List ℕ → Section → Grid
+gridOf s p =
+    pickGrid (atMost 12 (p .len))
+    (record {
+      lng = shifted (le 2 s (p .off));
+      lat = shifted (le 2 s (p .off + 2));
+      cols = le 2 s (p .off + 4);
+      rows = le 2 s (p .off + 6);
+      total = le 4 s (p .off + 8);
+    })
+    (record { lng = 0; lat = 0; cols = 0; rows = 0; total = 0 })
+
+-- what is kept of a file
+unfoldable pub recordOf : List ℕ → Opened
+recordOf s =
+    record {
+      flags = le 4 s 8;
+      zones = le 4 s 40;
+      names = sectionOf s 1;
+      tzdir = sectionOf s 2;
+      polydir = sectionOf s 3;
+      ringdir = sectionOf s 4;
+      ringops = sectionOf s 5;
+      groupdir = sectionOf s 6;
+      chunkdir = sectionOf s 7;
+      gridpart = sectionOf s 8;
+      points = sectionOf s 9;
+      grid = gridOf s (sectionOf s 8);
+    }
+
+-- a section lies in the file
+pub record Within (s : List ℕ) (p : Section) : Type 0 where
+  pub fits : p .off + p .len ≤ length s
+
+-- a file whose head and table are fine
+pub record Tabled (s : List ℕ) : Type 0 where
+  pub head : Headed s
+  pub table : entriesCheck s ≡ Fine
+
+-- Laws.
+and-one : (a b : Checked) → andThen a b ≡ Fine → a ≡ Fine
+unfolding andThen
+and-one Fine b e = refl
+and-one (Refused k) b e = e
+
+and-rest : (a b : Checked) → andThen a b ≡ Fine → b ≡ Fine
+unfolding andThen
+and-rest Fine b e = e
+and-rest (Refused k) b e = let z : _≡_ {A = ℕ} 0 1 = cc in absurd (omega arith)
+
+each-all : (f : ℕ → Checked) (n i j : ℕ) → each f n i ≡ Fine → j < n → f (i + j) ≡ Fine
+unfolding each
+each-all f zero i j e h = absurd (omega arith)
+each-all f (suc n) i zero e h = let q : i + 0 ≡ i = omega arith in rw q (and-one (f i) _ e)
+each-all f (suc n) i (suc j) e h =
+    let q : i + suc j ≡ i + 1 + j = omega arith in
+    rw q (each-all f n (i + 1) j (and-rest (f i) _ e) (omega arith))
+
+pub each-at : (f : ℕ → Checked) (n k : ℕ) → each f n 0 ≡ Fine → k < n → f k ≡ Fine
+each-at f n k e h = let q : 0 + k ≡ k = omega arith in rw q at (each-all f n 0 k e h)
+
+placed-in : (s : List ℕ) (k : ℕ) → entryCheck s k ≡ Fine → offAt s k + lenAt s k ≤ length s - 4
+unfolding entryCheck placedCheck
+placed-in s k e = at-le _ _ (fine-claim _ _ (fine-one _ _ (fine-rest _ _ (fine-rest _ _ (fine-one _ _ e)))))
+
+-- every section of a file whose table is fine lies in the file
+pub within : (s : List ℕ) → Tabled s → (t : ℕ) → Within s (sectionOf s t)
+unfolding sectionOf has entryAt entriesCheck
+within s w t = go (below k (sections s)) refl
+  where
+    k : ℕ
+    k = seek (isType s t) (sections s) 0
+
+    go : (b : Bool) → below k (sections s) ≡ b → Within s (pickSection b (entryAt s k) (record { off = 0; len = 0 }))
+    go true e = record { fits = omega (arith, placed-in s k (each-at (entryCheck s) (sections s) k (w .table) (below-lt _ _ e))) }
+    go false e = record { fits = omega arith }
+
+pub shift-low : (x : ℕ) → x < 32_768 → x + 32_768 ≡ shifted x
+unfolding shifted
+shift-low x h = rw (lt-below x 32_768 h)
+
+pub shift-high : (x : ℕ) → 32_768 ≤ x → x - 32_768 ≡ shifted x
+unfolding shifted
+shift-high x h = rw (ge-below x 32_768 h)
+
+module _ (s : List ℕ) (p : Section) where
+  pub grid-none : p .len < 12 → record { lng = 0; lat = 0; cols = 0; rows = 0; total = 0 } ≡ gridOf s p
+  unfolding gridOf
+  grid-none h = rw (gt-at 12 (p .len) h)
+
+  pub grid-is : (at x y a b c d z : ℕ) → 12 ≤ p .len → at ≡ p .off →
+      x ≡ le 2 s at → a ≡ shifted x → y ≡ le 2 s (at + 2) → b ≡ shifted y → c ≡ le 2 s (at + 4) → d ≡ le 2 s (at + 6) → z ≡ le 4 s (at + 8) →
+      record { lng = a; lat = b; cols = c; rows = d; total = z } ≡ gridOf s p
+  unfolding gridOf
+  grid-is at x y a b c d z h e ex ea ey eb ec ed ez = rw (le-at 12 (p .len) h, ea, eb, ex, ey, ec, ed, ez, e)
+
+pub record-is : (s : List ℕ) (f z : ℕ) (p1 p2 p3 p4 p5 p6 p7 p8 p9 : Section) (g : Grid) → f ≡ le 4 s 8 → z ≡ le 4 s 40 →
+    p1 ≡ sectionOf s 1 → p2 ≡ sectionOf s 2 → p3 ≡ sectionOf s 3 → p4 ≡ sectionOf s 4 → p5 ≡ sectionOf s 5 → p6 ≡ sectionOf s 6 →
+    p7 ≡ sectionOf s 7 → p8 ≡ sectionOf s 8 → p9 ≡ sectionOf s 9 → g ≡ gridOf s p8 →
+    record { flags = f; zones = z; names = p1; tzdir = p2; polydir = p3; ringdir = p4; ringops = p5; groupdir = p6; chunkdir = p7; gridpart = p8; points = p9; grid = g } ≡ recordOf s
+unfolding recordOf
+record-is s f z p1 p2 p3 p4 p5 p6 p7 p8 p9 g ef ez e1 e2 e3 e4 e5 e6 e7 e8 e9 eg = rw (eg, ef, ez, e1, e2, e3, e4, e5, e6, e7, e8, e9)

@@ -1,0 +1,68 @@
+use mathlib.Core.Path.{_≡_, refl, sym, ap, _∙_}
+use Rattle.answer.specs.CheckLaws.{met-by, unmet-by, none-left}
+use Rattle.reader_table.specs.Table.{entryCheck}
+use native.Mathlib.Omega.{arith}
+use borrow.Author.Needs.{needs}
+use Rattle.reader_table.proofs.entry.Statement.{statement}
+use Rattle.reader_table.proofs.entry.Tie as tie
+use Rattle.reader_table.proofs.entry.Reads as reads
+use Rattle.reader_table.proofs.entry.Lts as lts
+use Rattle.reader_table.proofs.apart_before.Reads as apart-before-reads
+use Rattle.reader_table.proofs.placed.Reads as placed-reads
+use Rattle.reader_table.proofs.typed.Reads as typed-reads
+
+-- src/lib.rt:160:9
+placed-requires : tie.Need-placed-requires
+placed-requires c κs = search needs
+
+-- src/lib.rt:161:29
+enum-known-a : tie.Need-enum-known-a
+enum-known-a c = search needs
+
+-- src/lib.rt:162:9
+returns : tie.Need-returns
+unfolding entryCheck
+returns c = unmet-by _ _ _ (cc)
+
+enum-told : tie.Need-enum-told
+enum-told c = search needs
+
+-- src/lib.rt:164:9
+typed-requires : tie.Need-typed-requires
+typed-requires c κs = search needs
+
+-- src/lib.rt:165:29
+enum-known-b : tie.Need-enum-known-b
+enum-known-b c = search needs
+
+-- src/lib.rt:166:9
+returns-2 : tie.Need-returns-2
+unfolding entryCheck
+returns-2 c = met-by _ _ _ (cc) (unmet-by _ _ _ (cc))
+
+enum-told-2 : tie.Need-enum-told-2
+enum-told-2 c = search needs
+
+-- src/lib.rt:168:5
+apart-before-requires : tie.Need-apart-before-requires
+apart-before-requires c κs = search needs
+
+-- src/lib.rt:156:1
+returns-3 : tie.Need-returns-3
+unfolding entryCheck
+returns-3 c = c .apart-before .ensures ∙ met-by _ _ _ (cc) (met-by _ _ _ (cc) (none-left _))
+
+pub entry-spec : {M : Type 1} → statement M
+entry-spec =
+    tie.close
+    (tie.spec
+    placed-requires
+    enum-known-a
+    returns
+    enum-told
+    typed-requires
+    enum-known-b
+    returns-2
+    enum-told-2
+    apart-before-requires
+    returns-3)
