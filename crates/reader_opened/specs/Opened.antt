@@ -1,19 +1,24 @@
 -- Document 01, "Opening, in this order", 17 to 20, and what is kept of an opened file.
 -- Assumes nothing.
-use Prim.Native.Nat.{ℕ, zero, suc, _+_, _-_, _*_, _%_, _≤_, _<_}
+use Prim.Native.Nat.{ℕ, zero, suc, _+_, _-_, _*_, _/_, _%_, _≤_, _<_}
 use native.Mathlib.Omega.{arith}
 use mathlib.Core.Path.{_≡_, refl, sym, ap, _∙_}
-use mathlib.Core.Bool.{Bool, true, false, not}
+use mathlib.Core.Bool.{Bool, true, false, not, cond}
 use mathlib.Core.List.{List, [], _∷_}
 use lib.ListN.{length, getD}
+use lib.IntN.{ℤ, pos}
+use mir.Syntax.{w16}
+use mir.Val.{toZ}
 use Rattle.fields.specs.Le.{le}
 use Rattle.answer.specs.declared.Checked.{Checked}
 use Rattle.answer.specs.declared.Checked.the-variants.{Fine, Refused}
-use Rattle.answer.specs.Checks.{claim, deny, first, each, andThen, seek, pick, atMost, below, same}
+use Rattle.answer.specs.Checks.{claim, deny, first, each, andThen, seek, atMost, below, same}
 use Rattle.answer.specs.CheckLaws.{fine-one, fine-rest, fine-claim, at-le, below-lt, lt-below, ge-below, le-at, gt-at}
 use Rattle.reader_head.specs.Head.{Headed}
 use Rattle.reader_table.specs.declared.Section.{Section}
 use Rattle.reader_table.specs.Table.{sections, has, offAt, lenAt, isType, entriesCheck, entryCheck, placedCheck, sectionOf, entryAt, pickSection}
+use Rattle.reader_opened.specs.declared.Sections.{Sections}
+use Rattle.reader_opened.specs.declared.Directory.{Directory}
 use Rattle.reader_opened.specs.declared.Grid.{Grid}
 use Rattle.reader_opened.specs.declared.Opened.{Opened}
 
@@ -33,10 +38,10 @@ unfoldable pub flagCheck : List ℕ → Checked
 flagCheck s = first (claim 18 (same (le 4 s 8 % 2) (bit (has s 8 (sections s)))) ∷ [])
 
 -- TZDIR is 24 times the zone count, POLYDIR and CHUNKDIR multiples of 24, RINGDIR of 28, RINGOPS of 4, GROUPDIR of 44 (19);
-unfoldable pub zonesCheck : Opened → Checked
+unfoldable pub zonesCheck : Sections → Checked
 zonesCheck o = first (claim 19 (same (o .tzdir .len) (24 * o .zones)) ∷ [])
 
-unfoldable pub lengthsCheck : Opened → Checked
+unfoldable pub lengthsCheck : Sections → Checked
 lengthsCheck o =
     first
     (claim 19 (same (o .polydir .len % 24) 0)
@@ -47,7 +52,7 @@ lengthsCheck o =
     ∷ [])
 
 -- the other five have at least one record (20).
-unfoldable pub countsCheck : Opened → Checked
+unfoldable pub countsCheck : Sections → Checked
 countsCheck o =
     first
     (claim 20 (atMost 24 (o .polydir .len))
@@ -57,29 +62,9 @@ countsCheck o =
     ∷ claim 20 (atMost 24 (o .chunkdir .len))
     ∷ [])
 
--- GRID, 12 bytes: i16 first longitude, i16 first latitude, u16 columns, u16 rows, u32 candidate total. An i16 is kept 32,768 higher.
-unfoldable pub shifted : ℕ → ℕ
-shifted x = pick (below x 32_768) (x + 32_768) (x - 32_768)
-
-abbrev pub pickGrid : Bool → Grid → Grid → Grid
-pickGrid true a b = a
-pickGrid false a b = b
-
-unfoldable pub gridOf : List ℕ → Section → Grid
-gridOf s p =
-    pickGrid (atMost 12 (p .len))
-    (record {
-      lng = shifted (le 2 s (p .off));
-      lat = shifted (le 2 s (p .off + 2));
-      cols = le 2 s (p .off + 4);
-      rows = le 2 s (p .off + 6);
-      total = le 4 s (p .off + 8);
-    })
-    (record { lng = 0; lat = 0; cols = 0; rows = 0; total = 0 })
-
--- what is kept of a file
-unfoldable pub recordOf : List ℕ → Opened
-recordOf s =
+-- what the table says of a file
+unfoldable pub sectionsOf : List ℕ → Sections
+sectionsOf s =
     record {
       flags = le 4 s 8;
       zones = le 4 s 40;
@@ -92,7 +77,43 @@ recordOf s =
       chunkdir = sectionOf s 7;
       gridpart = sectionOf s 8;
       points = sectionOf s 9;
-      grid = gridOf s (sectionOf s 8);
+    }
+
+-- GRID, 12 bytes: i16 first longitude, i16 first latitude, u16 columns, u16 rows, u32 candidate total
+abbrev pub noGrid : Grid
+noGrid = record { off = 0; lng = pos 0; lat = pos 0; cols = 0; rows = 0; total = 0 }
+
+unfoldable pub gridOf : List ℕ → Section → Grid
+gridOf s p =
+    cond (atMost 12 (p .len))
+    (record {
+      off = p .off;
+      lng = toZ w16 (le 2 s (p .off));
+      lat = toZ w16 (le 2 s (p .off + 2));
+      cols = le 2 s (p .off + 4);
+      rows = le 2 s (p .off + 6);
+      total = le 4 s (p .off + 8);
+    })
+    noGrid
+
+-- the records of a section, each w bytes long
+unfoldable pub directoryOf : Section → ℕ → Directory
+directoryOf p w = record { off = p .off; count = p .len / w }
+
+-- what is kept of an opened file
+unfoldable pub openedOf : Sections → Grid → Opened
+openedOf p g =
+    record {
+      flags = p .flags;
+      names = p .names;
+      zones = record { off = p .tzdir .off; count = p .zones };
+      polys = directoryOf (p .polydir) 24;
+      rings = directoryOf (p .ringdir) 28;
+      ops = directoryOf (p .ringops) 4;
+      groups = directoryOf (p .groupdir) 44;
+      chunks = directoryOf (p .chunkdir) 24;
+      points = p .points;
+      grid = g;
     }
 
 -- a section lies in the file
@@ -104,7 +125,7 @@ pub record Tabled (s : List ℕ) : Type 0 where
   pub head : Headed s
   pub table : entriesCheck s ≡ Fine
 
--- Laws.
+-- ---- laws
 and-one : (a b : Checked) → andThen a b ≡ Fine → a ≡ Fine
 unfolding andThen
 and-one Fine b e = refl
@@ -142,28 +163,26 @@ within s w t = go (below k (sections s)) refl
     go true e = record { fits = omega (arith, placed-in s k (each-at (entryCheck s) (sections s) k (w .table) (below-lt _ _ e))) }
     go false e = record { fits = omega arith }
 
-pub shift-low : (x : ℕ) → x < 32_768 → x + 32_768 ≡ shifted x
-unfolding shifted
-shift-low x h = rw (lt-below x 32_768 h)
-
-pub shift-high : (x : ℕ) → 32_768 ≤ x → x - 32_768 ≡ shifted x
-unfolding shifted
-shift-high x h = rw (ge-below x 32_768 h)
-
 module _ (s : List ℕ) (p : Section) where
-  pub grid-none : p .len < 12 → record { lng = 0; lat = 0; cols = 0; rows = 0; total = 0 } ≡ gridOf s p
+  pub grid-none : p .len < 12 → noGrid ≡ gridOf s p
   unfolding gridOf
   grid-none h = rw (gt-at 12 (p .len) h)
 
-  pub grid-is : (at x y a b c d z : ℕ) → 12 ≤ p .len → at ≡ p .off →
-      x ≡ le 2 s at → a ≡ shifted x → y ≡ le 2 s (at + 2) → b ≡ shifted y → c ≡ le 2 s (at + 4) → d ≡ le 2 s (at + 6) → z ≡ le 4 s (at + 8) →
-      record { lng = a; lat = b; cols = c; rows = d; total = z } ≡ gridOf s p
+  pub grid-is : (at : ℕ) (x y : ℤ) (c d z : ℕ) → 12 ≤ p .len → at ≡ p .off → x ≡ toZ w16 (le 2 s at) → y ≡ toZ w16 (le 2 s (at + 2))
+      → c ≡ le 2 s (at + 4) → d ≡ le 2 s (at + 6) → z ≡ le 4 s (at + 8) → record { off = p .off; lng = x; lat = y; cols = c; rows = d; total = z } ≡ gridOf s p
   unfolding gridOf
-  grid-is at x y a b c d z h e ex ea ey eb ec ed ez = rw (le-at 12 (p .len) h, ea, eb, ex, ey, ec, ed, ez, e)
+  grid-is at x y c d z h e ex ey ec ed ez = rw (le-at 12 (p .len) h, ex, ey, ec, ed, ez, e)
 
-pub record-is : (s : List ℕ) (f z : ℕ) (p1 p2 p3 p4 p5 p6 p7 p8 p9 : Section) (g : Grid) → f ≡ le 4 s 8 → z ≡ le 4 s 40 →
-    p1 ≡ sectionOf s 1 → p2 ≡ sectionOf s 2 → p3 ≡ sectionOf s 3 → p4 ≡ sectionOf s 4 → p5 ≡ sectionOf s 5 → p6 ≡ sectionOf s 6 →
-    p7 ≡ sectionOf s 7 → p8 ≡ sectionOf s 8 → p9 ≡ sectionOf s 9 → g ≡ gridOf s p8 →
-    record { flags = f; zones = z; names = p1; tzdir = p2; polydir = p3; ringdir = p4; ringops = p5; groupdir = p6; chunkdir = p7; gridpart = p8; points = p9; grid = g } ≡ recordOf s
-unfolding recordOf
-record-is s f z p1 p2 p3 p4 p5 p6 p7 p8 p9 g ef ez e1 e2 e3 e4 e5 e6 e7 e8 e9 eg = rw (eg, ef, ez, e1, e2, e3, e4, e5, e6, e7, e8, e9)
+pub sections-are : (s : List ℕ) (f z : ℕ) (p1 p2 p3 p4 p5 p6 p7 p8 p9 : Section) → f ≡ le 4 s 8 → z ≡ le 4 s 40
+    → p1 ≡ sectionOf s 1 → p2 ≡ sectionOf s 2 → p3 ≡ sectionOf s 3 → p4 ≡ sectionOf s 4 → p5 ≡ sectionOf s 5 → p6 ≡ sectionOf s 6
+    → p7 ≡ sectionOf s 7 → p8 ≡ sectionOf s 8 → p9 ≡ sectionOf s 9
+    → record { flags = f; zones = z; names = p1; tzdir = p2; polydir = p3; ringdir = p4; ringops = p5; groupdir = p6; chunkdir = p7; gridpart = p8; points = p9 } ≡ sectionsOf s
+unfolding sectionsOf
+sections-are s f z p1 p2 p3 p4 p5 p6 p7 p8 p9 ef ez e1 e2 e3 e4 e5 e6 e7 e8 e9 = rw (ef, ez, e1, e2, e3, e4, e5, e6, e7, e8, e9)
+
+module _ (p : Sections) (g : Grid) where
+  pub opened-is : (p3 p4 p5 p6 p7 : Directory) → p3 ≡ directoryOf (p .polydir) 24 → p4 ≡ directoryOf (p .ringdir) 28 → p5 ≡ directoryOf (p .ringops) 4
+      → p6 ≡ directoryOf (p .groupdir) 44 → p7 ≡ directoryOf (p .chunkdir) 24
+      → record { flags = p .flags; names = p .names; zones = record { off = p .tzdir .off; count = p .zones }; polys = p3; rings = p4; ops = p5; groups = p6; chunks = p7; points = p .points; grid = g } ≡ openedOf p g
+  unfolding openedOf
+  opened-is p3 p4 p5 p6 p7 e3 e4 e5 e6 e7 = rw (e3, e4, e5, e6, e7)

@@ -6,20 +6,12 @@ ghost use Rattle.reader_head.specs.Head.{Headed};
 ghost use Rattle.answer.specs.Checks.{each};
 ghost use Rattle.reader_table.specs.Table.{entriesCheck};
 ghost use Rattle.reader_table.specs.declared.Section.{Section};
-ghost use Rattle.reader_opened.specs.Opened.{shifted, gridOf, recordOf, presentAt, presentCheck, bit, flagCheck, zonesCheck, lengthsCheck, countsCheck, Within, Tabled};
+ghost use Rattle.reader_opened.specs.Opened.{gridOf, sectionsOf, directoryOf, openedOf, presentAt, presentCheck, bit, flagCheck, zonesCheck, lengthsCheck, countsCheck, Within, Tabled};
 use answer::Checked;
 use reader_table::Section;
 
-// GRID's first twelve bytes. The firsts are kept 32,768 higher, so that they are not below 0.
-pub struct Grid {
-    pub lng: u16,
-    pub lat: u16,
-    pub cols: u16,
-    pub rows: u16,
-    pub total: u32,
-}
-
-pub struct Opened {
+// What the table says of a file: where each section lies. 0 and 0 for one that is not there.
+pub struct Sections {
     pub flags: u32,
     pub zones: u32,
     pub names: Section,
@@ -30,6 +22,35 @@ pub struct Opened {
     pub groupdir: Section,
     pub chunkdir: Section,
     pub gridpart: Section,
+    pub points: Section,
+}
+
+// Records in a row.
+pub struct Directory {
+    pub off: u32,
+    pub count: u32,
+}
+
+// GRID: where it lies, and its first twelve bytes.
+pub struct Grid {
+    pub off: u32,
+    pub lng: i16,
+    pub lat: i16,
+    pub cols: u16,
+    pub rows: u16,
+    pub total: u32,
+}
+
+// An opened file: all that a question needs beside the file's bytes.
+pub struct Opened {
+    pub flags: u32,
+    pub names: Section,
+    pub zones: Directory,
+    pub polys: Directory,
+    pub rings: Directory,
+    pub ops: Directory,
+    pub groups: Directory,
+    pub chunks: Directory,
     pub points: Section,
     pub grid: Grid,
 }
@@ -91,7 +112,7 @@ pub fn flag(s: &[u8]) -> Checked
 }
 
 // 19.
-pub fn zone_length(o: Opened) -> Checked
+pub fn zone_length(o: Sections) -> Checked
     ensures { λ r. ⌜ r ≡ zonesCheck o ⌝ }
 {
     if reader_head::wide(o.tzdir.len) != 24 * reader_head::wide(o.zones) {
@@ -100,7 +121,7 @@ pub fn zone_length(o: Opened) -> Checked
     Checked::Fine
 }
 
-pub fn lengths(o: Opened) -> Checked
+pub fn lengths(o: Sections) -> Checked
     ensures { λ r. ⌜ r ≡ lengthsCheck o ⌝ }
 {
     if o.polydir.len % 24 != 0 {
@@ -122,7 +143,7 @@ pub fn lengths(o: Opened) -> Checked
 }
 
 // 20.
-pub fn counts(o: Opened) -> Checked
+pub fn counts(o: Sections) -> Checked
     ensures { λ r. ⌜ r ≡ countsCheck o ⌝ }
 {
     if o.polydir.len < 24 {
@@ -143,20 +164,14 @@ pub fn counts(o: Opened) -> Checked
     Checked::Fine
 }
 
-// An i16, 32,768 higher.
-fn shift(x: u16) -> u16
-    ensures { λ r. ⌜ r ≡ shifted x ⌝ }
-{
-    if x < 0x8000 { x + 0x8000 } else { x - 0x8000 }
-}
-
 // What GRID's first bytes say; nothing where it has too few.
-fn grid_of(s: &[u8], p: Section) -> Grid
+pub fn grid_of(s: &[u8], p: Section) -> Grid
     requires { ⌜ Within (now s) p ⌝ }
     ensures { λ r. ⌜ r ≡ gridOf (now (s .entry)) p ⌝ }
 {
     if p.len < 12 {
         return Grid {
+            off: 0,
             lng: 0,
             lat: 0,
             cols: 0,
@@ -166,17 +181,18 @@ fn grid_of(s: &[u8], p: Section) -> Grid
     }
     let at = reader_head::wide(p.off);
     Grid {
-        lng: shift(fields::u16_at(s, at)),
-        lat: shift(fields::u16_at(s, at + 2)),
+        off: p.off,
+        lng: fields::i16_at(s, at),
+        lat: fields::i16_at(s, at + 2),
         cols: fields::u16_at(s, at + 4),
         rows: fields::u16_at(s, at + 6),
         total: fields::u32_at(s, at + 8),
     }
 }
 
-pub fn read_record(s: &[u8]) -> Opened
+pub fn read_sections(s: &[u8]) -> Sections
     requires { ⌜ Tabled (now s) ⌝ }
-    ensures { λ r. ⌜ r ≡ recordOf (now (s .entry)) ⌝ }
+    ensures { λ r. ⌜ r ≡ sectionsOf (now (s .entry)) ⌝ }
 {
     let flags = fields::u32_at(s, 8);
     let zones = fields::u32_at(s, 40);
@@ -189,8 +205,7 @@ pub fn read_record(s: &[u8]) -> Opened
     let chunkdir = reader_table::section_of(s, 7);
     let gridpart = reader_table::section_of(s, 8);
     let points = reader_table::section_of(s, 9);
-    let g = grid_of(s, gridpart);
-    Opened {
+    Sections {
         flags,
         zones,
         names,
@@ -202,6 +217,45 @@ pub fn read_record(s: &[u8]) -> Opened
         chunkdir,
         gridpart,
         points,
-        grid: g,
+    }
+}
+
+// The records of a section, each `width` bytes long.
+fn records_of(p: Section, width: u32) -> Directory
+    requires { ⌜ 0 < width ⌝ }
+    ensures { λ r. ⌜ r ≡ directoryOf p width ⌝ }
+{
+    Directory {
+        off: p.off,
+        count: p.len / width,
+    }
+}
+
+pub fn opened_of(p: Sections, grid: Grid) -> Opened
+    ensures { λ r. ⌜ r ≡ openedOf p grid ⌝ }
+{
+    let names = p.names;
+    let tzdir = p.tzdir;
+    let zones = Directory {
+        off: tzdir.off,
+        count: p.zones,
+    };
+    let polys = records_of(p.polydir, 24);
+    let rings = records_of(p.ringdir, 28);
+    let ops = records_of(p.ringops, 4);
+    let groups = records_of(p.groupdir, 44);
+    let chunks = records_of(p.chunkdir, 24);
+    let points = p.points;
+    Opened {
+        flags: p.flags,
+        names,
+        zones,
+        polys,
+        rings,
+        ops,
+        groups,
+        chunks,
+        points,
+        grid,
     }
 }

@@ -1,0 +1,20 @@
+use mathlib.Core.Path.{refl}
+use Rattle.reader_opened.specs.Opened.{directoryOf}
+use native.Mathlib.Omega.{arith}
+use borrow.Author.Needs.{needs}
+use Rattle.reader_opened.proofs.records_of.Statement.{statement}
+use Rattle.reader_opened.proofs.records_of.Tie as tie
+use Rattle.reader_opened.proofs.records_of.Reads as reads
+use Rattle.reader_opened.proofs.records_of.Lts as lts
+
+-- src/lib.rt:230:16
+div-t3 : tie.Need-div-t3
+div-t3 c = search needs
+
+-- src/lib.rt:224:1
+returns : tie.Need-returns
+unfolding directoryOf
+returns c = refl
+
+pub records-of-spec : {M : Type 1} → statement M
+records-of-spec = tie.close (tie.spec div-t3 returns)
