@@ -1,13 +1,13 @@
 -- Long division gives the remainder, and there is but one. For any divisor that begins with 1.
 -- Assumes nothing.
-use mathlib.Core.Path.{_≡_, refl, sym, ap, ap₂, _∙_, subst}
+use mathlib.Core.Path.{_≡_, refl, sym, ap, ap₂, _∙_}
 use mathlib.Core.Bool.{Bool, true, false}
 use mathlib.Core.List.{List, [], _∷_, _++_}
-use Prim.Native.Nat.{ℕ, zero, suc, _+_, _≤_, _<_}
+use Prim.Native.Nat.{ℕ, zero, suc, _+_, _≤_}
 use native.Mathlib.Nat.{le-of-suc-le-suc, not-suc-le-zero, suc-add}
 use native.Mathlib.Omega.{arith}
-use lib.ListN.{length, replicate, length-replicate, length-append}
-use Rattle.basics.specs.Parity.{_⊻_, ⊻-self, ⊻-idr, ⊻-comm, ⊻-assoc}
+use lib.ListN.{length, length-replicate}
+use Rattle.basics.specs.Parity.{_⊻_, ⊻-self, ⊻-idr, ⊻-assoc}
 use Rattle.crc.specs.Ieee8023.{zeros, _⊕_, times, product, Remainder, line, divided}
 
 -- ---- sums

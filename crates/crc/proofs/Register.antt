@@ -10,9 +10,9 @@ use lib.Arith.{digits-div, digits-mod}
 use lib.Bits.{bitXor, xor-block, xor-comm, xor-shifted, xor-zero-r}
 use lib.Dec.{eqb}
 use lib.ListN.{length, getD, replicate, length-replicate, length-append}
-use Rattle.basics.specs.Parity.{_⊻_, ⊻-comm}
+use Rattle.basics.specs.Parity.{_⊻_}
 use Rattle.crc.specs.Crc32.{tap, step, steps, bytes, crc32}
-use Rattle.crc.specs.Ieee8023.{zeros, _⊕_, times, Remainder, line, divided, hasPower, sumOf, generator, bits, message, complement, complementFirst, dividend, digit, number, ieee8023}
+use Rattle.crc.specs.Ieee8023.{zeros, _⊕_, times, Remainder, divided, hasPower, sumOf, generator, bits, message, complement, complementFirst, dividend, digit, number, ieee8023}
 use Rattle.crc.proofs.Xor.{xor-assoc}
 use Rattle.crc.proofs.Linear.{step-linear, steps-shifted}
 use Rattle.crc.proofs.Division.{plus-none, plus-assoc, plus-length, plus-longer, plus-zeros, times-length, line-is, division-remainder, divided-length, remainder-unique}
