@@ -31,7 +31,8 @@ unfoldable pub product : List Bool → List Bool → List Bool
 product [] g = []
 product (a ∷ q) g = times a g ⊕ (false ∷ product q g)
 
--- r is the remainder of p divided by g: p is a multiple of g, and r at its lower end; the degree of r is below that of g
+-- r is the remainder of p divided by g: p = quotient · g + r, and the degree of r is below that of g. As r ends with p, at the power 0,
+-- it stands behind as many zeros as the quotient has coefficients
 pub record Remainder (p g r : List Bool) : Type 0 where
   pub quotient : List Bool
   pub whole : p ≡ product quotient g ⊕ (zeros (length quotient) ++ r)
@@ -49,11 +50,12 @@ divided g (suc n) p = divided g n (line g p)
 
 -- ---- the standard's procedure
 
--- the coefficients of x^n down to x^0 of a sum of powers
+-- whether x^n is among powers
 unfoldable pub hasPower : ℕ → List ℕ → Bool
 hasPower n [] = false
 hasPower n (e ∷ es) = eqb n e || hasPower n es
 
+-- the coefficients, from that of x^n down to that of x^0, of a sum of powers
 unfoldable pub sumOf : ℕ → List ℕ → List Bool
 sumOf zero es = hasPower zero es ∷ []
 sumOf (suc n) es = hasPower (suc n) es ∷ sumOf n es
