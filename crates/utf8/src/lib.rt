@@ -105,15 +105,16 @@ fn size(s: &[u8], i: usize) -> usize
     ensures { λ r. ⌜ i + r ≤ length (now (s .entry)) ⌝ }
 {
     let next = byte(s, i, 1);
+    let any = tail(next);
     match s[i] {
         0x00..=0x7f => 1,
-        0xc2..=0xdf => two(tail(next)),
+        0xc2..=0xdf => two(any),
         0xe0 => three(s, i, after_e0(next)),
-        0xe1..=0xec => three(s, i, tail(next)),
+        0xe1..=0xec => three(s, i, any),
         0xed => three(s, i, after_ed(next)),
-        0xee..=0xef => three(s, i, tail(next)),
+        0xee..=0xef => three(s, i, any),
         0xf0 => four(s, i, after_f0(next)),
-        0xf1..=0xf3 => four(s, i, tail(next)),
+        0xf1..=0xf3 => four(s, i, any),
         0xf4 => four(s, i, after_f4(next)),
         _ => 0,
     }
