@@ -2,10 +2,10 @@
 -- Assumes nothing.
 use mathlib.Core.Path.{_≡_, refl, sym, ap, ap₂, _∙_, subst}
 use mathlib.Core.Logic.{_⊎_, inl, inr}
-use Prim.Native.Nat.{ℕ, _-_, _*_, _^_, _≤_, _<_}
+use Prim.Native.Nat.{ℕ, suc, _-_, _*_, _^_, _≤_, _<_}
 use native.Mathlib.Nat.{le-trans, lt-of-le-of-lt, mul-le-mul-right, eq-of-mul-eq-mul-right}
 use native.Mathlib.Omega.{arith}
-use mathlib.Core.Bool.{Bool, true, false, _||_, Bool·beq, cond}
+use mathlib.Core.Bool.{Bool, true, false, true≢false, _||_, Bool·beq, cond}
 use lib.Dec.{T, eqb, eqb→eq, lit≤, lit<}
 use lib.IntN.{ℤ, pos, negsuc, natAbs, subℕ}
 use lib.Ieee.{Float, nan, inf, fin, binary64, up, down, eq, ofInt}
@@ -20,10 +20,21 @@ use Rattle.tzb_core.specs.Ray.{hits, nudged}
 use Rattle.tzb_core.proofs.Sides.{or-split}
 use Rattle.basics.specs.Whole.{is-sub, is-unique, shift, shift-is}
 
--- ---- a run of the loop from y ends at r
-pub data Runs (ay by : Float) : Float → Float → Type 0 where
-  stop : {y : Float} → hits ay by y ≡ false → Runs ay by y y
-  turn : {y r : Float} → hits ay by y ≡ true → Runs ay by (nextUp y) r → Runs ay by y r
+-- ---- a run of the loop from y ends at r after so many turns
+pub data Runs (ay by : Float) : ℕ → Float → Float → Type 0 where
+  stop : {y : Float} → hits ay by y ≡ false → Runs ay by 0 y y
+  turn : {n : ℕ} {y r : Float} → hits ay by y ≡ true → Runs ay by n (nextUp y) r → Runs ay by (suc n) y r
+
+-- all runs from y end alike
+pub loop-ends-alike : {ay by y r s : Float} {m n : ℕ} → Runs ay by m y r → Runs ay by n y s → r ≡ s
+loop-ends-alike (stop e) (stop f) = refl
+loop-ends-alike (stop e) (turn f v) = absurd (true≢false (sym f ∙ e))
+loop-ends-alike (turn e u) (stop f) = absurd (true≢false (sym e ∙ f))
+loop-ends-alike (turn e u) (turn f v) = loop-ends-alike u v
+
+-- there is a run from y to r of one turn at most
+abbrev pub Ends : Float → Float → Float → Float → Type 0
+Ends ay by y r = (n : ℕ) × (n ≤ 1) × Runs ay by n y r
 
 -- ---- a float that equals a whole number has its value
 same-sign : (s t : Bool) → T (Bool·beq s t) → s ≡ t
@@ -84,12 +95,12 @@ module _ (A B : ℕ) (a : dist A 0x8000_0000 ≤ 0x8000_0000) (b : dist B 0x8000
       go (inl u) = free y A (bumped y A a u)
       go (inr u) = free y B (bumped y B b u)
 
-  runs : (y : Float) → Runs (diff A 0x8000_0000) (diff B 0x8000_0000) y (nudged (diff A 0x8000_0000) (diff B 0x8000_0000) y)
+  runs : (y : Float) → Ends (diff A 0x8000_0000) (diff B 0x8000_0000) y (nudged (diff A 0x8000_0000) (diff B 0x8000_0000) y)
   runs y = go (hits (diff A 0x8000_0000) (diff B 0x8000_0000) y) refl
     where
-      go : (h : Bool) → hits (diff A 0x8000_0000) (diff B 0x8000_0000) y ≡ h → Runs (diff A 0x8000_0000) (diff B 0x8000_0000) y (cond h (nextUp y) y)
-      go true e = turn e (stop (once y (subst T (sym e) tt)))
-      go false e = stop e
+      go : (h : Bool) → hits (diff A 0x8000_0000) (diff B 0x8000_0000) y ≡ h → Ends (diff A 0x8000_0000) (diff B 0x8000_0000) y (cond h (nextUp y) y)
+      go true e = (1, lit≤ tt, turn e (stop (once y (subst T (sym e) tt))))
+      go false e = (0, lit≤ tt, stop e)
 
 -- ---- for two integers of 32 bits
 abbrev nat : ℤ → ℕ
@@ -103,8 +114,8 @@ nat-wide : (z : ℤ) → natAbs z ≤ 0x8000_0000 → dist (nat z) 0x8000_0000 �
 nat-wide (pos n) h = omega arith
 nat-wide (negsuc n) h = omega arith
 
-pub loop-is : (m n : ℤ) (y : Float) → natAbs m ≤ 0x8000_0000 → natAbs n ≤ 0x8000_0000 → Runs (ofInt binary64 m) (ofInt binary64 n) y (nudged (ofInt binary64 m) (ofInt binary64 n) y)
+pub loop-is : (m n : ℤ) (y : Float) → natAbs m ≤ 0x8000_0000 → natAbs n ≤ 0x8000_0000 → Ends (ofInt binary64 m) (ofInt binary64 n) y (nudged (ofInt binary64 m) (ofInt binary64 n) y)
 loop-is m n y h k =
-    subst (λ (u : Float). Runs u (ofInt binary64 n) y (nudged u (ofInt binary64 n) y)) (sym (nat-diff m h))
-    (subst (λ (u : Float). Runs (diff (nat m) 0x8000_0000) u y (nudged (diff (nat m) 0x8000_0000) u y)) (sym (nat-diff n k))
+    subst (λ (u : Float). Ends u (ofInt binary64 n) y (nudged u (ofInt binary64 n) y)) (sym (nat-diff m h))
+    (subst (λ (u : Float). Ends (diff (nat m) 0x8000_0000) u y (nudged (diff (nat m) 0x8000_0000) u y)) (sym (nat-diff n k))
     (runs (nat m) (nat n) (nat-wide m h) (nat-wide n k) y))
