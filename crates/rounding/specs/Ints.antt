@@ -3,7 +3,7 @@ use mathlib.Core.Path.{_≡_, refl, sym, ap, ap₂, _∙_, subst}
 use Prim.Native.Nat.{ℕ, zero, suc, _+_, _-_, _*_, _^_, _≤_, _<_}
 use native.Mathlib.Nat.{lt-of-lt-of-le, lt-of-not-le, not-le-of-lt, mul-comm, mul-le-mul-right, mul-pos, mul-sub, zero-lt-suc, zero-mul, eq-of-mul-eq-mul-right}
 use native.Mathlib.Omega.{arith}
-use mathlib.Core.Bool.{Bool, true, false, not, _&&_, _||_, Bool·beq, cond}
+use mathlib.Core.Bool.{Bool, true, false, not, _&&_, _||_, Bool·beq, cond, and-true}
 use lib.IntN.{pos, negsuc, subℕ}
 use lib.Dec.{T, ltb, eqb, ltb→lt, nltb→le, eqb→eq}
 use lib.Ieee.{Float, nan, inf, fin, Format, binary64, up, down, unlike, round, below, level, lt, eq, le, neg, sum, add, sub, div, ofInt}
@@ -178,10 +178,6 @@ below-is X Y K = go (ltb X K) (ltb Y K) (ltb→lt X K) (nltb→le X K) (ltb→lt
 level-is : (X Y K : ℕ) → level (ltb X K) (dist X K) (ltb Y K) (dist Y K) ≡ eqb X Y
 level-is X Y K = go (ltb X K) (ltb Y K) (ltb→lt X K) (nltb→le X K) (ltb→lt Y K) (nltb→le Y K)
   where
-    and-true : (b : Bool) → b && true ≡ b
-    and-true true = refl
-    and-true false = refl
-
     and-no : (a b : Bool) → b ≡ false → a && b ≡ false
     and-no true b e = e
     and-no false b e = refl

@@ -3,7 +3,7 @@ use mathlib.Core.Path.{_≡_, refl, sym, ap₂, _∙_, subst}
 use Prim.Native.Nat.{ℕ, zero, _+_, _-_, _*_, _^_, _≤_, _<_}
 use native.Mathlib.Nat.{le-trans, le-of-lt, lt-of-lt-of-le}
 use native.Mathlib.Omega.{arith}
-use mathlib.Core.Bool.{Bool, true, false, not, _&&_, _||_, cond}
+use mathlib.Core.Bool.{Bool, true, false, not, _&&_, _||_, cond, and-true}
 use borrow.Author.Tests.{lt-ltb, le-ltb}
 use lib.Dec.{T, ltb, eqb, ltb→lt, nltb→le, eqb→eq, lit≤}
 use lib.Ieee.Fits.{eq→eqb}
@@ -73,10 +73,6 @@ rep-below true true a b p q p' q' e f = both-ltb (p + q') (q + p') b a (λ (h : 
 pub rep-level : (s t : Bool) (a b p q p' q' : ℕ) → Rep s a p q → Rep t b p' q' → level s a t b ≡ eqb (p + q') (q + p')
 rep-level s t a b p q p' q' e f = go s t e f
   where
-    and-true : (b : Bool) → b && true ≡ b
-    and-true true = refl
-    and-true false = refl
-
     both : (u v w : Bool) → (T u → a ≡ b) → (a ≡ b → T u) → (T v → a ≡ 0) → (a ≡ 0 → T v) → (T w → p + q' ≡ q + p') → (p + q' ≡ q + p' → T w) → (p + q' ≡ q + p' → a ≡ 0) → (p + q' ≡ q + p' → b ≡ 0) → (a ≡ b → a ≡ 0 → p + q' ≡ q + p') → u && v ≡ w
     both true true true f1 f2 g1 g2 h1 h2 i j k = refl
     both true true false f1 f2 g1 g2 h1 h2 i j k = absurd (h2 (k (f1 tt) (g1 tt)))

@@ -5,7 +5,7 @@ use mathlib.Core.Logic.{_⊎_, inl, inr, _≢_}
 use Prim.Native.Nat.{ℕ, suc, _+_, _-_, _*_, _^_, _≤_, _<_, min, max}
 use native.Mathlib.Nat.{le-trans, le-of-eq, le-of-lt}
 use native.Mathlib.Omega.{arith}
-use mathlib.Core.Bool.{Bool, true, false, not, _&&_, _||_, cond}
+use mathlib.Core.Bool.{Bool, true, false, not, _&&_, _||_, cond, and-true, and-false, or-false}
 use borrow.Author.Tests.{lt-ltb, le-ltb, le-leb, eq-eqb, ne-eqb}
 use lib.Dec.{T, ltb, leb, eqb, ltb→lt, nltb→le, leb→le, nleb→lt, eqb→eq, T-not, lit≤, lit<}
 use lib.Ieee.{Float, binary64, lt, le, eq, sub, div}
@@ -20,7 +20,7 @@ use Rattle.plane.specs.declared.Seen.{Seen}
 use Rattle.plane.specs.declared.Seen.the-variants.{On, Off}
 use Rattle.plane.specs.Turns.{plus, less}
 use Rattle.tzb_core.specs.Ray.{outside, away, degenerate, between, level, ratio, touches, nudged, missed, slope, steep, shortcut, crosses, rayAt}
-use Rattle.tzb_core.proofs.Sides.{amid, onN, countsN, or-split, falsum, amid-view, amid-make, right-all, left-all, no-turn-amid, at-foot, swap-plus, swap-less}
+use Rattle.tzb_core.proofs.Sides.{amid, onN, countsN, or-split, falsum, verum, amid-view, amid-make, right-all, left-all, no-turn-amid, at-foot, swap-plus, swap-less}
 
 abbrev pub at : ℕ → Float
 at X = diff X 18000000
@@ -166,10 +166,6 @@ module _ (ax ay bx by px py : ℕ) (iax : In ax) (iay : In ay) (ibx : In bx) (ib
       n2 : px ≡ ax → ⊥
       n2 e = omega arith
 
-      or-false : (b : Bool) → b || false ≡ b
-      or-false true = refl
-      or-false false = refl
-
       cancel : (l r q p b : ℕ) → l ≡ q + b → r ≡ p + b → l ≡ r → p ≡ q
       cancel l r q p b x y h = omega arith
 
@@ -245,6 +241,13 @@ bool-iff true true f g = refl
 bool-iff true false f g = absurd (f tt)
 bool-iff false true f g = absurd (g tt)
 bool-iff false false f g = refl
+
+-- between two ends in one place there is one place
+squeeze : (a b p : ℕ) → a ≡ b → min a b ≤ p → p ≤ max a b → p ≡ b
+squeeze a b p e l h = omega arith
+
+amid-same : (a b p : ℕ) → a ≡ b → p ≡ b → (min a b ≤ p) × (p ≤ max a b)
+amid-same a b p e f = (omega arith, omega arith)
 
 -- ---- the nudge
 nudged-at : (ay by py : ℕ) → In ay → In by → In py → nudged (at ay) (at by) (at py) ≡ cond (eqb py ay || eqb py by) (nextUp (at py)) (at py)
@@ -347,23 +350,8 @@ module _ (ax ay bx by px py : ℕ) (iax : In ax) (iay : In ay) (ibx : In bx) (ib
       upright : (a b p : ℕ) → a ≡ b → p ≡ b → plus a ay b by p py ≡ less a ay b by p py
       upright a b p e f = rw (e, f) (omega arith)
 
-      squeeze : (a b p : ℕ) → a ≡ b → min a b ≤ p → p ≤ max a b → p ≡ b
-      squeeze a b p e l h = omega arith
-
-      amid-same : (a b p : ℕ) → a ≡ b → p ≡ b → (min a b ≤ p) × (p ≤ max a b)
-      amid-same a b p e f = (omega arith, omega arith)
-
       nonzero : 0 < dist by ay
       nonzero = apart by ay (λ (e : by ≡ ay). n (sym e))
-
-      or-false : (b : Bool) → b || false ≡ b
-      or-false true = refl
-      or-false false = refl
-
-      and-true : (b c : Bool) → T c → b && c ≡ b
-      and-true true true u = refl
-      and-true true false u = absurd u
-      and-true false c u = refl
 
       no-ratio : ax ≡ bx → eq (div binary64 (diff px ax) (diff bx ax)) (div binary64 (diff py ay) (diff by ay)) ≡ false
       no-ratio e = eq-not-finite (div binary64 (diff px ax) (diff bx ax)) (div binary64 (diff py ay) (diff by ay)) (quot-none px ax bx ax (short px ax ipx iax) (short bx ax ibx iax) (zero-dist ax bx e)) (quot-finite py ay by ay (short py ay ipy iay) (short by ay iby iay) nonzero)
@@ -379,7 +367,7 @@ module _ (ax ay bx by px py : ℕ) (iax : In ax) (iay : In ay) (ibx : In bx) (ib
       go : (b : Bool) → (T b → ax ≡ bx) → (ax ≡ bx → T b) → (b && eqb px bx && amid ay by py) || eq (div binary64 (diff px ax) (diff bx ax)) (div binary64 (diff py ay) (diff by ay)) ≡ onN ax ay bx by px py
       go true f g =
           let e = f tt in
-          ap₂ _||_ (and-true (eqb px bx) (amid ay by py) t) (no-ratio e)
+          ap₂ _||_ (ap (λ (u : Bool). eqb px bx && u) (verum (amid ay by py) t) ∙ and-true (eqb px bx)) (no-ratio e)
           ∙ or-false (eqb px bx)
           ∙ bool-iff (eqb px bx) (onN ax ay bx by px py)
           (λ (h : T (eqb px bx)). let q = eqb→eq px bx h in let w = amid-same ax bx px e q in on-make (upright ax bx px e q) (amid-make ax bx px (w .0) (w .1)) t)
@@ -401,18 +389,8 @@ module _ (ax ay bx by px py : ℕ) (iax : In ax) (iay : In ay) (ibx : In bx) (ib
       (λ (h : T (eqb py by && amid ax bx px)). let q = eqb→eq py by (and-l (eqb py by) (amid ax bx px) h) in let w = amid-same ay by py e q in on-make (flat ay by py e q) (and-r (eqb py by) (amid ax bx px) h) (amid-make ay by py (w .0) (w .1)))
       (λ (h : T (onN ax ay bx by px py)). let w = amid-view ay by py (on-view h .2) in and-i (eqb py by) (amid ax bx px) (eq→eqb (squeeze ay by py e (w .0) (w .1))) (on-view h .1))
     where
-      or-false : (b : Bool) → b || false ≡ b
-      or-false true = refl
-      or-false false = refl
-
       flat : (a b p : ℕ) → a ≡ b → p ≡ b → plus ax a bx b px p ≡ less ax a bx b px p
       flat a b p e f = rw (e, f) (omega arith)
-
-      squeeze : (a b p : ℕ) → a ≡ b → min a b ≤ p → p ≤ max a b → p ≡ b
-      squeeze a b p e l h = omega arith
-
-      amid-same : (a b p : ℕ) → a ≡ b → p ≡ b → (min a b ≤ p) × (p ≤ max a b)
-      amid-same a b p e f = (omega arith, omega arith)
 
       no-ratio : eq (div binary64 (diff px ax) (diff bx ax)) (div binary64 (diff py ay) (diff by ay)) ≡ false
       no-ratio = eq-finite-not (div binary64 (diff px ax) (diff bx ax)) (div binary64 (diff py ay) (diff by ay)) (quot-finite px ax bx ax (short px ax ipx iax) (short bx ax ibx iax) (apart bx ax (λ (q : bx ≡ ax). n (sym q)))) (quot-none py ay by ay (short py ay ipy iay) (short by ay iby iay) (zero-dist ay by e))
@@ -439,14 +417,6 @@ module _ (ax ay bx by px py : ℕ) (iax : In ax) (iay : In ay) (ibx : In bx) (ib
           let p = leb→le by py (and-l (leb by py) (ltb py ay) w) in
           let q = ltb→lt py ay (and-r (leb by py) (ltb py ay) w) in
           (omega arith, omega arith)
-
-  and-false : (b : Bool) → b && false ≡ false
-  and-false true = refl
-  and-false false = refl
-
-  or-false : (b : Bool) → b || false ≡ b
-  or-false true = refl
-  or-false false = refl
 
   counts-up : ay ≤ py → countsN ax ay bx by px py ≡ ltb py by && ltb (less ax ay bx by px py) (plus ax ay bx by px py)
   unfolding countsN
@@ -596,12 +566,6 @@ module _ (ax ay bx by px py : ℕ) (iax : In ax) (iay : In ay) (ibx : In bx) (ib
       ap (λ (u : Bool). cond u On (Off false)) (ap₂ _&&_ (eq-at px ax ipx iax) (eq-at py ay ipy iay) ∙ bool-iff (eqb px ax && eqb py ay) (onN ax ay bx by px py) to fro)
       ∙ sym (ap (λ (v : Bool). cond (onN ax ay bx by px py) On (Off v)) (counts-level e))
     where
-      amid-same : (a b p : ℕ) → a ≡ b → p ≡ a → (min a b ≤ p) × (p ≤ max a b)
-      amid-same a b p e f = (omega arith, omega arith)
-
-      squeeze : (a b p : ℕ) → a ≡ b → min a b ≤ p → p ≤ max a b → p ≡ a
-      squeeze a b p e l h = omega arith
-
       spot : (a b c d x y : ℕ) → b ≡ a → d ≡ c → x ≡ a → y ≡ c → plus a c b d x y ≡ less a c b d x y
       spot a b c d x y p q r s = rw (p, q, r, s) (omega arith)
 
@@ -609,15 +573,15 @@ module _ (ax ay bx by px py : ℕ) (iax : In ax) (iay : In ay) (ibx : In bx) (ib
       to t =
           let p = eqb→eq px ax (and-l (eqb px ax) (eqb py ay) t) in
           let q = eqb→eq py ay (and-r (eqb px ax) (eqb py ay) t) in
-          let w = amid-same ax bx px f p in
-          let v = amid-same ay by py e q in
+          let w = amid-same ax bx px f (p ∙ f) in
+          let v = amid-same ay by py e (q ∙ e) in
           on-make (spot ax bx ay by px py (sym f) (sym e) p q) (amid-make ax bx px (w .0) (w .1)) (amid-make ay by py (v .0) (v .1))
 
       fro : T (onN ax ay bx by px py) → T (eqb px ax && eqb py ay)
       fro t =
           let w = amid-view ax bx px (on-view t .1) in
           let v = amid-view ay by py (on-view t .2) in
-          and-i (eqb px ax) (eqb py ay) (eq→eqb (squeeze ax bx px f (w .0) (w .1))) (eq→eqb (squeeze ay by py e (v .0) (v .1)))
+          and-i (eqb px ax) (eqb py ay) (eq→eqb (squeeze ax bx px f (w .0) (w .1) ∙ sym f)) (eq→eqb (squeeze ay by py e (v .0) (v .1) ∙ sym e))
 
   ray-level : ay ≡ by → rayAt (at ax) (at ay) (at bx) (at by) (at px) (at py) ≡ exactAt
   ray-level e =
