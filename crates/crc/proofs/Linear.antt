@@ -1,15 +1,15 @@
 -- The register's step is linear: so the bits that are to leave can be worked off apart, and a byte at a time.
 -- Assumes nothing.
 use mathlib.Core.Path.{_≡_, refl, sym, ap, ap₂, _∙_}
-use Prim.Native.Nat.{ℕ, zero, suc, _+_, _-_, _*_, _/_, _%_, _^_, _≤_, _<_}
-use native.Mathlib.Nat.{mod-lt, zero-lt-suc, not-suc-le-zero, le-of-suc-le-suc, mul-assoc, mul-mod-left, mul-div-cancel, pow-suc, div-eq-of-lt, mod-eq-of-lt}
+use Prim.Native.Nat.{ℕ, zero, suc, _+_, _*_, _/_, _%_, _^_, _≤_, _<_}
+use native.Mathlib.Nat.{mod-lt, zero-lt-suc, not-suc-le-zero, le-of-suc-le-suc, div-eq-of-lt, mod-eq-of-lt}
 use native.Mathlib.Numerals.{add-one}
 use native.Mathlib.Omega.{arith}
 use lib.Bits.{bitXor, differ, xor-shifted, xor-self, xor-zero-r, shifted-half, shifted-even, xor-shr, xor-comm}
 use lib.Pow.{split, pow-pos}
 use mathlib.Core.List.{List, [], _∷_, _++_}
 use lib.ListN.{length, getD, take, drop, take-append-drop}
-use lib.Seq.{drop-cons, drop-length, drop-drop}
+use lib.Seq.{drop-cons, drop-length, drop-drop, take-add}
 use Rattle.fields.specs.Le.{le}
 use Rattle.fields.proofs.Join.{unit}
 use Rattle.crc.specs.Crc32.{tap, step, steps, bytes}
@@ -113,14 +113,26 @@ bytes-by c n s i =
     ap (bytes c) (sym (take-append-drop n (drop i s))) ∙ bytes-append c (take n (drop i s)) (drop n (drop i s))
     ∙ ap (bytes (bytes c (take n (drop i s)))) (drop-drop n i s)
 
--- a number of n + 1 bytes, each of which leaves apart
-abbrev pub sliced : ℕ → ℕ → ℕ
-sliced zero v = steps 8 (v % 256)
-sliced (suc n) v = bitXor (steps (8 * (suc n + 1)) (v % 256)) (sliced n (v / 256))
+-- m bytes and then n more: those behind leave apart
+pub two-words : (m n c : ℕ) (s : List ℕ) (p : ℕ) → ((i : ℕ) → getD s i 0 < 256) → p + m + n ≤ length s
+    → bytes c (take (m + n) (drop p s)) ≡ bitXor (steps (8 * m + 8 * n) (bitXor c (le m s p))) (steps (8 * n) (le n s (p + m)))
+two-words m n c s p h f =
+    ap (bytes c) (take-add m n (drop p s) ∙ ap (λ (l : List ℕ). take m (drop p s) ++ take n l) (drop-drop m p s))
+    ∙ bytes-append c (take m (drop p s)) (take n (drop (p + m) s))
+    ∙ word n (bytes c (take m (drop p s))) s (p + m) h f
+    ∙ ap (λ (x : ℕ). steps (8 * n) (bitXor x (le n s (p + m)))) (word m c s p h (omega arith))
+    ∙ steps-linear (8 * n) (steps (8 * m) (bitXor c (le m s p))) (le n s (p + m))
+    ∙ ap (λ (x : ℕ). bitXor x (steps (8 * n) (le n s (p + m)))) (sym (steps-add (8 * m) (8 * n) (bitXor c (le m s p))))
 
-pub slices : (n v : ℕ) → v < unit (suc n) → steps (8 * (n + 1)) v ≡ sliced n v
-slices zero v h = ap (steps 8) (sym (mod-eq-of-lt (omega arith)))
-slices (suc n) v h =
-    let e : 8 * (suc n + 1) ≡ 8 + 8 * (n + 1) = omega arith in
-    ap (λ (k : ℕ). steps k v) e ∙ peel (8 * (n + 1)) v
-    ∙ ap₂ bitXor (ap (λ (k : ℕ). steps k (v % 256)) (sym e)) (slices n (v / 256) (omega arith))
+-- a number of n + 1 bytes with k more to come, each byte of which leaves apart
+abbrev pub sliced : ℕ → ℕ → ℕ → ℕ
+sliced k zero v = steps (8 * (k + 1)) (v % 256)
+sliced k (suc n) v = bitXor (steps (8 * (k + suc n + 1)) (v % 256)) (sliced k n (v / 256))
+
+pub slices : (k n v : ℕ) → v < unit (suc n) → steps (8 * (k + (n + 1))) v ≡ sliced k n v
+slices k zero v h = ap (steps (8 * (k + 1))) (sym (mod-eq-of-lt (omega arith)))
+slices k (suc n) v h =
+    let e : 8 * (k + (suc n + 1)) ≡ 8 + 8 * (k + (n + 1)) = omega arith in
+    let d : 8 + 8 * (k + (n + 1)) ≡ 8 * (k + suc n + 1) = omega arith in
+    ap (λ (j : ℕ). steps j v) e ∙ peel (8 * (k + (n + 1))) v
+    ∙ ap₂ bitXor (ap (λ (j : ℕ). steps j (v % 256)) d) (slices k n (v / 256) (omega arith))

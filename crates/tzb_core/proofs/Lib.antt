@@ -1,5 +1,11 @@
--- What the proofs of the functions lean on, and what follows from the definitions.
-pub mod Sums
-pub mod Equals
-pub mod Corners
-pub mod Digits
+-- What is proved of the lower crate's definitions, and what its functions' proofs share.
+pub mod Steps
+pub mod Pattern
+pub mod Sides
+pub mod Floats
+pub mod Exact
+pub mod Whole
+pub mod Order
+pub mod Loop
+pub mod Warnings
+pub mod DeterminedRay

@@ -1,3 +1,2 @@
--- What the lower crate answers: boxes, numbers.
-pub mod Box
-pub mod Varint
+-- What the lower crate's functions answer.
+pub mod Ray

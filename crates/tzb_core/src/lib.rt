@@ -1,3 +1,2 @@
-// The lower crate: boxes, the varint and the ray test. What stands above it sees only their promises.
-pub mod bbox;
-pub mod varint;
+// The lower crate: what a chunk's bytes and a segment say, for the reader above, which sees only the promises.
+pub mod raycast;

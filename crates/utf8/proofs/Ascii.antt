@@ -1,20 +1,20 @@
 -- Several bytes at once: where none has its top bit, each is a character.
 -- Assumes nothing.
-use mathlib.Core.Path.{_≡_, refl, sym, ap, ap₂, _∙_}
-use mathlib.Core.Bool.{Bool, true, false, not, _||_}
-use mathlib.Core.List.{List, [], _∷_}
+use mathlib.Core.Path.{_≡_, sym, ap, ap₂, _∙_}
+use mathlib.Core.Bool.{Bool, true, false, not, _||_, _&&_}
+use mathlib.Core.List.{List, []}
 use mathlib.Core.Option.{some}
-use Prim.Native.Nat.{ℕ, zero, suc, _+_, _*_, _^_, _≤_, _<_}
+use Prim.Native.Nat.{ℕ, zero, suc, _+_, _*_, _≤_, _<_}
 use native.Mathlib.Nat.{add-zero}
 use native.Mathlib.Omega.{arith}
 use lib.Bits.{bitAnd, and-block}
-use lib.Dec.{T, ltb, eqb, ltb→lt, eqb→eq}
-use lib.ListN.{length, getD}
-use lib.Seq.{slice}
-use borrow.Author.Tests.{eq-eqb}
+use lib.Dec.{T, leb, ltb, eqb, ltb→lt}
+use lib.ListN.{length, getD, drop}
+use borrow.Author.Tests.{eq-eqb, eqb-true, leb-true, le-leb, lt-leb}
+use Rattle.basics.specs.Truth.{and-l, and-r}
 use Rattle.fields.specs.Le.{le}
-use Rattle.utf8.specs.Rfc3629.{Range, after, alternatives, on, utf8}
-use Rattle.utf8.proofs.Between.{between, every, eqO, eqO→eq}
+use Rattle.utf8.specs.Rfc3629.{on, utf8}
+use Rattle.utf8.proofs.Between.{between, lead-by}
 use Rattle.utf8.proofs.Steps.{begin}
 
 -- the top bit of each of n bytes
@@ -35,16 +35,17 @@ passed b t e = go (eqb (bitAnd b 128) 0) (eq-eqb (bitAnd b 128) 0 e) t
 low : (b : ℕ) → b < 256 → bitAnd b 128 ≡ 0 → b < 128
 low b h e = passed b (between test 0 256 tt b (omega arith) (omega arith)) e
 
-abbrev one-test : ℕ → Bool
-one-test b = eqO (some []) (after alternatives b)
+-- eight bytes are there, or not, as the code tests it
+pub too-few : (a b : ℕ) (t : Bool) → b < a → false ≡ (leb a b && t)
+too-few a b t h = rw (lt-leb a b h)
 
-one : (b : ℕ) → b < 128 → some [] ≡ after alternatives b
-one b h = eqO→eq (some []) (after alternatives b) (between one-test 0 128 tt b (omega arith) (omega arith))
+pub enough : (a b x y m : ℕ) → a ≤ b → x ≡ y → eqb (bitAnd x m) 0 ≡ (leb a b && eqb (bitAnd y m) 0)
+enough a b x y m h e = rw (le-leb a b h, e)
 
-module _ (s : List ℕ) (bytes : (i : ℕ) → getD s i 0 < 256) (to : ℕ) (fits : to ≤ length s) where
-  pub run : (n p : ℕ) → p + n ≤ to → bitAnd (le n s p) (tops n) ≡ 0 → utf8 [] (slice p to s) ≡ utf8 [] (slice (p + n) to s)
+module _ (s : List ℕ) (bytes : (i : ℕ) → getD s i 0 < 256) where
+  run : (n p : ℕ) → p + n ≤ length s → bitAnd (le n s p) (tops n) ≡ 0 → utf8 [] (drop p s) ≡ utf8 [] (drop (p + n) s)
   unfolding le
-  run zero p h e = ap (λ (q : ℕ). utf8 [] (slice q to s)) (sym (add-zero p))
+  run zero p h e = ap (λ (q : ℕ). utf8 [] (drop q s)) (sym (add-zero p))
   run (suc n) p h e =
       let b = getD s p 0 in
       let l = le n s (p + 1) in
@@ -52,7 +53,16 @@ module _ (s : List ℕ) (bytes : (i : ℕ) → getD s i 0 < 256) (to : ℕ) (fit
       let y : 128 + 256 * tops n ≡ tops n * 256 + 128 = omega arith in
       let z : bitAnd l (tops n) * 256 + bitAnd b 128 ≡ 0 = sym (ap₂ bitAnd x y ∙ and-block 8 l (tops n) b 128 (bytes p) (omega arith)) ∙ e in
       let q : p + 1 + n ≡ p + suc n = omega arith in
-      begin s to fits p (omega arith)
-      ∙ ap (λ o. on o (λ rs. utf8 rs (slice (p + 1) to s))) (sym (one b (low b (bytes p) (omega arith))))
+      begin s p (omega arith)
+      ∙ ap (λ o. on o (λ rs. utf8 rs (drop (p + 1) s))) (lead-by (some []) 0 128 b tt (omega arith) (low b (bytes p) (omega arith)))
       ∙ run n (p + 1) (omega arith) (omega arith)
-      ∙ ap (λ (k : ℕ). utf8 [] (slice k to s)) q
+      ∙ ap (λ (k : ℕ). utf8 [] (drop k s)) q
+
+  -- past eight of them
+  pub eight : (p : ℕ) (r : Bool) → r ≡ (leb (p + 8) (length s) && eqb (bitAnd (le 8 s p) (tops 8)) 0) → r ≡ true
+      → (p + 8 ≤ length s) × (utf8 [] (drop p s) ≡ utf8 [] (drop (p + 8) s))
+  eight p r e t =
+      let w = sym e ∙ t in
+      let h = leb-true (p + 8) (length s) (and-l (leb (p + 8) (length s)) (eqb (bitAnd (le 8 s p) (tops 8)) 0) w) in
+      let z = eqb-true (bitAnd (le 8 s p) (tops 8)) 0 (and-r (leb (p + 8) (length s)) (eqb (bitAnd (le 8 s p) (tops 8)) 0) w) in
+      (h, run 8 p h z)
