@@ -4,7 +4,7 @@ use Prim.Native.Nat.{ℕ, _+_, _-_, _*_, _≤_, _<_}
 use mathlib.Core.Bool.{Bool, true, false, _&&_, not}
 use mathlib.Core.List.{List, [], _∷_}
 use lib.ListN.{length, getD, take}
-use lib.Seq.{slice}
+use Rattle.fields.specs.Part.{part}
 use Rattle.fields.specs.Le.{le}
 use Rattle.utf8.specs.Rfc3629.{utf8}
 use Rattle.crc.specs.Crc32.{crc32}
@@ -55,7 +55,7 @@ unfoldable pub versionCheck : List ℕ → Checked
 versionCheck s =
     first
     (claim 8 (same (seek (notZero s) (40 - versionEnd s) (versionEnd s)) 40)
-    ∷ claim 9 (utf8 [] (slice 24 (versionEnd s) s))
+    ∷ claim 9 (utf8 [] (part s 24 (versionEnd s)))
     ∷ [])
 
 -- Section count at 20; entries of 16 bytes from 64 end before the last four bytes (10). Those four hold the IEEE 802.3 CRC-32 of all before them (11).

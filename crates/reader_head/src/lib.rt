@@ -143,7 +143,7 @@ fn version(s: &[u8]) -> Checked
     if zeros_end(s, e, 40) != 40 {
         return answer::fail(8);
     }
-    if !utf8::utf8_ok(s, 24, e) {
+    if !utf8::utf8_ok(&s[24..e]) {
         return answer::fail(9);
     }
     Checked::Fine
@@ -167,7 +167,7 @@ fn bounds(s: &[u8]) -> Checked
 fn crc(s: &[u8]) -> usize
     ensures { λ r. ⌜ r ≡ crc32 (now (s .entry)) ⌝ }
 {
-    wide(crc::crc32_of(s))
+    wide(crc::crc32_ieee(s))
 }
 
 // 1 to 11.

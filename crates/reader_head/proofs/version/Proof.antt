@@ -29,6 +29,18 @@ returns : tie.Need-returns
 unfolding versionCheck versionEnd
 returns c = c .fail .ensures ∙ unmet _ _ _ (ne-same _ _ (λ e. c .before .if1 .taken (cc)))
 
+-- src/lib.rt:146:23
+sub-utf8-ok : tie.Need-sub-utf8-ok
+sub-utf8-ok c = search needs
+
+-- src/lib.rt:146:23
+part-utf8-ok-start : tie.Need-part-utf8-ok-start
+part-utf8-ok-start c = search needs
+
+-- src/lib.rt:146:23
+part-utf8-ok-end : tie.Need-part-utf8-ok-end
+part-utf8-ok-end c = search needs
+
 -- src/lib.rt:146:9
 utf8-ok-requires : tie.Need-utf8-ok-requires
 utf8-ok-requires c κs = search needs
@@ -55,6 +67,9 @@ version-spec =
     zeros-end-requires
     fail-requires
     returns
+    sub-utf8-ok
+    part-utf8-ok-start
+    part-utf8-ok-end
     utf8-ok-requires
     fail-requires-2
     returns-2
