@@ -1,11 +1,12 @@
 // Opening, 12 to 16: the section table.
 ghost use mathlib.Core.Path.{_≡_};
+ghost use mathlib.Core.Bool.{true};
 ghost use Prim.Native.Nat.{_+_, _-_, _*_, _≤_, _<_};
 ghost use lib.ListN.{length};
 ghost use Rattle.fields.specs.Le.{le};
 ghost use Rattle.reader_head.specs.Head.{Headed};
 ghost use Rattle.answer.specs.Checks.{seek, each};
-ghost use Rattle.reader_table.specs.Table.{sections, entryField, isType, has, repeats, banned, apart, apartAt, placedCheck, typedCheck, entryCheck, entriesCheck, sectionOf};
+ghost use Rattle.reader_table.specs.Table.{sections, entryField, isType, has, repeats, banned, apart, apartAt, placedCheck, typedCheck, entryCheck, entriesCheck, sectionOf, Covered};
 use answer::Checked;
 
 // A section's place in the file.
@@ -152,9 +153,58 @@ fn typed(s: &[u8], i: usize) -> Checked
     Checked::Fine
 }
 
+// The stretch of the file outside which no section seen so far has a byte.
+pub struct Stretch {
+    pub low: usize,
+    pub high: usize,
+}
+
+// Entry i lies outside the stretch of the earlier ones, or is empty: then none of them need be looked at.
+fn is_clear(s: &[u8], i: usize, f: Stretch) -> bool
+    requires { ⌜ Headed (now s) × (i < sections (now s)) × Covered (now s) i f ⌝ }
+    ensures { λ r. ⌜ (r ≡ true → each (apartAt (now (s .entry)) i) i 0 ≡ Checked.Fine) ⌝ }
+{
+    let off = field(s, i, 4);
+    let len = field(s, i, 8);
+    if len == 0 {
+        return true;
+    }
+    if f.high <= off {
+        return true;
+    }
+    off + len <= f.low
+}
+
+fn least(a: usize, b: usize) -> usize
+    ensures { λ r. ⌜ (r ≤ a) × (r ≤ b) ⌝ }
+{
+    if a < b { a } else { b }
+}
+
+fn greatest(a: usize, b: usize) -> usize
+    ensures { λ r. ⌜ (a ≤ r) × (b ≤ r) ⌝ }
+{
+    if a < b { b } else { a }
+}
+
+// The stretch, with entry i in it.
+fn stretched(s: &[u8], i: usize, f: Stretch) -> Stretch
+    requires { ⌜ Headed (now s) × (i < sections (now s)) × Covered (now s) i f ⌝ }
+    ensures { λ r. ⌜ Covered (now (s .entry)) (i + 1) r ⌝ }
+{
+    let off = field(s, i, 4);
+    let len = field(s, i, 8);
+    if len == 0 {
+        return f;
+    }
+    let low = least(f.low, off);
+    let high = greatest(f.high, off + len);
+    Stretch { low, high }
+}
+
 // 12 to 16 of one entry.
-fn entry(s: &[u8], i: usize) -> Checked
-    requires { ⌜ Headed (now s) × (i < sections (now s)) ⌝ }
+fn entry(s: &[u8], i: usize, f: Stretch) -> Checked
+    requires { ⌜ Headed (now s) × (i < sections (now s)) × Covered (now s) i f ⌝ }
     ensures { λ r. ⌜ r ≡ entryCheck (now (s .entry)) i ⌝ }
 {
     let a = placed(s, i);
@@ -165,6 +215,9 @@ fn entry(s: &[u8], i: usize) -> Checked
     if let Checked::Refused(k) = b {
         return Checked::Refused(k);
     }
+    if is_clear(s, i, f) {
+        return Checked::Fine;
+    }
     apart_before(s, i)
 }
 
@@ -174,12 +227,17 @@ pub fn entries(s: &[u8]) -> Checked
     ensures { λ r. ⌜ r ≡ entriesCheck (now (s .entry)) ⌝ }
 {
     let n = count(s);
+    let mut f = Stretch {
+        low: 0x1_0000_0000,
+        high: 0,
+    };
     let mut i = 0;
     while i < n {
-        let a = entry(s, i);
+        let a = entry(s, i, f);
         if let Checked::Refused(k) = a {
             return Checked::Refused(k);
         }
+        f = stretched(s, i, f);
         i += 1;
     }
     Checked::Fine

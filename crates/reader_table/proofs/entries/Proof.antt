@@ -1,9 +1,11 @@
-use Prim.Native.Nat.{_≤_, _<_, _-_}
-use mathlib.Core.Path.{_≡_, refl, sym, _∙_}
+-- `reader_table::entries` meets its contract: each entry in turn, with the stretch that the earlier ones lie in.
+-- Assumes nothing.
+use Prim.Native.Nat.{_≤_, _-_}
+use mathlib.Core.Path.{_≡_}
 use Rattle.answer.specs.Checks.{each}
 use Rattle.answer.specs.CheckLaws.{each-from, each-stop, each-fine, each-end}
 use Rattle.reader_head.specs.Head.{Headed}
-use Rattle.reader_table.specs.Table.{entryCheck, entriesCheck, sections}
+use Rattle.reader_table.specs.Table.{entryCheck, entriesCheck, sections, Covered, covered-none}
 use native.Mathlib.Omega.{arith}
 use borrow.Author.Needs.{needs}
 use Rattle.reader_table.proofs.entries.Statement.{statement}
@@ -12,31 +14,27 @@ use Rattle.reader_table.proofs.entries.Reads as reads
 use Rattle.reader_table.proofs.entries.Lts as lts
 use Rattle.reader_table.proofs.count.Reads as count-reads
 use Rattle.reader_table.proofs.entry.Reads as entry-reads
+use Rattle.reader_table.proofs.stretched.Reads as stretched-reads
 
 abbrev Inv-loop : tie.InvT-loop
-Inv-loop s n i₀ i = (i ≤ n) × (Headed s) × (n ≡ sections s) × (each (entryCheck s) (n - i) i ≡ entriesCheck s)
+Inv-loop s n f₀ i₀ f i = (i ≤ n) × Headed s × (n ≡ sections s) × (each (entryCheck s) (n - i) i ≡ entriesCheck s) × Covered s i f
 
 abbrev μ-loop : tie.MeasureT-loop
-μ-loop s n i₀ i = n - i
+μ-loop s n f₀ i₀ f i = n - i
 
--- src/lib.rt:152:9
 count-requires : tie.Need-count-requires Inv-loop μ-loop
 count-requires c κs = search needs
 
--- src/lib.rt:154:5
 loop-holds : tie.Need-loop-holds Inv-loop μ-loop
 unfolding entriesCheck
-loop-holds c = (omega arith, search needs, c .count .ensures .0, each-from _ _ _ (c .count .ensures .0))
+loop-holds c = (omega arith, search needs, c .count .ensures .0, each-from _ _ _ (c .count .ensures .0), covered-none _ _)
 
--- src/lib.rt:155:13
 entry-requires : tie.Need-entry-requires Inv-loop μ-loop
-entry-requires c κs = search needs
+entry-requires c κs = (search needs, omega arith, c .before .loop .inv .4)
 
--- src/lib.rt:156:33
 enum-known-a : tie.Need-enum-known-a Inv-loop μ-loop
 enum-known-a c = search needs
 
--- src/lib.rt:157:13
 returns : tie.Need-returns Inv-loop μ-loop
 unfolding entriesCheck
 returns c = each-stop _ _ _ _ (c .before .before .before .before .before .loop .inv .3) (omega arith) _ (cc)
@@ -44,19 +42,18 @@ returns c = each-stop _ _ _ _ (c .before .before .before .before .before .loop .
 enum-told : tie.Need-enum-told Inv-loop μ-loop
 enum-told c = search needs
 
--- src/lib.rt:159:9
+stretched-requires : tie.Need-stretched-requires Inv-loop μ-loop
+stretched-requires c κs = (search needs, omega arith, c .before .before .before .before .loop .inv .4)
+
 add-i : tie.Need-add-i Inv-loop μ-loop
 add-i c = search needs
 
--- src/lib.rt:154:5
 loop-less : tie.Need-loop-less Inv-loop μ-loop
-loop-less c = search needs
+loop-less c = omega arith
 
--- src/lib.rt:154:5
 loop-again : tie.Need-loop-again Inv-loop μ-loop
-loop-again c = (omega arith, search needs, search needs, each-fine _ _ _ _ (c .before .before .before .before .loop .inv .3) (omega arith) (cc))
+loop-again c = (omega arith, search needs, search needs, each-fine _ _ _ _ (c .before .before .before .before .before .loop .inv .3) (omega arith) (cc), c .stretched .ensures)
 
--- src/lib.rt:148:1
 returns-2 : tie.Need-returns-2 Inv-loop μ-loop
 unfolding entriesCheck
 returns-2 c = each-end _ _ _ _ (c .before .loop .inv .3) (omega arith)
@@ -73,6 +70,7 @@ entries-spec =
     enum-known-a
     returns
     enum-told
+    stretched-requires
     add-i
     loop-less
     loop-again

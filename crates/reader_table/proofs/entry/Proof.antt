@@ -1,4 +1,6 @@
-use mathlib.Core.Path.{_≡_, refl, sym, ap, _∙_}
+-- `reader_table::entry` meets its contract: the checks of an entry in their order.
+-- Assumes nothing.
+use mathlib.Core.Path.{sym, _∙_}
 use Rattle.answer.specs.CheckLaws.{met-by, unmet-by, none-left}
 use Rattle.reader_table.specs.Table.{entryCheck}
 use native.Mathlib.Omega.{arith}
@@ -8,18 +10,16 @@ use Rattle.reader_table.proofs.entry.Tie as tie
 use Rattle.reader_table.proofs.entry.Reads as reads
 use Rattle.reader_table.proofs.entry.Lts as lts
 use Rattle.reader_table.proofs.apart_before.Reads as apart-before-reads
+use Rattle.reader_table.proofs.is_clear.Reads as is-clear-reads
 use Rattle.reader_table.proofs.placed.Reads as placed-reads
 use Rattle.reader_table.proofs.typed.Reads as typed-reads
 
--- src/lib.rt:160:9
 placed-requires : tie.Need-placed-requires
 placed-requires c κs = search needs
 
--- src/lib.rt:161:29
 enum-known-a : tie.Need-enum-known-a
 enum-known-a c = search needs
 
--- src/lib.rt:162:9
 returns : tie.Need-returns
 unfolding entryCheck
 returns c = unmet-by _ _ _ (cc)
@@ -27,15 +27,12 @@ returns c = unmet-by _ _ _ (cc)
 enum-told : tie.Need-enum-told
 enum-told c = search needs
 
--- src/lib.rt:164:9
 typed-requires : tie.Need-typed-requires
 typed-requires c κs = search needs
 
--- src/lib.rt:165:29
 enum-known-b : tie.Need-enum-known-b
 enum-known-b c = search needs
 
--- src/lib.rt:166:9
 returns-2 : tie.Need-returns-2
 unfolding entryCheck
 returns-2 c = met-by _ _ _ (cc) (unmet-by _ _ _ (cc))
@@ -43,14 +40,19 @@ returns-2 c = met-by _ _ _ (cc) (unmet-by _ _ _ (cc))
 enum-told-2 : tie.Need-enum-told-2
 enum-told-2 c = search needs
 
--- src/lib.rt:168:5
+is-clear-requires : tie.Need-is-clear-requires
+is-clear-requires c κs = search needs
+
+returns-3 : tie.Need-returns-3
+unfolding entryCheck
+returns-3 c = met-by _ _ _ (cc) (met-by _ _ _ (cc) (sym (c .before .is-clear .ensures (c .if1 .taken)) ∙ none-left _))
+
 apart-before-requires : tie.Need-apart-before-requires
 apart-before-requires c κs = search needs
 
--- src/lib.rt:156:1
-returns-3 : tie.Need-returns-3
+returns-4 : tie.Need-returns-4
 unfolding entryCheck
-returns-3 c = c .apart-before .ensures ∙ met-by _ _ _ (cc) (met-by _ _ _ (cc) (none-left _))
+returns-4 c = c .apart-before .ensures ∙ met-by _ _ _ (cc) (met-by _ _ _ (cc) (none-left _))
 
 pub entry-spec : {M : Type 1} → statement M
 entry-spec =
@@ -64,5 +66,7 @@ entry-spec =
     enum-known-b
     returns-2
     enum-told-2
+    is-clear-requires
+    returns-3
     apart-before-requires
-    returns-3)
+    returns-4)
