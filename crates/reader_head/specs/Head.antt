@@ -1,7 +1,9 @@
 -- Document 01, "Opening, in this order", 1 to 11.
 -- Assumes nothing.
 use Prim.Native.Nat.{ℕ, _+_, _-_, _*_, _≤_, _<_}
-use mathlib.Core.Bool.{Bool, true, false, _&&_, not}
+use mathlib.Core.Bool.{Bool, true, false, _&&_, _||_, not, true≢false}
+use lib.Dec.{ltb, leb, eqb}
+use borrow.Author.Tests.{ltb-false, not-true}
 use mathlib.Core.List.{List, [], _∷_}
 use lib.ListN.{length, getD, take}
 use Rattle.fields.specs.Part.{part}
@@ -11,7 +13,7 @@ use Rattle.crc.specs.Crc32.{crc32}
 use Rattle.answer.specs.declared.Checked.{Checked}
 use Rattle.answer.specs.declared.Checked.the-variants.{Fine}
 use Rattle.answer.specs.CheckLaws.{fine-one, fine-rest, fine-claim, at-le}
-use mathlib.Core.Path.{_≡_}
+use mathlib.Core.Path.{_≡_, refl}
 use native.Mathlib.Omega.{arith}
 use Rattle.answer.specs.Checks.{claim, deny, first, seek, atMost, same}
 use Rattle.reader_head.specs.Magic.{startsWith, tzfb}
@@ -20,25 +22,24 @@ use Rattle.reader_head.specs.Magic.{startsWith, tzfb}
 unfoldable pub startCheck : List ℕ → Checked
 startCheck s =
     first
-    (claim 1 (atMost 68 (length s))
-    ∷ claim 1 (atMost (length s) 4_294_967_295)
+    (deny 1 (ltb (length s) 68 || ltb 4_294_967_295 (length s))
     ∷ claim 2 (startsWith s tzfb)
     ∷ claim 2 (same (getD s 4 0) 1)
     ∷ deny 3 (same (getD s 48 0) 1)
-    ∷ claim 4 (same (getD s 48 0) 0)
+    ∷ claim 4 (eqb (getD s 48 0) 0)
     ∷ [])
+
+-- from 1 to 65,535
+unfoldable pub isCount : ℕ → Bool
+isCount n = leb 1 n && leb n 65_535
 
 -- The u16 at 6 is 64, the u32 at 12 is 100,000, the u32 at 16 is the size (5). Zone count at 40, 1 to 65,535 (6). Chunk target at 44, same range (7).
 unfoldable pub fieldsCheck : List ℕ → Checked
 fieldsCheck s =
     first
-    (claim 5 (same (le 2 s 6) 64)
-    ∷ claim 5 (same (le 4 s 12) 100_000)
-    ∷ claim 5 (same (le 4 s 16) (length s))
-    ∷ claim 6 (atMost 1 (le 4 s 40))
-    ∷ claim 6 (atMost (le 4 s 40) 65_535)
-    ∷ claim 7 (atMost 1 (le 4 s 44))
-    ∷ claim 7 (atMost (le 4 s 44) 65_535)
+    (deny 5 (not (eqb (le 2 s 6) 64) || (not (eqb (le 4 s 12) 100_000) || not (eqb (le 4 s 16) (length s))))
+    ∷ claim 6 (isCount (le 4 s 40))
+    ∷ claim 7 (isCount (le 4 s 44))
     ∷ [])
 
 -- Version at 24 to 39: zero from its first zero byte on (8), UTF-8 before it (9).
@@ -69,13 +70,25 @@ boundsCheck s =
 unfoldable pub headCheck : List ℕ → Checked
 headCheck s = first (startCheck s ∷ fieldsCheck s ∷ versionCheck s ∷ boundsCheck s ∷ [])
 
--- what is known of a file whose head is fine
+-- ---- laws: what is known of a file whose head is fine
+pub size-in : (n : ℕ) → (ltb n 68 || ltb 4_294_967_295 n) ≡ false → (68 ≤ n) × (n ≤ 4_294_967_295)
+size-in n e = go (ltb n 68) (ltb 4_294_967_295 n) refl refl e
+  where
+    go : (a b : Bool) → ltb n 68 ≡ a → ltb 4_294_967_295 n ≡ b → (a || b) ≡ false → (68 ≤ n) × (n ≤ 4_294_967_295)
+    go true b x y h = absurd (true≢false h)
+    go false true x y h = absurd (true≢false h)
+    go false false x y h = (ltb-false _ _ x, ltb-false _ _ y)
+
+sized : (s : List ℕ) → deny 1 (ltb (length s) 68 || ltb 4_294_967_295 (length s)) ≡ Fine → (68 ≤ length s) × (length s ≤ 4_294_967_295)
+unfolding deny
+sized s e = size-in (length s) (not-true _ (fine-claim _ _ e))
+
 pub record Long (s : List ℕ) : Type 0 where
   pub long : 68 ≤ length s
 
 pub started : (s : List ℕ) → startCheck s ≡ Fine → Long s
 unfolding startCheck
-started s e = record { long = at-le _ _ (fine-claim _ _ (fine-one _ _ e)) }
+started s e = record { long = sized s (fine-one _ _ e) .0 }
 
 pub record Headed (s : List ℕ) : Type 0 where
   pub long : 68 ≤ length s
@@ -88,7 +101,7 @@ headed s e =
     let a = fine-one _ _ e in
     let z = fine-one _ _ (fine-rest _ _ (fine-rest _ _ (fine-rest _ _ e))) in
     record {
-      long = at-le _ _ (fine-claim _ _ (fine-one _ _ a));
-      short = at-le _ _ (fine-claim _ _ (fine-one _ _ (fine-rest _ _ a)));
+      long = sized s (fine-one _ _ a) .0;
+      short = sized s (fine-one _ _ a) .1;
       table = at-le _ _ (fine-claim _ _ (fine-one _ _ z));
     }

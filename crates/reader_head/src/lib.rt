@@ -8,7 +8,7 @@ ghost use Rattle.answer.specs.Checks.{seek};
 ghost use Rattle.fields.specs.Le.{le};
 ghost use Rattle.crc.specs.Crc32.{crc32};
 ghost use Rattle.reader_head.specs.Magic.{startsWith};
-ghost use Rattle.reader_head.specs.Head.{startCheck, fieldsCheck, versionCheck, boundsCheck, headCheck, Long, isZero, notZero};
+ghost use Rattle.reader_head.specs.Head.{startCheck, isCount, fieldsCheck, versionCheck, boundsCheck, headCheck, Long, isZero, notZero};
 use answer::Checked;
 
 pub fn wide(x: u32) -> usize
@@ -52,10 +52,7 @@ fn starts_with(s: &[u8], t: &[u8]) -> bool
 fn start(s: &[u8]) -> Checked
     ensures { λ r. ⌜ r ≡ startCheck (now (s .entry)) ⌝ }
 {
-    if s.len() < 68 {
-        return answer::fail(1);
-    }
-    if 0xffff_ffff < s.len() {
+    if (s.len() < 68) | (s.len() > 0xffff_ffff) {
         return answer::fail(1);
     }
     if !starts_with(s, b"TZFB") {
@@ -64,13 +61,18 @@ fn start(s: &[u8]) -> Checked
     if s[4] != 1 {
         return answer::fail(2);
     }
-    if s[48] == 1 {
+    let profile = s[48];
+    if profile == 1 {
         return answer::fail(3);
     }
-    if s[48] != 0 {
-        return answer::fail(4);
-    }
-    Checked::Fine
+    answer::claim(4, profile == 0)
+}
+
+// From 1 to 65,535.
+fn is_count(n: usize) -> bool
+    ensures { λ r. ⌜ r ≡ isCount n ⌝ }
+{
+    (1 <= n) & (n <= 65_535)
 }
 
 // 5 to 7: header fields, zone count, chunk target.
@@ -78,30 +80,14 @@ fn fields(s: &[u8]) -> Checked
     requires { ⌜ Long (now s) ⌝ }
     ensures { λ r. ⌜ r ≡ fieldsCheck (now (s .entry)) ⌝ }
 {
-    if half(s, 6) != 64 {
+    let size = s.len();
+    if (half(s, 6) != 64) | ((word(s, 12) != 100_000) | (word(s, 16) != size)) {
         return answer::fail(5);
     }
-    if word(s, 12) != 100_000 {
-        return answer::fail(5);
-    }
-    if word(s, 16) != s.len() {
-        return answer::fail(5);
-    }
-    let zones = word(s, 40);
-    if zones < 1 {
+    if !is_count(word(s, 40)) {
         return answer::fail(6);
     }
-    if 65_535 < zones {
-        return answer::fail(6);
-    }
-    let target = word(s, 44);
-    if target < 1 {
-        return answer::fail(7);
-    }
-    if 65_535 < target {
-        return answer::fail(7);
-    }
-    Checked::Fine
+    answer::claim(7, is_count(word(s, 44)))
 }
 
 // The first of the places from `from` on, and before `to`, at which a zero stands.

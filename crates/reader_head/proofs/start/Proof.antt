@@ -1,93 +1,69 @@
-use mathlib.Core.Path.{_∙_}
-use Rattle.answer.specs.CheckLaws.{checks}
-use Rattle.reader_head.specs.Head.{startCheck}
+-- `reader_head::start` meets its contract: each return is one check of the list.
+-- Assumes nothing.
 use native.Mathlib.Omega.{arith}
+use mathlib.Core.Path.{_∙_}
+use lib.ListN.{length}
 use borrow.Author.Needs.{needs}
+use Rattle.answer.specs.CheckLaws.{met, unmet, clear, barred, none-left, eq-same, ne-same, told-yes, told-no}
+use Rattle.reader_head.specs.Head.{startCheck, size-in}
 use Rattle.reader_head.proofs.start.Statement.{statement}
 use Rattle.reader_head.proofs.start.Tie as tie
-use Rattle.reader_head.proofs.start.Reads as reads
-use Rattle.reader_head.proofs.start.Lts as lts
-use Rattle.answer.proofs.fail.Reads as fail-reads
-use Rattle.reader_head.proofs.starts_with.Reads as starts-with-reads
 
--- src/lib.rt:39:9
 fail-requires : tie.Need-fail-requires
 fail-requires c κs = search needs
 
--- src/lib.rt:39:9
 returns : tie.Need-returns
 unfolding startCheck
-returns c = c .fail .ensures ∙ search checks depth 20
+returns c = c .fail .ensures ∙ barred _ _ _ (c .before .if1 .taken)
 
--- src/lib.rt:42:9
-fail-requires-2 : tie.Need-fail-requires-2
-fail-requires-2 c κs = search needs
-
--- src/lib.rt:42:9
-returns-2 : tie.Need-returns-2
-unfolding startCheck
-returns-2 c = c .fail2 .ensures ∙ search checks depth 20
-
--- src/lib.rt:44:24
 slice-aggregate-starts-with : tie.Need-slice-aggregate-starts-with
 slice-aggregate-starts-with c = search needs
 
--- src/lib.rt:44:9
 starts-with-requires : tie.Need-starts-with-requires
 starts-with-requires c κs = search needs
 
--- src/lib.rt:45:9
+fail-requires-2 : tie.Need-fail-requires-2
+fail-requires-2 c κs = search needs
+
+returns-2 : tie.Need-returns-2
+unfolding startCheck
+returns-2 c =
+    c .fail2 .ensures ∙ clear _ _ _ _ (c .before .before .before .before .if1 .left) (unmet _ _ _ (told-no _ _ (c .before .before .starts-with .ensures) (c .before .if2 .taken)))
+
+shared-slice-read-if3 : tie.Need-shared-slice-read-if3
+shared-slice-read-if3 c = omega (arith, size-in (length (c .before .before .before .before .before .before .args .s .now)) (c .before .before .before .before .if1 .left) .0)
+
 fail-requires-3 : tie.Need-fail-requires-3
 fail-requires-3 c κs = search needs
 
--- src/lib.rt:45:9
 returns-3 : tie.Need-returns-3
 unfolding startCheck
-returns-3 c = c .fail3 .ensures ∙ search checks depth 20
+returns-3 c =
+    c .fail3 .ensures
+    ∙ clear _ _ _ _ (c .before .before .before .before .before .before .if1 .left) (met _ _ _ _ (told-yes _ _ (c .before .before .before .before .starts-with .ensures) (c .before .before .before .if2 .left)) (unmet _ _ _ (ne-same _ _ (c .before .if3 .taken))))
 
--- src/lib.rt:47:8
-shared-slice-read-if4 : tie.Need-shared-slice-read-if4
-shared-slice-read-if4 c = search needs
+shared-slice-read-profile : tie.Need-shared-slice-read-profile
+shared-slice-read-profile c = omega (arith, size-in (length (c .before .before .before .before .before .before .before .before .args .s .now)) (c .before .before .before .before .before .before .if1 .left) .0)
 
--- src/lib.rt:48:9
 fail-requires-4 : tie.Need-fail-requires-4
 fail-requires-4 c κs = search needs
 
--- src/lib.rt:48:9
 returns-4 : tie.Need-returns-4
 unfolding startCheck
-returns-4 c = c .fail4 .ensures ∙ search checks depth 20
+returns-4 c =
+    c .fail4 .ensures
+    ∙ clear _ _ _ _ (c .before .before .before .before .before .before .before .before .if1 .left) (met _ _ _ _ (told-yes _ _ (c .before .before .before .before .before .before .starts-with .ensures) (c .before .before .before .before .before .if2 .left))
+    (met _ _ _ _ (eq-same _ _ (c .before .before .before .if3 .left)) (barred _ _ _ (eq-same _ _ (c .before .if4 .taken)))))
 
--- src/lib.rt:50:8
-shared-slice-read-if5 : tie.Need-shared-slice-read-if5
-shared-slice-read-if5 c = search needs
+claim-requires : tie.Need-claim-requires
+claim-requires c κs = search needs
 
--- src/lib.rt:51:9
-fail-requires-5 : tie.Need-fail-requires-5
-fail-requires-5 c κs = search needs
-
--- src/lib.rt:51:9
 returns-5 : tie.Need-returns-5
 unfolding startCheck
-returns-5 c = c .fail5 .ensures ∙ search checks depth 20
-
--- src/lib.rt:53:8
-shared-slice-read-if6 : tie.Need-shared-slice-read-if6
-shared-slice-read-if6 c = search needs
-
--- src/lib.rt:54:9
-fail-requires-6 : tie.Need-fail-requires-6
-fail-requires-6 c κs = search needs
-
--- src/lib.rt:54:9
-returns-6 : tie.Need-returns-6
-unfolding startCheck
-returns-6 c = c .fail6 .ensures ∙ search checks depth 20
-
--- src/lib.rt:35:1
-returns-7 : tie.Need-returns-7
-unfolding startCheck
-returns-7 c = search checks depth 20
+returns-5 c =
+    c .claim .ensures
+    ∙ clear _ _ _ _ (c .before .before .before .before .before .before .before .before .if1 .left) (met _ _ _ _ (told-yes _ _ (c .before .before .before .before .before .before .starts-with .ensures) (c .before .before .before .before .before .if2 .left))
+    (met _ _ _ _ (eq-same _ _ (c .before .before .before .if3 .left)) (clear _ _ _ _ (ne-same _ _ (c .before .if4 .left)) (none-left _))))
 
 pub start-spec : {M : Type 1} → statement M
 start-spec =
@@ -95,19 +71,15 @@ start-spec =
     (tie.spec
     fail-requires
     returns
-    fail-requires-2
-    returns-2
     slice-aggregate-starts-with
     starts-with-requires
+    fail-requires-2
+    returns-2
+    shared-slice-read-if3
     fail-requires-3
     returns-3
-    shared-slice-read-if4
+    shared-slice-read-profile
     fail-requires-4
     returns-4
-    shared-slice-read-if5
-    fail-requires-5
-    returns-5
-    shared-slice-read-if6
-    fail-requires-6
-    returns-6
-    returns-7)
+    claim-requires
+    returns-5)

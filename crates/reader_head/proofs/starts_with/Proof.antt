@@ -1,3 +1,5 @@
+-- `reader_head::starts_with` meets its contract.
+-- Assumes nothing.
 use Prim.Native.Nat.{_≤_, _-_}
 use mathlib.Core.Path.{_≡_, sym, _∙_}
 use borrow.Author.Needs.{needs}
@@ -6,8 +8,6 @@ use lib.ListN.{length}
 use Rattle.reader_head.specs.Magic.{sameFrom, start-short, start-long, from-start, from-end, from-yes, from-no}
 use Rattle.reader_head.proofs.starts_with.Statement.{statement}
 use Rattle.reader_head.proofs.starts_with.Tie as tie
-use Rattle.reader_head.proofs.starts_with.Reads as reads
-use Rattle.reader_head.proofs.starts_with.Lts as lts
 
 abbrev Inv-loop : tie.InvT-loop
 Inv-loop s t i₀ i = (i ≤ length t) × (length t ≤ length s) × (sameFrom (length t - i) s t i ≡ sameFrom (length t) s t 0)
@@ -15,41 +15,32 @@ Inv-loop s t i₀ i = (i ≤ length t) × (length t ≤ length s) × (sameFrom (
 abbrev μ-loop : tie.MeasureT-loop
 μ-loop s t i₀ i = length t - i
 
--- src/lib.rt:9:9
 returns : tie.Need-returns Inv-loop μ-loop
 returns c = start-short _ _ (omega arith)
 
--- src/lib.rt:12:5
 loop-holds : tie.Need-loop-holds Inv-loop μ-loop
 loop-holds c = (omega arith, omega arith, from-start _ _ _)
 
--- src/lib.rt:13:12
 shared-slice-read-if2 : tie.Need-shared-slice-read-if2 Inv-loop μ-loop
 shared-slice-read-if2 c = search needs
 
--- src/lib.rt:13:20
 shared-slice-read-if2-2 : tie.Need-shared-slice-read-if2-2 Inv-loop μ-loop
 shared-slice-read-if2-2 c = search needs
 
--- src/lib.rt:14:13
 returns-2 : tie.Need-returns-2 Inv-loop μ-loop
 returns-2 c =
     sym (from-no _ _ _ _ (omega arith) (c .if2 .taken)) ∙ c .before .before .before .before .loop .inv .2 ∙ start-long _ _ (omega arith)
 
--- src/lib.rt:16:9
 add-i : tie.Need-add-i Inv-loop μ-loop
 add-i c = search needs
 
--- src/lib.rt:12:5
 loop-less : tie.Need-loop-less Inv-loop μ-loop
 loop-less c = search needs
 
--- src/lib.rt:12:5
 loop-again : tie.Need-loop-again Inv-loop μ-loop
 loop-again c =
     (omega arith, omega arith, sym (from-yes _ _ _ _ (omega arith) (c .if2 .left)) ∙ c .before .before .before .before .loop .inv .2)
 
--- src/lib.rt:5:1
 returns-3 : tie.Need-returns-3 Inv-loop μ-loop
 returns-3 c = sym (from-end _ _ _ _ (omega arith)) ∙ c .before .loop .inv .2 ∙ start-long _ _ (omega arith)
 

@@ -1,3 +1,5 @@
+-- `reader_opened::grid_of` meets its contract.
+-- Assumes nothing.
 use mathlib.Core.Path.{_∙_}
 use mir.Syntax.{w16}
 use mir.ValLaws.{toZ-ofZ}
@@ -7,58 +9,40 @@ use native.Mathlib.Omega.{arith}
 use borrow.Author.Needs.{needs}
 use Rattle.reader_opened.proofs.grid_of.Statement.{statement}
 use Rattle.reader_opened.proofs.grid_of.Tie as tie
-use Rattle.reader_opened.proofs.grid_of.Reads as reads
-use Rattle.reader_opened.proofs.grid_of.Lts as lts
-use Rattle.fields.proofs.i16_at.Reads as i16-at-reads
-use Rattle.fields.proofs.u16_at.Reads as u16-at-reads
-use Rattle.fields.proofs.u32_at.Reads as u32-at-reads
-use Rattle.reader_head.proofs.wide.Reads as wide-reads
 
--- src/lib.rt:173:9
 returns : tie.Need-returns
 returns c = grid-none _ _ (c .if1 .taken)
 
--- src/lib.rt:182:9
 wide-requires : tie.Need-wide-requires
 wide-requires c κs = search needs
 
--- src/lib.rt:185:14
 i16-at-requires : tie.Need-i16-at-requires
 i16-at-requires c κs = search needs
 
--- src/lib.rt:186:32
 add-i16-at : tie.Need-add-i16-at
 add-i16-at c = search needs
 
--- src/lib.rt:186:14
 i16-at-requires-2 : tie.Need-i16-at-requires-2
 i16-at-requires-2 c κs = search needs
 
--- src/lib.rt:187:33
 add-u16-at : tie.Need-add-u16-at
 add-u16-at c = search needs
 
--- src/lib.rt:187:15
 u16-at-requires : tie.Need-u16-at-requires
 u16-at-requires c κs = search needs
 
--- src/lib.rt:188:33
 add-u16-at-2 : tie.Need-add-u16-at-2
 add-u16-at-2 c = search needs
 
--- src/lib.rt:188:15
 u16-at-requires-2 : tie.Need-u16-at-requires-2
 u16-at-requires-2 c κs = search needs
 
--- src/lib.rt:189:34
 add-u32-at : tie.Need-add-u32-at
 add-u32-at c = search needs
 
--- src/lib.rt:189:16
 u32-at-requires : tie.Need-u32-at-requires
 u32-at-requires c κs = search needs
 
--- src/lib.rt:168:1
 returns-2 : tie.Need-returns-2
 returns-2 c =
     let x = c .before .before .before .before .i16-at in

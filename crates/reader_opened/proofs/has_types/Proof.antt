@@ -1,16 +1,15 @@
-use Prim.Native.Nat.{_≤_, _<_, _-_}
-use mathlib.Core.Path.{_≡_, refl, sym, _∙_}
+-- `reader_opened::has_types` meets its contract.
+-- Assumes nothing.
+use Prim.Native.Nat.{_≤_, _-_}
+use mathlib.Core.Path.{_≡_, refl}
 use Rattle.answer.specs.Checks.{each}
-use Rattle.answer.specs.CheckLaws.{each-start, each-stop, each-fine, each-end}
+use Rattle.answer.specs.CheckLaws.{each-stop, each-fine, each-end}
 use Rattle.reader_head.specs.Head.{Headed}
 use Rattle.reader_opened.specs.Opened.{presentAt}
 use native.Mathlib.Omega.{arith}
 use borrow.Author.Needs.{needs}
 use Rattle.reader_opened.proofs.has_types.Statement.{statement}
 use Rattle.reader_opened.proofs.has_types.Tie as tie
-use Rattle.reader_opened.proofs.has_types.Reads as reads
-use Rattle.reader_opened.proofs.has_types.Lts as lts
-use Rattle.reader_opened.proofs.has_type.Reads as has-type-reads
 
 abbrev Inv-loop : tie.InvT-loop
 Inv-loop s t₀ t = (t ≤ 8) × (Headed s) × (each (presentAt s) (8 - t) t ≡ each (presentAt s) 7 1)
@@ -18,38 +17,30 @@ Inv-loop s t₀ t = (t ≤ 8) × (Headed s) × (each (presentAt s) (8 - t) t ≡
 abbrev μ-loop : tie.MeasureT-loop
 μ-loop s t₀ t = 8 - t
 
--- src/lib.rt:52:5
 loop-holds : tie.Need-loop-holds Inv-loop μ-loop
 loop-holds c = (omega arith, search needs, refl)
 
--- src/lib.rt:53:13
 has-type-requires : tie.Need-has-type-requires Inv-loop μ-loop
 has-type-requires c κs = search needs
 
--- src/lib.rt:54:33
 enum-known-a : tie.Need-enum-known-a Inv-loop μ-loop
 enum-known-a c = search needs
 
--- src/lib.rt:55:13
 returns : tie.Need-returns Inv-loop μ-loop
 returns c = each-stop _ _ _ _ (c .before .before .before .before .before .loop .inv .2) (omega arith) _ (cc)
 
 enum-told : tie.Need-enum-told Inv-loop μ-loop
 enum-told c = search needs
 
--- src/lib.rt:57:9
 add-t : tie.Need-add-t Inv-loop μ-loop
 add-t c = search needs
 
--- src/lib.rt:52:5
 loop-less : tie.Need-loop-less Inv-loop μ-loop
 loop-less c = search needs
 
--- src/lib.rt:52:5
 loop-again : tie.Need-loop-again Inv-loop μ-loop
 loop-again c = (omega arith, search needs, each-fine _ _ _ _ (c .before .before .before .before .loop .inv .2) (omega arith) (cc))
 
--- src/lib.rt:47:1
 returns-2 : tie.Need-returns-2 Inv-loop μ-loop
 returns-2 c = each-end _ _ _ _ (c .before .loop .inv .2) (omega arith)
 

@@ -1,60 +1,48 @@
-use mathlib.Core.Path.{_≡_, refl, sym, ap, _∙_}
+-- `reader_opened::lengths` meets its contract.
+-- Assumes nothing.
+use mathlib.Core.Path.{_∙_}
 use Rattle.answer.specs.CheckLaws.{met, unmet, end, eq-same, ne-same}
 use Rattle.reader_opened.specs.Opened.{lengthsCheck}
 use native.Mathlib.Omega.{arith}
 use borrow.Author.Needs.{needs}
 use Rattle.reader_opened.proofs.lengths.Statement.{statement}
 use Rattle.reader_opened.proofs.lengths.Tie as tie
-use Rattle.reader_opened.proofs.lengths.Reads as reads
-use Rattle.reader_opened.proofs.lengths.Lts as lts
-use Rattle.answer.proofs.fail.Reads as fail-reads
 
--- src/lib.rt:107:9
 fail-requires : tie.Need-fail-requires
 fail-requires c κs = search needs
 
--- src/lib.rt:107:9
 returns : tie.Need-returns
 unfolding lengthsCheck
 returns c = c .fail .ensures ∙ unmet _ _ _ (ne-same _ _ (λ e. absurd (omega arith)))
 
--- src/lib.rt:110:9
 fail-requires-2 : tie.Need-fail-requires-2
 fail-requires-2 c κs = search needs
 
--- src/lib.rt:110:9
 returns-2 : tie.Need-returns-2
 unfolding lengthsCheck
 returns-2 c = c .fail2 .ensures ∙ met _ _ _ _ (eq-same _ _ (omega arith)) (unmet _ _ _ (ne-same _ _ (λ e. absurd (omega arith))))
 
--- src/lib.rt:113:9
 fail-requires-3 : tie.Need-fail-requires-3
 fail-requires-3 c κs = search needs
 
--- src/lib.rt:113:9
 returns-3 : tie.Need-returns-3
 unfolding lengthsCheck
 returns-3 c = c .fail3 .ensures ∙ met _ _ _ _ (eq-same _ _ (omega arith)) (met _ _ _ _ (eq-same _ _ (omega arith)) (unmet _ _ _ (ne-same _ _ (λ e. absurd (omega arith)))))
 
--- src/lib.rt:116:9
 fail-requires-4 : tie.Need-fail-requires-4
 fail-requires-4 c κs = search needs
 
--- src/lib.rt:116:9
 returns-4 : tie.Need-returns-4
 unfolding lengthsCheck
 returns-4 c = c .fail4 .ensures ∙ met _ _ _ _ (eq-same _ _ (omega arith)) (met _ _ _ _ (eq-same _ _ (omega arith)) (met _ _ _ _ (eq-same _ _ (omega arith)) (unmet _ _ _ (ne-same _ _ (λ e. absurd (omega arith))))))
 
--- src/lib.rt:119:9
 fail-requires-5 : tie.Need-fail-requires-5
 fail-requires-5 c κs = search needs
 
--- src/lib.rt:119:9
 returns-5 : tie.Need-returns-5
 unfolding lengthsCheck
 returns-5 c = c .fail5 .ensures ∙ met _ _ _ _ (eq-same _ _ (omega arith)) (met _ _ _ _ (eq-same _ _ (omega arith)) (met _ _ _ _ (eq-same _ _ (omega arith)) (met _ _ _ _ (eq-same _ _ (omega arith)) (unmet _ _ _ (ne-same _ _ (λ e. absurd (omega arith)))))))
 
--- src/lib.rt:103:1
 returns-6 : tie.Need-returns-6
 unfolding lengthsCheck
 returns-6 c = met _ _ _ _ (eq-same _ _ (omega arith)) (met _ _ _ _ (eq-same _ _ (omega arith)) (met _ _ _ _ (eq-same _ _ (omega arith)) (met _ _ _ _ (eq-same _ _ (omega arith)) (met _ _ _ _ (eq-same _ _ (omega arith)) (end)))))

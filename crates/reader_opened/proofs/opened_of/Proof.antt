@@ -1,33 +1,25 @@
+-- `reader_opened::opened_of` meets its contract.
+-- Assumes nothing.
 use Rattle.reader_opened.specs.Opened.{opened-is}
-use native.Mathlib.Omega.{arith}
 use borrow.Author.Needs.{needs}
 use Rattle.reader_opened.proofs.opened_of.Statement.{statement}
 use Rattle.reader_opened.proofs.opened_of.Tie as tie
-use Rattle.reader_opened.proofs.opened_of.Reads as reads
-use Rattle.reader_opened.proofs.opened_of.Lts as lts
-use Rattle.reader_opened.proofs.records_of.Reads as records-of-reads
 
--- src/lib.rt:243:9
 records-of-requires : tie.Need-records-of-requires
 records-of-requires c κs = search needs
 
--- src/lib.rt:244:9
 records-of-requires-2 : tie.Need-records-of-requires-2
 records-of-requires-2 c κs = search needs
 
--- src/lib.rt:245:9
 records-of-requires-3 : tie.Need-records-of-requires-3
 records-of-requires-3 c κs = search needs
 
--- src/lib.rt:246:9
 records-of-requires-4 : tie.Need-records-of-requires-4
 records-of-requires-4 c κs = search needs
 
--- src/lib.rt:247:9
 records-of-requires-5 : tie.Need-records-of-requires-5
 records-of-requires-5 c κs = search needs
 
--- src/lib.rt:234:1
 returns : tie.Need-returns
 returns c =
     let d = c .before in

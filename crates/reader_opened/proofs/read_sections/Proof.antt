@@ -1,58 +1,43 @@
+-- `reader_opened::read_sections` meets its contract.
+-- Assumes nothing.
 use Rattle.reader_opened.specs.Opened.{sections-are}
-use native.Mathlib.Omega.{arith}
 use borrow.Author.Needs.{needs}
 use Rattle.reader_opened.proofs.read_sections.Statement.{statement}
 use Rattle.reader_opened.proofs.read_sections.Tie as tie
-use Rattle.reader_opened.proofs.read_sections.Reads as reads
-use Rattle.reader_opened.proofs.read_sections.Lts as lts
-use Rattle.fields.proofs.u32_at.Reads as u32-at-reads
-use Rattle.reader_table.proofs.section_of.Reads as section-of-reads
 
--- src/lib.rt:197:9
 u32-at-requires : tie.Need-u32-at-requires
 u32-at-requires c κs = search needs
 
--- src/lib.rt:198:9
 u32-at-requires-2 : tie.Need-u32-at-requires-2
 u32-at-requires-2 c κs = search needs
 
--- src/lib.rt:199:9
 section-of-requires : tie.Need-section-of-requires
 section-of-requires c κs = search needs
 
--- src/lib.rt:200:9
 section-of-requires-2 : tie.Need-section-of-requires-2
 section-of-requires-2 c κs = search needs
 
--- src/lib.rt:201:9
 section-of-requires-3 : tie.Need-section-of-requires-3
 section-of-requires-3 c κs = search needs
 
--- src/lib.rt:202:9
 section-of-requires-4 : tie.Need-section-of-requires-4
 section-of-requires-4 c κs = search needs
 
--- src/lib.rt:203:9
 section-of-requires-5 : tie.Need-section-of-requires-5
 section-of-requires-5 c κs = search needs
 
--- src/lib.rt:204:9
 section-of-requires-6 : tie.Need-section-of-requires-6
 section-of-requires-6 c κs = search needs
 
--- src/lib.rt:205:9
 section-of-requires-7 : tie.Need-section-of-requires-7
 section-of-requires-7 c κs = search needs
 
--- src/lib.rt:206:9
 section-of-requires-8 : tie.Need-section-of-requires-8
 section-of-requires-8 c κs = search needs
 
--- src/lib.rt:207:9
 section-of-requires-9 : tie.Need-section-of-requires-9
 section-of-requires-9 c κs = c .before .before .before .before .before .before .before .before .before .before .before .pre .head
 
--- src/lib.rt:193:1
 returns : tie.Need-returns
 returns c =
     sections-are _ _ _ _ _ _ _ _ _ _ _ _

@@ -1,17 +1,14 @@
+-- `reader_opened::records_of` meets its contract.
+-- Assumes nothing.
 use mathlib.Core.Path.{refl}
 use Rattle.reader_opened.specs.Opened.{directoryOf}
-use native.Mathlib.Omega.{arith}
 use borrow.Author.Needs.{needs}
 use Rattle.reader_opened.proofs.records_of.Statement.{statement}
 use Rattle.reader_opened.proofs.records_of.Tie as tie
-use Rattle.reader_opened.proofs.records_of.Reads as reads
-use Rattle.reader_opened.proofs.records_of.Lts as lts
 
--- src/lib.rt:230:16
 div-t3 : tie.Need-div-t3
 div-t3 c = search needs
 
--- src/lib.rt:224:1
 returns : tie.Need-returns
 unfolding directoryOf
 returns c = refl

@@ -1,37 +1,29 @@
-use mathlib.Core.Path.{_≡_, refl, sym, ap, _∙_}
+-- `reader_opened::zone_length` meets its contract.
+-- Assumes nothing.
+use mathlib.Core.Path.{_∙_}
 use Rattle.answer.specs.CheckLaws.{met, unmet, end, eq-same, ne-same}
 use Rattle.reader_opened.specs.Opened.{zonesCheck}
 use native.Mathlib.Omega.{arith}
 use borrow.Author.Needs.{needs}
 use Rattle.reader_opened.proofs.zone_length.Statement.{statement}
 use Rattle.reader_opened.proofs.zone_length.Tie as tie
-use Rattle.reader_opened.proofs.zone_length.Reads as reads
-use Rattle.reader_opened.proofs.zone_length.Lts as lts
-use Rattle.answer.proofs.fail.Reads as fail-reads
-use Rattle.reader_head.proofs.wide.Reads as wide-reads
 
--- src/lib.rt:97:8
 wide-requires : tie.Need-wide-requires
 wide-requires c κs = search needs
 
--- src/lib.rt:97:40
 wide-requires-2 : tie.Need-wide-requires-2
 wide-requires-2 c κs = search needs
 
--- src/lib.rt:97:35
 mul-if1 : tie.Need-mul-if1
 mul-if1 c = search needs
 
--- src/lib.rt:98:9
 fail-requires : tie.Need-fail-requires
 fail-requires c κs = search needs
 
--- src/lib.rt:98:9
 returns : tie.Need-returns
 unfolding zonesCheck
 returns c = c .fail .ensures ∙ unmet _ _ _ (ne-same _ _ (λ e. absurd (omega arith)))
 
--- src/lib.rt:94:1
 returns-2 : tie.Need-returns-2
 unfolding zonesCheck
 returns-2 c = met _ _ _ _ (eq-same _ _ (omega arith)) (end)

@@ -1,5 +1,7 @@
+-- `reader_table::apart_before` meets its contract.
+-- Assumes nothing.
 use Prim.Native.Nat.{_≤_, _<_, _-_}
-use mathlib.Core.Path.{_≡_, refl, sym, _∙_}
+use mathlib.Core.Path.{_≡_}
 use Rattle.answer.specs.Checks.{each}
 use Rattle.answer.specs.CheckLaws.{each-start, each-stop, each-fine, each-end}
 use Rattle.reader_head.specs.Head.{Headed}
@@ -8,9 +10,6 @@ use native.Mathlib.Omega.{arith}
 use borrow.Author.Needs.{needs}
 use Rattle.reader_table.proofs.apart_before.Statement.{statement}
 use Rattle.reader_table.proofs.apart_before.Tie as tie
-use Rattle.reader_table.proofs.apart_before.Reads as reads
-use Rattle.reader_table.proofs.apart_before.Lts as lts
-use Rattle.reader_table.proofs.apart_at.Reads as apart-at-reads
 
 abbrev Inv-loop : tie.InvT-loop
 Inv-loop s i j₀ j = (j ≤ i) × (Headed s) × (i < sections s) × (each (apartAt s i) (i - j) j ≡ each (apartAt s i) i 0)
@@ -18,38 +17,30 @@ Inv-loop s i j₀ j = (j ≤ i) × (Headed s) × (i < sections s) × (each (apar
 abbrev μ-loop : tie.MeasureT-loop
 μ-loop s i j₀ j = i - j
 
--- src/lib.rt:111:5
 loop-holds : tie.Need-loop-holds Inv-loop μ-loop
 loop-holds c = (omega arith, search needs, search needs, each-start _ _)
 
--- src/lib.rt:112:13
 apart-at-requires : tie.Need-apart-at-requires Inv-loop μ-loop
 apart-at-requires c κs = search needs
 
--- src/lib.rt:113:33
 enum-known-a : tie.Need-enum-known-a Inv-loop μ-loop
 enum-known-a c = search needs
 
--- src/lib.rt:114:13
 returns : tie.Need-returns Inv-loop μ-loop
 returns c = each-stop _ _ _ _ (c .before .before .before .before .before .loop .inv .3) (omega arith) _ (cc)
 
 enum-told : tie.Need-enum-told Inv-loop μ-loop
 enum-told c = search needs
 
--- src/lib.rt:116:9
 add-j : tie.Need-add-j Inv-loop μ-loop
 add-j c = search needs
 
--- src/lib.rt:111:5
 loop-less : tie.Need-loop-less Inv-loop μ-loop
 loop-less c = search needs
 
--- src/lib.rt:111:5
 loop-again : tie.Need-loop-again Inv-loop μ-loop
 loop-again c = (omega arith, search needs, search needs, each-fine _ _ _ _ (c .before .before .before .before .loop .inv .3) (omega arith) (cc))
 
--- src/lib.rt:106:1
 returns-2 : tie.Need-returns-2 Inv-loop μ-loop
 returns-2 c = each-end _ _ _ _ (c .before .loop .inv .3) (omega arith)
 

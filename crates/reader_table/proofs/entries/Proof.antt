@@ -10,11 +10,6 @@ use native.Mathlib.Omega.{arith}
 use borrow.Author.Needs.{needs}
 use Rattle.reader_table.proofs.entries.Statement.{statement}
 use Rattle.reader_table.proofs.entries.Tie as tie
-use Rattle.reader_table.proofs.entries.Reads as reads
-use Rattle.reader_table.proofs.entries.Lts as lts
-use Rattle.reader_table.proofs.count.Reads as count-reads
-use Rattle.reader_table.proofs.entry.Reads as entry-reads
-use Rattle.reader_table.proofs.stretched.Reads as stretched-reads
 
 abbrev Inv-loop : tie.InvT-loop
 Inv-loop s n f₀ i₀ f i = (i ≤ n) × Headed s × (n ≡ sections s) × (each (entryCheck s) (n - i) i ≡ entriesCheck s) × Covered s i f

@@ -3,16 +3,9 @@
 use mathlib.Core.Path.{sym, _∙_}
 use Rattle.answer.specs.CheckLaws.{met-by, unmet-by, none-left}
 use Rattle.reader_table.specs.Table.{entryCheck}
-use native.Mathlib.Omega.{arith}
 use borrow.Author.Needs.{needs}
 use Rattle.reader_table.proofs.entry.Statement.{statement}
 use Rattle.reader_table.proofs.entry.Tie as tie
-use Rattle.reader_table.proofs.entry.Reads as reads
-use Rattle.reader_table.proofs.entry.Lts as lts
-use Rattle.reader_table.proofs.apart_before.Reads as apart-before-reads
-use Rattle.reader_table.proofs.is_clear.Reads as is-clear-reads
-use Rattle.reader_table.proofs.placed.Reads as placed-reads
-use Rattle.reader_table.proofs.typed.Reads as typed-reads
 
 placed-requires : tie.Need-placed-requires
 placed-requires c κs = search needs

@@ -1,5 +1,7 @@
+-- `reader_table::find` meets its contract.
+-- Assumes nothing.
 use Prim.Native.Nat.{_≤_, _-_}
-use mathlib.Core.Path.{_≡_, refl, sym, _∙_}
+use mathlib.Core.Path.{_≡_}
 use Rattle.reader_head.specs.Head.{Headed}
 use Rattle.answer.specs.Checks.{seek}
 use Rattle.answer.specs.CheckLaws.{seek-start, seek-yes, seek-no, seek-end, told-eq, told-ne}
@@ -8,9 +10,6 @@ use native.Mathlib.Omega.{arith}
 use borrow.Author.Needs.{needs}
 use Rattle.reader_table.proofs.find.Statement.{statement}
 use Rattle.reader_table.proofs.find.Tie as tie
-use Rattle.reader_table.proofs.find.Reads as reads
-use Rattle.reader_table.proofs.find.Lts as lts
-use Rattle.reader_table.proofs.field.Reads as field-reads
 
 abbrev Inv-loop : tie.InvT-loop
 Inv-loop s t n i₀ i = (i ≤ n) × Headed s × (n ≤ sections s) × (seek (isType s t) (n - i) i ≡ seek (isType s t) n 0)
@@ -18,33 +17,26 @@ Inv-loop s t n i₀ i = (i ≤ n) × Headed s × (n ≤ sections s) × (seek (is
 abbrev μ-loop : tie.MeasureT-loop
 μ-loop s t n i₀ i = n - i
 
--- src/lib.rt:31:5
 loop-holds : tie.Need-loop-holds Inv-loop μ-loop
 loop-holds c = (omega arith, c .before .pre .0, c .before .pre .1, seek-start _ _)
 
--- src/lib.rt:32:12
 field-requires : tie.Need-field-requires Inv-loop μ-loop
 field-requires c κs = search needs
 
--- src/lib.rt:33:13
 returns : tie.Need-returns Inv-loop μ-loop
 unfolding isType
 returns c = (seek-yes _ _ _ _ (c .before .before .before .loop .inv .3) (omega arith) (told-eq _ _ _ (c .before .field .ensures .0) (c .if1 .taken)), omega arith)
 
--- src/lib.rt:35:9
 add-i : tie.Need-add-i Inv-loop μ-loop
 add-i c = search needs
 
--- src/lib.rt:31:5
 loop-less : tie.Need-loop-less Inv-loop μ-loop
 loop-less c = search needs
 
--- src/lib.rt:31:5
 loop-again : tie.Need-loop-again Inv-loop μ-loop
 unfolding isType
 loop-again c = (omega arith, c .before .before .before .loop .inv .1, c .before .before .before .loop .inv .2, seek-no _ _ _ _ (c .before .before .before .loop .inv .3) (omega arith) (told-ne _ _ _ (c .before .field .ensures .0) (c .if1 .left)))
 
--- src/lib.rt:26:1
 returns-2 : tie.Need-returns-2 Inv-loop μ-loop
 returns-2 c = (seek-end _ _ _ _ (c .before .loop .inv .3) (omega arith), omega arith)
 

@@ -1,36 +1,29 @@
+-- `reader_table::is_apart` meets its contract.
+-- Assumes nothing.
 use Rattle.answer.specs.CheckLaws.{truths}
 use Rattle.reader_table.specs.Table.{apart}
-use native.Mathlib.Omega.{arith}
 use borrow.Author.Needs.{needs}
 use Rattle.reader_table.proofs.is_apart.Statement.{statement}
 use Rattle.reader_table.proofs.is_apart.Tie as tie
-use Rattle.reader_table.proofs.is_apart.Reads as reads
-use Rattle.reader_table.proofs.is_apart.Lts as lts
 
--- src/lib.rt:74:9
 returns : tie.Need-returns
 unfolding apart
 returns c = search truths depth 12
 
--- src/lib.rt:77:9
 returns-2 : tie.Need-returns-2
 unfolding apart
 returns-2 c = search truths depth 12
 
--- src/lib.rt:79:8
 add-if3 : tie.Need-add-if3
 add-if3 c = search needs
 
--- src/lib.rt:80:9
 returns-3 : tie.Need-returns-3
 unfolding apart
 returns-3 c = search truths depth 12
 
--- src/lib.rt:82:5
 add-result : tie.Need-add-result
 add-result c = search needs
 
--- src/lib.rt:69:1
 returns-4 : tie.Need-returns-4
 unfolding apart
 returns-4 c = search truths depth 12

@@ -10,9 +10,6 @@ use native.Mathlib.Omega.{arith}
 use borrow.Author.Needs.{needs}
 use Rattle.reader_table.proofs.is_clear.Statement.{statement}
 use Rattle.reader_table.proofs.is_clear.Tie as tie
-use Rattle.reader_table.proofs.is_clear.Reads as reads
-use Rattle.reader_table.proofs.is_clear.Lts as lts
-use Rattle.reader_table.proofs.field.Reads as field-reads
 
 field-requires : tie.Need-field-requires
 field-requires c κs = search needs

@@ -1,72 +1,55 @@
-use mathlib.Core.Path.{_≡_, refl, sym, ap, _∙_}
+-- `reader_table::placed` meets its contract.
+-- Assumes nothing.
+use mathlib.Core.Path.{_∙_}
 use Rattle.answer.specs.CheckLaws.{met, unmet, end, le-at, gt-at, eq-same, ne-same}
 use Rattle.reader_table.specs.Table.{placedCheck}
 use native.Mathlib.Omega.{arith}
 use borrow.Author.Needs.{needs}
 use Rattle.reader_table.proofs.placed.Statement.{statement}
 use Rattle.reader_table.proofs.placed.Tie as tie
-use Rattle.reader_table.proofs.placed.Reads as reads
-use Rattle.reader_table.proofs.placed.Lts as lts
-use Rattle.answer.proofs.fail.Reads as fail-reads
-use Rattle.reader_table.proofs.count.Reads as count-reads
-use Rattle.reader_table.proofs.field.Reads as field-reads
 
--- src/lib.rt:126:9
 field-requires : tie.Need-field-requires
 field-requires c κs = search needs
 
--- src/lib.rt:127:9
 field-requires-2 : tie.Need-field-requires-2
 field-requires-2 c κs = search needs
 
--- src/lib.rt:129:9
 fail-requires : tie.Need-fail-requires
 fail-requires c κs = search needs
 
--- src/lib.rt:129:9
 returns : tie.Need-returns
 unfolding placedCheck
 returns c = c .fail .ensures ∙ unmet _ _ _ (ne-same _ _ (λ e. c .before .if1 .taken (cc)))
 
--- src/lib.rt:131:24
 count-requires : tie.Need-count-requires
 count-requires c κs = search needs
 
--- src/lib.rt:131:19
 mul-if2 : tie.Need-mul-if2
 mul-if2 c = search needs
 
--- src/lib.rt:131:14
 add-if2 : tie.Need-add-if2
 add-if2 c = search needs
 
--- src/lib.rt:132:9
 fail-requires-2 : tie.Need-fail-requires-2
 fail-requires-2 c κs = search needs
 
--- src/lib.rt:132:9
 returns-2 : tie.Need-returns-2
 unfolding placedCheck
 returns-2 c = c .fail2 .ensures ∙ met _ _ _ _ (eq-same _ _ (omega arith)) (unmet _ _ _ (gt-at _ _ (omega arith)))
 
--- src/lib.rt:134:8
 sub-if3 : tie.Need-sub-if3
 sub-if3 c = search needs
 
--- src/lib.rt:134:22
 add-if3 : tie.Need-add-if3
 add-if3 c = search needs
 
--- src/lib.rt:135:9
 fail-requires-3 : tie.Need-fail-requires-3
 fail-requires-3 c κs = search needs
 
--- src/lib.rt:135:9
 returns-3 : tie.Need-returns-3
 unfolding placedCheck
 returns-3 c = c .fail3 .ensures ∙ met _ _ _ _ (eq-same _ _ (omega arith)) (met _ _ _ _ (le-at _ _ (omega arith)) (unmet _ _ _ (gt-at _ _ (omega arith))))
 
--- src/lib.rt:122:1
 returns-4 : tie.Need-returns-4
 unfolding placedCheck
 returns-4 c = met _ _ _ _ (eq-same _ _ (omega arith)) (met _ _ _ _ (le-at _ _ (omega arith)) (met _ _ _ _ (le-at _ _ (omega arith)) (end)))

@@ -9,11 +9,6 @@ use native.Mathlib.Omega.{arith}
 use borrow.Author.Needs.{needs}
 use Rattle.reader_table.proofs.stretched.Statement.{statement}
 use Rattle.reader_table.proofs.stretched.Tie as tie
-use Rattle.reader_table.proofs.stretched.Reads as reads
-use Rattle.reader_table.proofs.stretched.Lts as lts
-use Rattle.reader_table.proofs.field.Reads as field-reads
-use Rattle.reader_table.proofs.greatest.Reads as greatest-reads
-use Rattle.reader_table.proofs.least.Reads as least-reads
 
 field-requires : tie.Need-field-requires
 field-requires c κs = search needs
