@@ -35,10 +35,15 @@ fn varint() -> Vec<u8> {
     (0..=255).for_each(|b| number(&mut out, &[b], 0));
     (0..=3).for_each(|n| bytes::all(&OF_NUMBERS, n, &mut |b| number(&mut out, b, 0)));
     let mut random = Random::new(SEED);
-    for _ in 0..1000 {
+    for _ in 0..500 {
         let length = 4 + random.below(5);
         let data: Vec<u8> = (0..length).map(|_| random.pick(&OF_NUMBERS)).collect();
         number(&mut out, &data, random.below(length + 1));
+    }
+    for _ in 0..500 {
+        let mut data: Vec<u8> = (0..4).map(|_| 0x80 | random.pick(&OF_NUMBERS)).collect();
+        data.push(random.pick(&OF_NUMBERS));
+        number(&mut out, &data, 0);
     }
     for _ in 0..1000 {
         let mut data = bytes::numbers(&mut random, 3, false);

@@ -62,8 +62,9 @@ pub fn floats() -> Vec<f64> {
 }
 
 /// Each makes one kind of scene.
-pub const KINDS: [(&str, fn(&mut Random) -> Scene); 9] = [
+pub const KINDS: [(&str, fn(&mut Random) -> Scene); 10] = [
     ("whole points", whole),
+    ("whole points on it or a step away", whole_beside),
     ("any points", broken),
     ("near the segment", near),
     ("beside a small one", small),
@@ -96,6 +97,22 @@ fn whole(r: &mut Random) -> Scene {
     let x = f64::from(r.from_to(ax.min(bx) - 2, ax.max(bx) + 2));
     let y = f64::from(r.from_to(ay.min(by) - 2, ay.max(by) + 2));
     Scene { ax, ay, bx, by, x, y }
+}
+
+/// Both ends are whole steps (dx, dy) away from the point, which then may move by one.
+fn whole_beside(r: &mut Random) -> Scene {
+    let (px, py) = in_domain(r);
+    let reach = r.pick(&[3, 100, 3000]);
+    let [dx, dy] = [(); 2].map(|()| i64::from(r.from_to(-reach, reach)));
+    let end = |r: &mut Random| {
+        let steps = i64::from(r.from_to(-3000, 3000));
+        let x = (i64::from(px) + steps * dx).clamp(-i64::from(EAST), i64::from(EAST));
+        let y = (i64::from(py) + steps * dy).clamp(-i64::from(NORTH), i64::from(NORTH));
+        (x as i32, y as i32)
+    };
+    let ((ax, ay), (bx, by)) = (end(r), end(r));
+    let [mx, my] = [(); 2].map(|()| r.pick(&[0, 0, 0, 1, -1]));
+    Scene { ax, ay, bx, by, x: f64::from(px + mx), y: f64::from(py + my) }
 }
 
 /// As a lookup makes them: degrees times 100,000.
