@@ -2,3 +2,4 @@
 pub mod Truth
 pub mod Parity
 pub mod Whole
+pub mod Determined

@@ -3,7 +3,7 @@ use mathlib.Core.Path.{_≡_, refl, sym, ap, _∙_}
 use mathlib.Core.Bool.{Bool, true, false, not, cond, true≢false, false≢true}
 use Prim.Native.Nat.{ℕ, zero, suc, _+_, _-_, _*_, _≤_, _<_}
 use native.Mathlib.Omega.{arith}
-use borrow.Author.Tests.{ltb-true, ltb-false, leb-true, eqb-true, lt-ltb, le-ltb, le-leb, lt-leb}
+use borrow.Author.Tests.{ltb-true, ltb-false, leb-true, eqb-true, eqb-false, not-true, lt-ltb, le-ltb, le-leb, lt-leb, eq-eqb, ne-eqb}
 use lib.Dec.{ltb, leb, eqb}
 use lib.IntN.{ℤ, pos, negsuc, negℤ, subℕ, natAbs, _+ℤ_, _-ℤ_, _*ℤ_}
 use lib.Signed.{ltZ, leZ}
@@ -198,6 +198,32 @@ sub-pos x y = go (ltZ y x) refl
     go : (t : Bool) → ltZ y x ≡ t → ltZ (pos 0) (x -ℤ y) ≡ t
     go true e = pos-is (x -ℤ y) (shift k x + k) (k + shift k y) d (omega (arith, lt-is y x (shift k y) (shift k x) k sy sx e))
     go false e = nonpos-is (x -ℤ y) (shift k x + k) (k + shift k y) d (omega (arith, le-is x y (shift k x) (shift k y) k sx sy (le-not-lt x y ∙ ap not e)))
+
+-- ---- each test of ℤ is the test of ℕ on the pair
+pub lt-test : (x y : ℤ) (p q k : ℕ) → Is x p k → Is y q k → ltZ x y ≡ ltb p q
+lt-test x y p q k e f = go (ltb p q) refl
+  where
+    go : (t : Bool) → ltb p q ≡ t → ltZ x y ≡ t
+    go true h = is-lt x y p q k e f (ltb-true p q h)
+    go false h = not-true (ltZ x y) (sym (le-not-lt y x) ∙ is-le y x q p k f e (ltb-false p q h))
+
+pub le-test : (x y : ℤ) (p q k : ℕ) → Is x p k → Is y q k → leZ x y ≡ leb p q
+le-test x y p q k e f = le-not-lt x y ∙ ap not (lt-test y x q p k f e) ∙ sym (flip p q)
+
+pub zero-test : (z : ℤ) (p q : ℕ) → Is z p q → isZero z ≡ eqb p q
+zero-test z p q e = size z e (eqb p q) refl
+  where
+    size : (z : ℤ) → Is z p q → (t : Bool) → eqb p q ≡ t → isZero z ≡ t
+    size (pos n) e true h = eq-eqb n 0 (omega (arith, eqb-true p q h))
+    size (pos n) e false h = ne-eqb n 0 (λ (u : n ≡ 0). eqb-false p q h (omega arith))
+    size (negsuc n) e true h = absurd (omega (arith, eqb-true p q h))
+    size (negsuc n) e false h = ne-eqb (suc n) 0 (λ (u : suc n ≡ 0). omega arith)
+
+pub pos-test : (z : ℤ) (p q : ℕ) → Is z p q → ltZ (pos 0) z ≡ ltb q p
+pos-test z p q e = lt-test (pos 0) z q p q (omega arith) e
+
+pub neg-test : (z : ℤ) (p q : ℕ) → Is z p q → ltZ z (pos 0) ≡ ltb p q
+neg-test z p q e = lt-test z (pos 0) p q q e (omega arith)
 
 -- ---- equality of two numbers, as a test
 pub eqZ-true : (x y : ℤ) → eqZ x y ≡ true → x ≡ y

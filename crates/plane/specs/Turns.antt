@@ -23,10 +23,10 @@ same-true a b h = go (eqZ (a .x) (b .x)) (eqZ (a .y) (b .y)) refl refl h
     go false t e f h = absurd (false≢true h)
 
 -- ---- the turn, in naturals: the cross product is `plus` - `less`
-abbrev plus : ℕ → ℕ → ℕ → ℕ → ℕ → ℕ → ℕ
+abbrev pub plus : ℕ → ℕ → ℕ → ℕ → ℕ → ℕ → ℕ
 plus A A' B B' P P' = B * P' + B' * A + A' * P
 
-abbrev less : ℕ → ℕ → ℕ → ℕ → ℕ → ℕ → ℕ
+abbrev pub less : ℕ → ℕ → ℕ → ℕ → ℕ → ℕ → ℕ
 less A A' B B' P P' = B' * P + B * A' + A * P'
 
 -- from a below up to b, past p: i and j to the ends along x, v down to the lower end and u up to the upper
@@ -45,7 +45,7 @@ module _ (A A' B B' P P' : ℕ) (lo : A' ≤ P') (hi : P' < B') where
 
 -- ---- the cross product of numbers that a shift by k makes natural
 module _ (ax ay bx by px py : ℤ) (k A A' B B' P P' : ℕ) (a : Is ax A k) (a' : Is ay A' k) (b : Is bx B k) (b' : Is by B' k) (p : Is px P k) (p' : Is py P' k) where
-  cross-is : Is (cross ax ay bx by px py) (plus A A' B B' P P') (less A A' B B' P P')
+  pub cross-is : Is (cross ax ay bx by px py) (plus A A' B B' P P') (less A A' B B' P P')
   unfolding cross
   cross-is =
       is-move (cross ax ay bx by px py) (B * P' + A * A' + (B' * A + A' * P)) (B * A' + A * P' + (B' * P + A' * A)) (plus A A' B B' P P') (less A A' B B' P P')

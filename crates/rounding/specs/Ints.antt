@@ -1,21 +1,19 @@
 -- Whole numbers as floats, each the difference of two naturals: `diff X Y` is the float X - Y. Comparisons, differences and quotients of such floats, by the naturals. Assumes nothing.
 use mathlib.Core.Path.{_≡_, refl, sym, ap, ap₂, _∙_, subst}
-use mathlib.Core.Logic.{_⊎_, inl, inr}
 use Prim.Native.Nat.{ℕ, zero, suc, _+_, _-_, _*_, _^_, _≤_, _<_}
-use native.Mathlib.Nat.{le-trans, le-of-eq, le-of-lt, lt-of-lt-of-le, lt-of-le-of-lt, lt-of-not-le, not-le-of-lt, mul-comm, mul-assoc, mul-right-comm, mul-left-comm, mul-le-mul-right, mul-pos, mul-one, mul-sub, zero-lt-suc, zero-mul, eq-of-mul-eq-mul-right}
+use native.Mathlib.Nat.{lt-of-lt-of-le, lt-of-not-le, not-le-of-lt, mul-comm, mul-le-mul-right, mul-pos, mul-sub, zero-lt-suc, zero-mul, eq-of-mul-eq-mul-right}
 use native.Mathlib.Omega.{arith}
-use mathlib.Core.Bool.{Bool, true, false, not, _&&_, _||_, Bool·beq, cond}
-use lib.IntN.{ℤ, pos, negsuc, subℕ}
-use lib.Dec.{T, ltb, eqb, leb, ltb→lt, nltb→le, lt→ltb, eqb→eq, lit≤, lit<}
-use lib.Pow.{pow-pos}
-use lib.Ieee.{Float, nan, inf, fin, Format, binary64, prec, up, down, unlike, round, below, level, lt, eq, le, neg, sum, add, sub, div, ofInt}
+use mathlib.Core.Bool.{Bool, true, false, not, _&&_, _||_, Bool·beq, cond, and-true}
+use lib.IntN.{pos, negsuc, subℕ}
+use lib.Dec.{T, ltb, eqb, ltb→lt, nltb→le, eqb→eq}
+use lib.Ieee.{Float, nan, inf, fin, Format, binary64, up, down, unlike, round, below, level, lt, eq, le, neg, sum, add, sub, div, ofInt}
 use lib.Ieee.Fits.{up-pos, down-pos, eq→eqb}
 use lib.Ieee.Exact.{HasValue}
 use lib.Ieee.Back.{round-whole}
 use lib.Ieee.Scale.{round-same, finite}
 use lib.Ieee.Positive.{first-pos}
 use Rattle.rounding.specs.Gap.{Like, both-ltb, both-eqb, like-ltb, like-ltb'}
-use Rattle.rounding.specs.Rounded.{lt-values, eq-values, cross-like}
+use Rattle.rounding.specs.Rounded.{lt-values, eq-values}
 
 abbrev pub dist : ℕ → ℕ → ℕ
 dist X Y = X - Y + (Y - X)
@@ -180,10 +178,6 @@ below-is X Y K = go (ltb X K) (ltb Y K) (ltb→lt X K) (nltb→le X K) (ltb→lt
 level-is : (X Y K : ℕ) → level (ltb X K) (dist X K) (ltb Y K) (dist Y K) ≡ eqb X Y
 level-is X Y K = go (ltb X K) (ltb Y K) (ltb→lt X K) (nltb→le X K) (ltb→lt Y K) (nltb→le Y K)
   where
-    and-true : (b : Bool) → b && true ≡ b
-    and-true true = refl
-    and-true false = refl
-
     and-no : (a b : Bool) → b ≡ false → a && b ≡ false
     and-no true b e = e
     and-no false b e = refl

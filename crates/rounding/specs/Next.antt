@@ -1,26 +1,22 @@
--- The next float up, by the bits, and its value at a whole number: more by a little. Assumes nothing.
+-- The value of the next float upward from a whole number: more by a little. Assumes nothing.
 use mathlib.Core.Path.{_≡_, refl, sym, ap, ap₂, _∙_, subst}
-use mathlib.Core.Logic.{_⊎_, inl, inr}
+use mathlib.Core.Logic.{inl, inr}
 use Prim.Native.Nat.{ℕ, zero, suc, _+_, _-_, _*_, _/_, _%_, _^_, _≤_, _<_}
-use native.Mathlib.Nat.{le-trans, le-of-eq, le-of-lt, lt-of-lt-of-le, lt-of-le-of-lt, not-le-of-lt, mul-comm, mul-assoc, mul-right-comm, mul-one, one-mul, mul-le-mul-right, mul-lt-mul-of-pos-right, mul-pos, mul-div-cancel, zero-lt-suc, two-pow-succ, le-div-iff-mul-le, eq-zero-or-pos, le-suc, le-refl}
+use native.Mathlib.Nat.{le-trans, le-of-eq, lt-of-lt-of-le, lt-of-le-of-lt, not-le-of-lt, mul-assoc, mul-right-comm, mul-one, one-mul, mul-le-mul-right, mul-div-cancel, two-pow-succ, le-div-iff-mul-le, eq-zero-or-pos, le-suc, le-refl}
 use native.Mathlib.Omega.{arith}
-use mathlib.Core.Bool.{Bool, true, false, not, _&&_, _||_, cond}
+use mathlib.Core.Bool.{Bool, true, false, not, _&&_, cond}
+use borrow.Author.Tests.{lt-ltb, le-ltb, eq-eqb, ne-eqb}
 use lib.Dec.{T, ltb, eqb, leb, le→leb, leb→le, ltb→lt, nltb→le, not-T, lit≤, lit<}
 use lib.Pow.{pow-add, pow-pos, pow-mono, shl-lt}
-use lib.Ieee.{Float, nan, inf, fin, binary64, up, down, size, odd, ofFields, ofBits, toBits, ne, eq}
-use lib.Ieee.Fits.{down-pos, kept-lt, eq→eqb}
+use lib.Ieee.{Float, nan, inf, fin, binary64, up, down, size, odd, ofFields, ofBits, toBits, ne}
+use lib.Ieee.Fits.{down-pos, kept-lt}
 use lib.Ieee.Bits.{is-true, is-false}
 use lib.Ieee.Exact.{HasValue, odd-sign}
 use lib.Ieee.Digits.{size-lt, size-le, size-reaches}
+use Rattle.rounding.specs.Upward.{stepOf, nextUp}
 use Rattle.rounding.specs.Rounded.{eq-values}
-use Rattle.rounding.specs.Ints.{dist, diff, diff-val, Fine, one-pos}
-use Rattle.rounding.specs.Quotients.{Rep, rep-diff, eqb-no, eqb-yes, ltb-yes, ltb-no}
-
-abbrev pub stepOf : ℕ → ℕ
-stepOf b = cond (eqb b 0) 1 (cond (eqb b 0x8000_0000_0000_0000) 1 (cond (ltb b 0x8000_0000_0000_0000) (b + 1) (b - 1)))
-
-unfoldable pub nextUp : Float → Float
-nextUp x = cond (ne x x) x (cond (eqb (toBits binary64 x) 0x7ff0_0000_0000_0000) x (ofBits binary64 (stepOf (toBits binary64 x))))
+use Rattle.rounding.specs.Ints.{dist, diff, diff-val, one-pos}
+use Rattle.rounding.specs.Quotients.{Rep, rep-diff}
 
 -- ---- the value of a pattern with the exponent's field x above 0
 abbrev pattern : Bool → ℕ → ℕ → ℕ
@@ -48,7 +44,7 @@ ofBits-val s k t h l =
     let e : ofBits binary64 b ≡ ofFields binary64 s (suc k) t =
     ap (λ (v : Bool). ofFields binary64 v (b % 0x8000_0000_0000_0000 / 0x10_0000_0000_0000) (b % 0x10_0000_0000_0000)) (sign-is s (suc k) t h l)
     ∙ ap₂ (λ (v w : ℕ). ofFields binary64 s v w) (field-is s (suc k) t h l) (digits-are s (suc k) t h l) in
-    subst (λ (z : Float). HasValue z s ((0x10_0000_0000_0000 + t) * 2 ^ k) (2 ^ 1074)) (sym (e ∙ ap (λ (v : Bool). cond v (cond (eqb t 0) (inf s) nan) (odd 53 s (0x10_0000_0000_0000 + t) k 1074)) (eqb-no (suc k) 2047 (λ (q : suc k ≡ 2047). differ q))))
+    subst (λ (z : Float). HasValue z s ((0x10_0000_0000_0000 + t) * 2 ^ k) (2 ^ 1074)) (sym (e ∙ ap (λ (v : Bool). cond v (cond (eqb t 0) (inf s) nan) (odd 53 s (0x10_0000_0000_0000 + t) k 1074)) (ne-eqb (suc k) 2047 (λ (q : suc k ≡ 2047). differ q))))
     (odd-sign 53 s (0x10_0000_0000_0000 + t) k 1074)
   where
     differ : suc k ≡ 2047 → ⊥
@@ -160,8 +156,8 @@ pub record Bump (z : Float) (X K c : ℕ) : Type 0 where
   pub small : e * c ≤ 2 ^ 1074
 
 same-self : (s : Bool) (a : ℕ) → lib.Ieee.level s a s a ≡ true
-same-self true a = ap (λ (b : Bool). b && true) (eqb-yes a a refl)
-same-self false a = ap (λ (b : Bool). b && true) (eqb-yes a a refl)
+same-self true a = ap (λ (b : Bool). b && true) (eq-eqb a a refl)
+same-self false a = ap (λ (b : Bool). b && true) (eq-eqb a a refl)
 
 ne-self : (x : Float) (s : Bool) (a : ℕ) → HasValue x s a 1 → ne x x ≡ false
 unfolding ne
@@ -179,9 +175,9 @@ opened x s a b c v p q r =
 step-pos : (k t : ℕ) → k ≤ 1074 → t < 0x10_0000_0000_0000 → stepOf (pattern false (suc k) t) ≡ pattern false (suc k) t + 1
 step-pos k t h l =
     let b = pattern false (suc k) t in
-    ap (λ (u : Bool). cond u 1 (cond (eqb b 0x8000_0000_0000_0000) 1 (cond (ltb b 0x8000_0000_0000_0000) (b + 1) (b - 1)))) (eqb-no b 0 (λ (q : b ≡ 0). n1 q))
-    ∙ ap (λ (u : Bool). cond u 1 (cond (ltb b 0x8000_0000_0000_0000) (b + 1) (b - 1))) (eqb-no b 0x8000_0000_0000_0000 (λ (q : b ≡ 0x8000_0000_0000_0000). n2 q))
-    ∙ ap (λ (u : Bool). cond u (b + 1) (b - 1)) (ltb-yes b 0x8000_0000_0000_0000 (omega arith))
+    ap (λ (u : Bool). cond u 1 (cond (eqb b 0x8000_0000_0000_0000) 1 (cond (ltb b 0x8000_0000_0000_0000) (b + 1) (b - 1)))) (ne-eqb b 0 (λ (q : b ≡ 0). n1 q))
+    ∙ ap (λ (u : Bool). cond u 1 (cond (ltb b 0x8000_0000_0000_0000) (b + 1) (b - 1))) (ne-eqb b 0x8000_0000_0000_0000 (λ (q : b ≡ 0x8000_0000_0000_0000). n2 q))
+    ∙ ap (λ (u : Bool). cond u (b + 1) (b - 1)) (lt-ltb b 0x8000_0000_0000_0000 (omega arith))
   where
     n1 : pattern false (suc k) t ≡ 0 → ⊥
     n1 q = omega arith
@@ -192,9 +188,9 @@ step-pos k t h l =
 step-neg : (k t : ℕ) → k ≤ 1074 → t < 0x10_0000_0000_0000 → stepOf (pattern true (suc k) t) ≡ pattern true (suc k) t - 1
 step-neg k t h l =
     let b = pattern true (suc k) t in
-    ap (λ (u : Bool). cond u 1 (cond (eqb b 0x8000_0000_0000_0000) 1 (cond (ltb b 0x8000_0000_0000_0000) (b + 1) (b - 1)))) (eqb-no b 0 (λ (q : b ≡ 0). n1 q))
-    ∙ ap (λ (u : Bool). cond u 1 (cond (ltb b 0x8000_0000_0000_0000) (b + 1) (b - 1))) (eqb-no b 0x8000_0000_0000_0000 (λ (q : b ≡ 0x8000_0000_0000_0000). n2 q))
-    ∙ ap (λ (u : Bool). cond u (b + 1) (b - 1)) (ltb-no b 0x8000_0000_0000_0000 (omega arith))
+    ap (λ (u : Bool). cond u 1 (cond (eqb b 0x8000_0000_0000_0000) 1 (cond (ltb b 0x8000_0000_0000_0000) (b + 1) (b - 1)))) (ne-eqb b 0 (λ (q : b ≡ 0). n1 q))
+    ∙ ap (λ (u : Bool). cond u 1 (cond (ltb b 0x8000_0000_0000_0000) (b + 1) (b - 1))) (ne-eqb b 0x8000_0000_0000_0000 (λ (q : b ≡ 0x8000_0000_0000_0000). n2 q))
+    ∙ ap (λ (u : Bool). cond u (b + 1) (b - 1)) (le-ltb b 0x8000_0000_0000_0000 (omega arith))
   where
     n1 : pattern true (suc k) t ≡ 0 → ⊥
     n1 q = omega arith
@@ -203,11 +199,11 @@ step-neg k t h l =
     n2 q = omega arith
 
 not-inf : (s : Bool) (k t : ℕ) → k ≤ 1074 → t < 0x10_0000_0000_0000 → eqb (pattern s (suc k) t) 0x7ff0_0000_0000_0000 ≡ false
-not-inf true k t h l = eqb-no (pattern true (suc k) t) 0x7ff0_0000_0000_0000 (λ (q : pattern true (suc k) t ≡ 0x7ff0_0000_0000_0000). no' q)
+not-inf true k t h l = ne-eqb (pattern true (suc k) t) 0x7ff0_0000_0000_0000 (λ (q : pattern true (suc k) t ≡ 0x7ff0_0000_0000_0000). no' q)
   where
     no' : pattern true (suc k) t ≡ 0x7ff0_0000_0000_0000 → ⊥
     no' q = omega arith
-not-inf false k t h l = eqb-no (pattern false (suc k) t) 0x7ff0_0000_0000_0000 (λ (q : pattern false (suc k) t ≡ 0x7ff0_0000_0000_0000). no' q)
+not-inf false k t h l = ne-eqb (pattern false (suc k) t) 0x7ff0_0000_0000_0000 (λ (q : pattern false (suc k) t ≡ 0x7ff0_0000_0000_0000). no' q)
   where
     no' : pattern false (suc k) t ≡ 0x7ff0_0000_0000_0000 → ⊥
     no' q = omega arith

@@ -1,21 +1,21 @@
 -- A whole number and a little more (`Bump`) against whole numbers, and the slope that it makes. Assumes nothing.
 use mathlib.Core.Path.{_≡_, refl, sym, ap, ap₂, _∙_, subst}
-use mathlib.Core.Logic.{_⊎_, inl, inr}
 use Prim.Native.Nat.{ℕ, zero, suc, _+_, _-_, _*_, _/_, _^_, _≤_, _<_}
-use native.Mathlib.Nat.{le-trans, le-of-eq, le-of-lt, lt-of-lt-of-le, lt-of-le-of-lt, lt-of-not-le, not-le-of-lt, mul-comm, mul-assoc, mul-right-comm, mul-one, mul-le-mul-right, mul-le-mul-left, mul-pos, le-div-iff-mul-le, eq-zero-or-pos}
+use native.Mathlib.Nat.{le-trans, le-of-eq, le-of-lt, lt-of-le-of-lt, lt-of-not-le, mul-le-mul-right, mul-pos, le-div-iff-mul-le}
 use native.Mathlib.Omega.{arith}
-use mathlib.Core.Bool.{Bool, true, false, not, _&&_, _||_, Bool·beq, cond}
-use lib.Dec.{T, ltb, eqb, ltb→lt, nltb→le, lit≤, lit<}
+use mathlib.Core.Bool.{Bool, true, false, not, _&&_, _||_, cond}
+use borrow.Author.Tests.{lt-ltb, le-ltb, ne-eqb}
+use lib.Dec.{T, ltb, ltb→lt, nltb→le, lit<}
 use lib.Pow.{pow-add, pow-pos}
-use lib.Ieee.{Float, nan, inf, fin, Format, binary64, prec, low, up, down, unlike, size, round, below, level, lt, eq, le, sum, sub, div}
-use lib.Ieee.Digits.{size-le, size-reaches}
+use lib.Ieee.{Float, nan, inf, fin, Format, binary64, unlike, size, round, below, level, lt, eq, le, sum, sub, div}
+use lib.Ieee.Digits.{size-reaches}
 use lib.Ieee.Exact.{HasValue}
-use lib.Ieee.Order.{drop, kept}
+use lib.Ieee.Order.{drop}
 use lib.Ieee.Scale.{grid, overflow}
-use Rattle.rounding.specs.Gap.{Near, closest-near, both-ltb, round-val}
+use Rattle.rounding.specs.Gap.{closest-near, both-ltb, round-val}
 use Rattle.rounding.specs.Rounded.{lt-values, eq-values, Small, small-near, small-val}
 use Rattle.rounding.specs.Ints.{dist, diff, diff-val, sub-values, div-values, Fine, one-pos}
-use Rattle.rounding.specs.Quotients.{Rep, rep-diff, rep-below, rep-level, ltb-yes, ltb-no, eqb-no, div-diff, Short, fine, small}
+use Rattle.rounding.specs.Quotients.{Rep, rep-diff, rep-below, rep-level, div-diff, Short, fine, small}
 use Rattle.rounding.specs.Next.{Bump}
 
 -- ---- a whole number in units
@@ -62,7 +62,7 @@ module _ (z : Float) (X K c : ℕ) (b : Bump z X K c) (two : 1 < c) (Y : ℕ) (F
   bump-eq =
       eq-values z (diff Y K) (b .s) (ltb Y K) (b .g) (dist Y K * 2 ^ 1074) (2 ^ 1074) (pow-pos 1074) (b .val) (diff-units Y K F)
       ∙ rep-level (b .s) (ltb Y K) (b .g) (dist Y K * 2 ^ 1074) (X * 2 ^ 1074 + b .e) (K * 2 ^ 1074) (Y * 2 ^ 1074) (K * 2 ^ 1074) (b .rep) (rep-units Y K)
-      ∙ eqb-no (X * 2 ^ 1074 + b .e + K * 2 ^ 1074) (K * 2 ^ 1074 + Y * 2 ^ 1074) (λ h. go (b .e) (2 ^ 1074) (b .pos) (tiny (b .e) (2 ^ 1074) c (b .pos) two (b .small)) h)
+      ∙ ne-eqb (X * 2 ^ 1074 + b .e + K * 2 ^ 1074) (K * 2 ^ 1074 + Y * 2 ^ 1074) (λ h. go (b .e) (2 ^ 1074) (b .pos) (tiny (b .e) (2 ^ 1074) c (b .pos) two (b .small)) h)
     where
       go : (e L : ℕ) → 0 < e → e < L → X * L + e + K * L ≡ K * L + Y * L → ⊥
       go e L p l h = cases (ltb X Y) (ltb→lt X Y) (nltb→le X Y)
@@ -96,11 +96,11 @@ grid-upper n c C = go (drop 53 (n * 2 ^ 1074) c) refl
 -- ---- the nudged difference and the nudged slope
 sum-rep : (f : Format) (s t : Bool) (a b c P Q k e : ℕ) → 0 < e → Rep s a P k → Rep t b Q k → P ≡ Q + e → sum f s a (not t) b c ≡ round f false e c
 unfolding sum
-sum-rep f false false a b c P Q k e E p q h = ap (λ (v : Bool). cond v (round f true (b - a) c) (round f false (a - b) c)) (ltb-no a b (omega arith)) ∙ ap (λ (n : ℕ). round f false n c) (left' a b e (omega arith))
+sum-rep f false false a b c P Q k e E p q h = ap (λ (v : Bool). cond v (round f true (b - a) c) (round f false (a - b) c)) (le-ltb a b (omega arith)) ∙ ap (λ (n : ℕ). round f false n c) (left' a b e (omega arith))
   where
     left' : (a b e : ℕ) → a ≡ b + e → a - b ≡ e
     left' a b e h = omega arith
-sum-rep f true true a b c P Q k e E p q h = ap (λ (v : Bool). cond v (round f false (b - a) c) (round f (true && ltb b a) (a - b) c)) (ltb-yes a b (omega arith)) ∙ ap (λ (n : ℕ). round f false n c) (left' b a e (omega arith))
+sum-rep f true true a b c P Q k e E p q h = ap (λ (v : Bool). cond v (round f false (b - a) c) (round f (true && ltb b a) (a - b) c)) (lt-ltb a b (omega arith)) ∙ ap (λ (n : ℕ). round f false n c) (left' b a e (omega arith))
   where
     left' : (a b e : ℕ) → a ≡ b + e → a - b ≡ e
     left' a b e h = omega arith
@@ -194,7 +194,7 @@ module _ (z : Float) (X K : ℕ) (b : Bump z X K 0x1000_0000) (F : Fine (dist X 
         sm = small (dist Y X) (dist Z' W') y z' d'
 
         seg-is : div binary64 (diff Y X) (diff Z' W') ≡ round binary64 (ltb Z W) (dist Y X) (dist Z' W')
-        seg-is = div-diff Y X Z' W' (fine (dist Y X) y) (fine (dist Z' W') z') d' ∙ ap₂ (λ (u v : Bool). round binary64 (unlike u v) (dist Y X) (dist Z' W')) (ltb-no Y X (le-of-lt l)) same ∙ ap (λ (s : Bool). round binary64 s (dist Y X) (dist Z' W')) (like-false (ltb Z W))
+        seg-is = div-diff Y X Z' W' (fine (dist Y X) y) (fine (dist Z' W') z') d' ∙ ap₂ (λ (u v : Bool). round binary64 (unlike u v) (dist Y X) (dist Z' W')) (le-ltb Y X (le-of-lt l)) same ∙ ap (λ (s : Bool). round binary64 s (dist Y X) (dist Z' W')) (like-false (ltb Z W))
 
         seg-val : HasValue (div binary64 (diff Y X) (diff Z' W')) (ltb Z W) (grid binary64 (dist Y X) (dist Z' W')) (2 ^ 1074)
         seg-val = subst (λ (w : Float). HasValue w (ltb Z W) (grid binary64 (dist Y X) (dist Z' W')) (2 ^ 1074)) (sym seg-is) (small-val (ltb Z W) (dist Y X) (dist Z' W') sm)
@@ -209,5 +209,5 @@ module _ (z : Float) (X K : ℕ) (b : Bump z X K 0x1000_0000) (F : Fine (dist X 
         apart S H h e = omega arith
 
         go : (s : Bool) → below s (grid binary64 (dist Y X) (dist Z' W')) s H || level s (grid binary64 (dist Y X) (dist Z' W')) s H ≡ s
-        go false = ap₂ (λ (u v : Bool). u || (v && true)) (ltb-no (grid binary64 (dist Y X) (dist Z' W')) H (le-of-lt big)) (eqb-no (grid binary64 (dist Y X) (dist Z' W')) H (apart (grid binary64 (dist Y X) (dist Z' W')) H big))
-        go true = ap (λ (u : Bool). u || level true (grid binary64 (dist Y X) (dist Z' W')) true H) (ltb-yes H (grid binary64 (dist Y X) (dist Z' W')) big)
+        go false = ap₂ (λ (u v : Bool). u || (v && true)) (le-ltb (grid binary64 (dist Y X) (dist Z' W')) H (le-of-lt big)) (ne-eqb (grid binary64 (dist Y X) (dist Z' W')) H (apart (grid binary64 (dist Y X) (dist Z' W')) H big))
+        go true = ap (λ (u : Bool). u || level true (grid binary64 (dist Y X) (dist Z' W')) true H) (lt-ltb H (grid binary64 (dist Y X) (dist Z' W')) big)

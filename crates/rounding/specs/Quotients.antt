@@ -1,30 +1,18 @@
 -- Differences and quotients of whole numbers as floats: the difference is exact, and two rounded quotients compare as the exact ones do. Assumes nothing.
-use mathlib.Core.Path.{_≡_, refl, sym, ap, ap₂, _∙_, subst}
-use mathlib.Core.Logic.{_⊎_, inl, inr}
-use Prim.Native.Nat.{ℕ, zero, suc, _+_, _-_, _*_, _^_, _≤_, _<_}
-use native.Mathlib.Nat.{le-trans, le-of-lt, lt-of-lt-of-le, lt-of-le-of-lt, not-le-of-lt}
+use mathlib.Core.Path.{_≡_, refl, sym, ap₂, _∙_, subst}
+use Prim.Native.Nat.{ℕ, zero, _+_, _-_, _*_, _^_, _≤_, _<_}
+use native.Mathlib.Nat.{le-trans, le-of-lt, lt-of-lt-of-le}
 use native.Mathlib.Omega.{arith}
-use mathlib.Core.Bool.{Bool, true, false, not, _&&_, _||_, Bool·beq, cond}
-use lib.Dec.{T, ltb, eqb, ltb→lt, nltb→le, eqb→eq, lit≤, lit<}
+use mathlib.Core.Bool.{Bool, true, false, not, _&&_, _||_, cond, and-true}
+use borrow.Author.Tests.{lt-ltb, le-ltb}
+use lib.Dec.{T, ltb, eqb, ltb→lt, nltb→le, eqb→eq, lit≤}
 use lib.Ieee.Fits.{eq→eqb}
 use lib.Ieee.Exact.{HasValue}
 use lib.Ieee.Scale.{finite, grid}
 use lib.Ieee.{Float, nan, inf, fin, binary64, unlike, round, below, level, lt, eq, le, sum, sub, div}
 use Rattle.rounding.specs.Gap.{both-ltb, both-eqb}
 use Rattle.rounding.specs.Rounded.{Small, lt-rounded, eq-rounded, small26, small-val}
-use Rattle.rounding.specs.Ints.{dist, diff, diff-round, diff-val, sub-values, div-values, div-zero, Fine, one-pos, zero-one}
-
-pub ltb-yes : (A B : ℕ) → A < B → ltb A B ≡ true
-ltb-yes A B h = sym (both-ltb A B 0 1 (λ (k : A < B). one-pos) (λ (k : B ≤ A). absurd (not-le-of-lt h k)))
-
-pub ltb-no : (A B : ℕ) → B ≤ A → ltb A B ≡ false
-ltb-no A B h = sym (both-ltb A B 1 0 (λ (k : A < B). absurd (not-le-of-lt k h)) (λ (k : B ≤ A). omega arith))
-
-pub eqb-yes : (A B : ℕ) → A ≡ B → eqb A B ≡ true
-eqb-yes A B h = sym (both-eqb A B 0 0 (λ k. refl) (λ k. h))
-
-pub eqb-no : (A B : ℕ) → (A ≡ B → ⊥) → eqb A B ≡ false
-eqb-no A B h = sym (both-eqb A B 0 1 (λ k. absurd (h k)) (λ k. absurd (zero-one k)))
+use Rattle.rounding.specs.Ints.{dist, diff, diff-round, diff-val, sub-values, div-values, div-zero, Fine, one-pos}
 
 -- ---- the difference of two whole numbers is exact
 rnd : (s t : Bool) (a b : ℕ) → s ≡ t → a ≡ b → round binary64 s a 1 ≡ round binary64 t b 1
@@ -47,15 +35,15 @@ unfolding sum
 sub-sum X Y K a b false false n p q = go (ltb a b) (ltb→lt a b) (nltb→le a b)
   where
     go : (v : Bool) → (T v → a < b) → (T (not v) → b ≤ a) → cond v (round binary64 true (b - a) 1) (round binary64 false (a - b) 1) ≡ round binary64 (ltb X Y) (dist X Y) 1
-    go true f g = let f' = f tt in rnd true (ltb X Y) (b - a) (dist X Y) (sym (ltb-yes X Y (omega arith))) (omega arith)
-    go false f g = let g' = g tt in rnd false (ltb X Y) (a - b) (dist X Y) (sym (ltb-no X Y (omega arith))) (omega arith)
+    go true f g = let f' = f tt in rnd true (ltb X Y) (b - a) (dist X Y) (sym (lt-ltb X Y (omega arith))) (omega arith)
+    go false f g = let g' = g tt in rnd false (ltb X Y) (a - b) (dist X Y) (sym (le-ltb X Y (omega arith))) (omega arith)
 sub-sum X Y K a b true true n p q = go (ltb a b) (ltb→lt a b) (nltb→le a b)
   where
     go : (v : Bool) → (T v → a < b) → (T (not v) → b ≤ a) → cond v (round binary64 false (b - a) 1) (round binary64 (ltb b a) (a - b) 1) ≡ round binary64 (ltb X Y) (dist X Y) 1
-    go true f g = let f' = f tt in rnd false (ltb X Y) (b - a) (dist X Y) (sym (ltb-no X Y (omega arith))) (omega arith)
+    go true f g = let f' = f tt in rnd false (ltb X Y) (b - a) (dist X Y) (sym (le-ltb X Y (omega arith))) (omega arith)
     go false f g = let g' = g tt in rnd (ltb b a) (ltb X Y) (a - b) (dist X Y) (both-ltb X Y b a (λ (h : X < Y). omega arith) (λ (h : Y ≤ X). omega arith)) (omega arith)
-sub-sum X Y K a b false true n p q = rnd false (ltb X Y) (a + b) (dist X Y) (sym (ltb-no X Y (omega arith))) (omega arith)
-sub-sum X Y K a b true false n p q = let n' = n tt in rnd true (ltb X Y) (a + b) (dist X Y) (sym (ltb-yes X Y (omega arith))) (omega arith)
+sub-sum X Y K a b false true n p q = rnd false (ltb X Y) (a + b) (dist X Y) (sym (le-ltb X Y (omega arith))) (omega arith)
+sub-sum X Y K a b true false n p q = let n' = n tt in rnd true (ltb X Y) (a + b) (dist X Y) (sym (lt-ltb X Y (omega arith))) (omega arith)
 
 pub sub-diff : (X Y K : ℕ) → Fine (dist X K) → Fine (dist Y K) → sub binary64 (diff X K) (diff Y K) ≡ diff X Y
 sub-diff X Y K h k =
@@ -78,17 +66,13 @@ rep-mul true true a b p q p' q' e f = subst (λ (x : ℕ). p * p' + x * q' ≡ p
 
 pub rep-below : (s t : Bool) (a b p q p' q' : ℕ) → Rep s a p q → Rep t b p' q' → below s a t b ≡ ltb (p + q') (q + p')
 rep-below false false a b p q p' q' e f = both-ltb (p + q') (q + p') a b (λ (h : p + q' < q + p'). omega arith) (λ (h : q + p' ≤ p + q'). omega arith)
-rep-below false true a b p q p' q' e f = sym (ltb-no (p + q') (q + p') (omega arith))
+rep-below false true a b p q p' q' e f = sym (le-ltb (p + q') (q + p') (omega arith))
 rep-below true false a b p q p' q' e f = both-ltb (p + q') (q + p') 0 (a + b) (λ (h : p + q' < q + p'). omega arith) (λ (h : q + p' ≤ p + q'). omega arith)
 rep-below true true a b p q p' q' e f = both-ltb (p + q') (q + p') b a (λ (h : p + q' < q + p'). omega arith) (λ (h : q + p' ≤ p + q'). omega arith)
 
 pub rep-level : (s t : Bool) (a b p q p' q' : ℕ) → Rep s a p q → Rep t b p' q' → level s a t b ≡ eqb (p + q') (q + p')
 rep-level s t a b p q p' q' e f = go s t e f
   where
-    and-true : (b : Bool) → b && true ≡ b
-    and-true true = refl
-    and-true false = refl
-
     both : (u v w : Bool) → (T u → a ≡ b) → (a ≡ b → T u) → (T v → a ≡ 0) → (a ≡ 0 → T v) → (T w → p + q' ≡ q + p') → (p + q' ≡ q + p' → T w) → (p + q' ≡ q + p' → a ≡ 0) → (p + q' ≡ q + p' → b ≡ 0) → (a ≡ b → a ≡ 0 → p + q' ≡ q + p') → u && v ≡ w
     both true true true f1 f2 g1 g2 h1 h2 i j k = refl
     both true true false f1 f2 g1 g2 h1 h2 i j k = absurd (h2 (k (f1 tt) (g1 tt)))

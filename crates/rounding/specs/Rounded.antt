@@ -1,15 +1,14 @@
 -- The comparisons of two floats by the fractions that they equal; and of two rounded fractions by their cross products. Assumes nothing.
-use mathlib.Core.Path.{_≡_, refl, sym, ap, ap₂, _∙_, subst}
+use mathlib.Core.Path.{_≡_, refl, sym, ap, ap₂, _∙_}
 use mathlib.Core.Logic.{_⊎_, inl, inr}
 use Prim.Native.Nat.{ℕ, zero, suc, _+_, _-_, _*_, _/_, _^_, _≤_, _<_}
-use native.Mathlib.Nat.{le-trans, le-of-eq, le-of-lt, lt-of-lt-of-le, lt-of-le-of-lt, lt-of-not-le, mul-comm, mul-assoc, mul-right-comm, mul-le-mul-right, mul-le-mul-left, mul-pos, zero-mul, eq-of-mul-eq-mul-right, eq-zero-or-pos, le-of-mul-le-mul-right, mul-le-mul, add-le-add}
+use native.Mathlib.Nat.{le-trans, le-of-lt, lt-of-le-of-lt, lt-of-not-le, mul-le-mul-right, mul-le-mul-left, mul-pos, zero-mul, eq-of-mul-eq-mul-right, eq-zero-or-pos, mul-le-mul, add-le-add}
 use native.Mathlib.Omega.{arith}
-use mathlib.Core.Bool.{Bool, true, false, not, _&&_, _||_, Bool·beq, cond}
-use lib.IntN.{ℤ, pos, negsuc}
-use lib.Dec.{T, ltb, eqb, lit≤, lit<}
+use mathlib.Core.Bool.{Bool, _||_}
+use lib.Dec.{lit≤, lit<}
 use lib.Pow.{pow-pos}
-use lib.Ieee.{Float, nan, inf, fin, Format, binary64, prec, emax, low, up, down, round, below, level, lt, eq, le}
-use lib.Ieee.Fits.{up-pos, down-pos}
+use lib.Ieee.{Float, nan, inf, fin, binary64, up, down, round, below, level, lt, eq, le}
+use lib.Ieee.Fits.{down-pos}
 use lib.Ieee.Exact.{HasValue}
 use lib.Ieee.Positive.{first-pos}
 use lib.Ieee.Scale.{grid, overflow}

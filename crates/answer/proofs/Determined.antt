@@ -1,0 +1,20 @@
+-- Any two answers that a promise allows are equal: stated over the contracts themselves, as a caller learns them.
+-- Assumes nothing.
+use mathlib.Core.Path.{sym, _∙_}
+use Rattle.basics.specs.Determined.{Determined}
+use Rattle.answer.proofs.refuse.Reads as refuse-reads
+use Rattle.answer.proofs.fail.Reads as fail-reads
+use Rattle.answer.proofs.claim.Reads as claim-reads
+use Rattle.answer.proofs.plus.Reads as plus-reads
+
+pub refuse : Determined refuse-reads.Learnt
+refuse κ a r r' e e' p q = p ∙ sym q
+
+pub fail : Determined fail-reads.Learnt
+fail κ a r r' e e' p q = p ∙ sym q
+
+pub claim : Determined claim-reads.Learnt
+claim κ a r r' e e' p q = p ∙ sym q
+
+pub plus : Determined plus-reads.Learnt
+plus κ a r r' e e' p q = p ∙ sym q

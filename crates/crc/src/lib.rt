@@ -1,0 +1,151 @@
+// CRC-32 of IEEE 802.3, sixteen bytes at a time by sixteen tables. The tables are made by code, and lent by reference.
+ghost use mathlib.Core.Path.{_≡_};
+ghost use Prim.Native.Nat.{_+_, _*_, _%_, _<_, _≤_};
+ghost use lib.ListN.{length, drop, take};
+ghost use Rattle.crc.specs.Crc32.{step, steps, bytes, crc32, Filled};
+
+fn wide(b: u8) -> u32
+    ensures { λ r. ⌜ (r ≡ b) × (r < 256) ⌝ }
+{
+    b as u32
+}
+
+fn wide64(x: u32) -> u64
+    ensures { λ r. ⌜ r ≡ x ⌝ }
+{
+    x as u64
+}
+
+fn narrow(i: usize) -> u32
+    requires { ⌜ i < 256 ⌝ }
+    ensures { λ r. ⌜ r ≡ i ⌝ }
+{
+    i as u32
+}
+
+// The lowest byte.
+fn low(v: u64) -> usize
+    ensures { λ r. ⌜ (r ≡ v % 256) × (r < 256) ⌝ }
+{
+    (v % 256) as usize
+}
+
+// One bit leaves the register.
+fn one(c: u32) -> u32
+    ensures { λ r. ⌜ r ≡ step c ⌝ }
+{
+    if c % 2 == 0 {
+        c / 2
+    } else {
+        0xedb8_8320 ^ (c / 2)
+    }
+}
+
+// Eight bits leave the register.
+fn eight(c: u32) -> u32
+    ensures { λ r. ⌜ r ≡ steps 8 c ⌝ }
+{
+    one(one(one(one(one(one(one(one(c))))))))
+}
+
+// The first table, bit by bit; the others still empty.
+fn first_row() -> [u32; 4096]
+    ensures { λ r. ⌜ Filled r 256 ⌝ }
+{
+    let mut t = [0u32; 4096];
+    let mut i: usize = 0;
+    while i < 256 {
+        t[i] = eight(narrow(i));
+        i += 1;
+    }
+    t
+}
+
+// All sixteen tables: each entry after the first 256 comes from the one 256 places before it.
+pub fn tables() -> [u32; 4096]
+    ensures { λ r. ⌜ Filled r 4096 ⌝ }
+{
+    let mut t = first_row();
+    let mut i: usize = 256;
+    while i < 4096 {
+        let prev = t[i - 256];
+        t[i] = t[low(wide64(prev))] ^ (prev / 256);
+        i += 1;
+    }
+    t
+}
+
+// The entry of table k for the lowest byte of v: what that byte leaves with k more bytes to come.
+fn slot(t: &[u32; 4096], k: usize, v: u64) -> u32
+    requires { ⌜ (k < 16) × Filled (now t) 4096 ⌝ }
+    ensures { λ r. ⌜ r ≡ steps (8 * (k + 1)) (v % 256) ⌝ }
+{
+    t[256 * k + low(v)]
+}
+
+// What the eight bytes of v0 leave with k more bytes to come.
+fn word(t: &[u32; 4096], k: usize, v0: u64) -> u32
+    requires { ⌜ (k ≤ 8) × Filled (now t) 4096 ⌝ }
+    ensures { λ r. ⌜ r ≡ steps (8 * (k + 8)) v0 ⌝ }
+{
+    let v1 = v0 / 256;
+    let v2 = v1 / 256;
+    let v3 = v2 / 256;
+    let v4 = v3 / 256;
+    let v5 = v4 / 256;
+    let v6 = v5 / 256;
+    let v7 = v6 / 256;
+    slot(t, k + 7, v0)
+        ^ (slot(t, k + 6, v1)
+            ^ (slot(t, k + 5, v2)
+                ^ (slot(t, k + 4, v3)
+                    ^ (slot(t, k + 3, v4)
+                        ^ (slot(t, k + 2, v5) ^ (slot(t, k + 1, v6) ^ slot(t, k, v7)))))))
+}
+
+// The register after the sixteen bytes from i on.
+fn sixteen(t: &[u32; 4096], c: u32, s: &[u8], i: usize) -> u32
+    requires { ⌜ (i + 16 ≤ length (now s)) × Filled (now t) 4096 ⌝ }
+    ensures { λ r. ⌜ r ≡ bytes c (take 16 (drop i (now (s .entry)))) ⌝ }
+{
+    let lo = wide64(c) ^ fields::u64_at(s, i);
+    let hi = fields::u64_at(s, i + 8);
+    word(t, 8, lo) ^ word(t, 0, hi)
+}
+
+// The register after the bytes from `from` on, one at a time.
+fn tail(t: &[u32; 4096], c0: u32, s: &[u8], from: usize) -> u32
+    requires { ⌜ (from ≤ length (now s)) × Filled (now t) 4096 ⌝ }
+    ensures { λ r. ⌜ r ≡ bytes c0 (drop from (now (s .entry))) ⌝ }
+{
+    let mut c = c0;
+    let mut i = from;
+    while i < s.len() {
+        c = (c / 256) ^ slot(t, 0, wide64(c ^ wide(s[i])));
+        i += 1;
+    }
+    c
+}
+
+// CRC-32 with tables that the caller has made: the one function of this crate with a `requires`
+// that others reach, because a table lent by reference carries its rule.
+pub fn crc32_with(t: &[u32; 4096], s: &[u8]) -> u32
+    requires { ⌜ Filled (now t) 4096 ⌝ }
+    ensures { λ r. ⌜ r ≡ crc32 (now (s .entry)) ⌝ }
+{
+    let mut c: u32 = 0xffff_ffff;
+    let mut i = 0;
+    while 16 <= s.len() - i {
+        c = sixteen(t, c, s, i);
+        i += 16;
+    }
+    tail(t, c, s, i) ^ 0xffff_ffff
+}
+
+// CRC-32 of any bytes.
+pub fn crc32_ieee(s: &[u8]) -> u32
+    ensures { λ r. ⌜ r ≡ crc32 (now (s .entry)) ⌝ }
+{
+    let t = tables();
+    crc32_with(&t, s)
+}

@@ -1,0 +1,88 @@
+-- Any two answers that a promise allows are equal: stated over the contracts themselves. Two values of an enum that tell the same are the same.
+-- Assumes nothing.
+use mathlib.Core.Path.{_≡_, sym, _∙_}
+use Prim.Native.Nat.{ℕ}
+use lib.IntN.{ℤ}
+use Rattle.basics.specs.Determined.{Determined}
+use Rattle.answer.specs.Answers.{Answer}
+use Rattle.fields.proofs.u16_le.Reads as u16-le-reads
+use Rattle.fields.proofs.u16_at.Reads as u16-at-reads
+use Rattle.fields.proofs.u32_le.Reads as u32-le-reads
+use Rattle.fields.proofs.u32_at.Reads as u32-at-reads
+use Rattle.fields.proofs.u64_le.Reads as u64-le-reads
+use Rattle.fields.proofs.u64_at.Reads as u64-at-reads
+use Rattle.fields.proofs.i16_le.Reads as i16-le-reads
+use Rattle.fields.proofs.i16_at.Reads as i16-at-reads
+use Rattle.fields.proofs.i32_le.Reads as i32-le-reads
+use Rattle.fields.proofs.i32_at.Reads as i32-at-reads
+use Rattle.fields.specs.Loads.{told16, told32, told64, toldI16, toldI32}
+use Rattle.fields.specs.declared.Loaded16.{Loaded16}
+use Rattle.fields.specs.declared.Loaded16.the-variants as L16
+use Rattle.fields.specs.declared.Loaded32.{Loaded32}
+use Rattle.fields.specs.declared.Loaded32.the-variants as L32
+use Rattle.fields.specs.declared.Loaded64.{Loaded64}
+use Rattle.fields.specs.declared.Loaded64.the-variants as L64
+use Rattle.fields.specs.declared.LoadedI16.{LoadedI16}
+use Rattle.fields.specs.declared.LoadedI16.the-variants as I16
+use Rattle.fields.specs.declared.LoadedI32.{LoadedI32}
+use Rattle.fields.specs.declared.LoadedI32.the-variants as I32
+
+one16 : (a b : Loaded16) (x : Answer ℕ) → told16 a ≡ x → told16 b ≡ x → a ≡ b
+one16 (L16.Value p) (L16.Value q) x e f = cc
+one16 (L16.Value p) (L16.Refused k) x e f = cc
+one16 (L16.Refused k) (L16.Value p) x e f = cc
+one16 (L16.Refused k) (L16.Refused l) x e f = cc
+
+one32 : (a b : Loaded32) (x : Answer ℕ) → told32 a ≡ x → told32 b ≡ x → a ≡ b
+one32 (L32.Value p) (L32.Value q) x e f = cc
+one32 (L32.Value p) (L32.Refused k) x e f = cc
+one32 (L32.Refused k) (L32.Value p) x e f = cc
+one32 (L32.Refused k) (L32.Refused l) x e f = cc
+
+one64 : (a b : Loaded64) (x : Answer ℕ) → told64 a ≡ x → told64 b ≡ x → a ≡ b
+one64 (L64.Value p) (L64.Value q) x e f = cc
+one64 (L64.Value p) (L64.Refused k) x e f = cc
+one64 (L64.Refused k) (L64.Value p) x e f = cc
+one64 (L64.Refused k) (L64.Refused l) x e f = cc
+
+oneI16 : (a b : LoadedI16) (x : Answer ℤ) → toldI16 a ≡ x → toldI16 b ≡ x → a ≡ b
+oneI16 (I16.Value p) (I16.Value q) x e f = cc
+oneI16 (I16.Value p) (I16.Refused k) x e f = cc
+oneI16 (I16.Refused k) (I16.Value p) x e f = cc
+oneI16 (I16.Refused k) (I16.Refused l) x e f = cc
+
+oneI32 : (a b : LoadedI32) (x : Answer ℤ) → toldI32 a ≡ x → toldI32 b ≡ x → a ≡ b
+oneI32 (I32.Value p) (I32.Value q) x e f = cc
+oneI32 (I32.Value p) (I32.Refused k) x e f = cc
+oneI32 (I32.Refused k) (I32.Value p) x e f = cc
+oneI32 (I32.Refused k) (I32.Refused l) x e f = cc
+
+pub u16-le : Determined u16-le-reads.Learnt
+u16-le κ a r r' e e' p q = one16 r r' _ p q
+
+pub u32-le : Determined u32-le-reads.Learnt
+u32-le κ a r r' e e' p q = one32 r r' _ p q
+
+pub u64-le : Determined u64-le-reads.Learnt
+u64-le κ a r r' e e' p q = one64 r r' _ p q
+
+pub i16-le : Determined i16-le-reads.Learnt
+i16-le κ a r r' e e' p q = oneI16 r r' _ p q
+
+pub i32-le : Determined i32-le-reads.Learnt
+i32-le κ a r r' e e' p q = oneI32 r r' _ p q
+
+pub u16-at : Determined u16-at-reads.Learnt
+u16-at κ a r r' e e' p q = p ∙ sym q
+
+pub u32-at : Determined u32-at-reads.Learnt
+u32-at κ a r r' e e' p q = p ∙ sym q
+
+pub u64-at : Determined u64-at-reads.Learnt
+u64-at κ a r r' e e' p q = p ∙ sym q
+
+pub i16-at : Determined i16-at-reads.Learnt
+i16-at κ a r r' e e' p q = p ∙ sym q
+
+pub i32-at : Determined i32-at-reads.Learnt
+i32-at κ a r r' e e' p q = p ∙ sym q

@@ -1,0 +1,29 @@
+-- `fields::i32_le` meets its contract, by the two laws of `signedAt`.
+-- Assumes nothing.
+use mathlib.Core.Path.{_∙_}
+use mir.Syntax.{w32}
+use mir.ValLaws.{toZ-ofZ}
+use borrow.Author.Needs.{needs}
+use Rattle.fields.specs.Loads.{room, signed-past, signed-in}
+use Rattle.fields.proofs.i32_le.Statement.{statement}
+use Rattle.fields.proofs.i32_le.Tie as tie
+
+inside-requires : tie.Need-inside-requires
+inside-requires c κs = search needs
+
+refuse-requires : tie.Need-refuse-requires
+refuse-requires c κs = search needs
+
+returns : tie.Need-returns
+returns c = signed-past _ _ _ _ (c .before .before .inside .ensures) _ _ (c .before .if1 .taken) (c .refuse .ensures)
+
+i32-at-requires : tie.Need-i32-at-requires
+i32-at-requires c κs = room _ _ _ _ (c .before .inside .ensures) (c .if1 .left)
+
+returns-2 : tie.Need-returns-2
+returns-2 c =
+    signed-in _ _ _ _ (c .before .before .inside .ensures) _ _ (c .before .if1 .left)
+    (toZ-ofZ w32 (c .i32-at .result) (record { sfits = c .i32-at .ok }) ∙ c .i32-at .ensures)
+
+pub i32-le-spec : {M : Type 1} → statement M
+i32-le-spec = tie.close (tie.spec inside-requires refuse-requires returns i32-at-requires returns-2)

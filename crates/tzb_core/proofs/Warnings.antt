@@ -1,0 +1,40 @@
+-- Document 01, "Errors that look right", of the ray test: floats are not exact everywhere. Each line is computed from the definitions.
+-- Assumes nothing.
+use mathlib.Core.Path.{_≡_, refl}
+use mathlib.Core.Bool.{true, false}
+use lib.IntN.{ℤ, pos, negsuc}
+use lib.Ieee.{fin, ofInt, lt, eq, sub, div}
+use Rattle.plane.specs.declared.Point.{Point}
+use Rattle.plane.specs.declared.I32Point.{I32Point}
+use Rattle.plane.specs.declared.Seen.the-variants.{On, Off}
+use Rattle.plane.specs.Segment.{seg, cross, onZ, countsZ, amidZ}
+use Rattle.tzb_core.specs.Ray.{rayOf, rayAt, touches, pointOf}
+
+abbrev pub spot : ℤ → ℤ → I32Point
+spot x y = record { x = x; y = y }
+
+-- segment (1, 0) to (0, 1) and point (-2^-60, 1): on the segment, by floats, since -2^-60 - 1 rounds to -1
+abbrev pub aside : Point
+aside = record { x = fin true 1 (negsuc 59); y = fin false 1 (pos 0) }
+
+pub beside-is-on : rayOf (spot (pos 1) (pos 0)) (spot (pos 0) (pos 1)) aside ≡ On
+unfolding rayOf rayAt touches lt ofInt eq div sub
+beside-is-on = refl
+
+-- outside the domain, (-2^31, -2^31) to (2^31 - 1, 2^31 - 2) at (2^31 - 2, 2^31 - 3): on by floats, and in truth neither on nor counted
+abbrev pub least : I32Point
+least = spot (negsuc 0x7fff_ffff) (negsuc 0x7fff_ffff)
+
+abbrev pub most : I32Point
+most = spot (pos 0x7fff_ffff) (pos 0x7fff_fffe)
+
+abbrev pub near : I32Point
+near = spot (pos 0x7fff_fffe) (pos 0x7fff_fffd)
+
+pub outside-is-on : rayOf least most (pointOf near) ≡ On
+unfolding rayOf rayAt touches lt ofInt eq div sub
+outside-is-on = refl
+
+pub outside-is-off : seg near least most ≡ Off false
+unfolding seg onZ countsZ amidZ cross
+outside-is-off = refl

@@ -1,0 +1,15 @@
+-- `raycast::is_steep` meets its contract: each branch is one case of the definition.
+-- Assumes nothing.
+use mathlib.Core.Path.{refl}
+use Rattle.tzb_core.proofs.Steps.{yes-is, no-is}
+use Rattle.tzb_core.proofs.raycast.is_steep.Statement.{statement}
+use Rattle.tzb_core.proofs.raycast.is_steep.Tie as tie
+
+returns : tie.Need-returns
+returns c = yes-is _ _ _ _ (c .if1 .taken) refl
+
+returns-2 : tie.Need-returns-2
+returns-2 c = no-is _ _ _ _ (c .if1 .left) refl
+
+pub is-steep-spec : {M : Type 1} → statement M
+is-steep-spec = tie.close (tie.spec returns returns-2)

@@ -1,0 +1,2 @@
+-- What the lower crate's functions answer.
+pub mod Ray

@@ -1,0 +1,101 @@
+-- `utf8::utf8_ok` meets its contract. The loop's invariant: what is left from i on is UTF-8 exactly if the whole is. The measure is what is left.
+-- Assumes nothing.
+use mathlib.Core.Path.{_≡_, refl, sym, ap, _∙_}
+use mathlib.Core.List.{[]}
+use mathlib.Core.Bool.{Bool, _&&_, not}
+use Prim.Native.Nat.{_+_, _-_, _≤_}
+use native.Mathlib.Omega.{arith}
+use lib.ListN.{length, drop}
+use borrow.Author.Tests.{eq-eqb, ne-eqb}
+use Rattle.utf8.specs.Rfc3629.{utf8}
+use Rattle.utf8.proofs.Steps.{past}
+use Rattle.utf8.proofs.Ascii.{eight}
+use borrow.Author.Needs.{needs}
+use Rattle.utf8.proofs.utf8_ok.Statement.{statement}
+use Rattle.utf8.proofs.utf8_ok.Tie as tie
+
+abbrev Inv-loop : tie.InvT-loop
+Inv-loop s i₀ i = (i ≤ length s) × (utf8 [] s ≡ utf8 [] (drop i s))
+
+abbrev μ-loop : tie.MeasureT-loop
+μ-loop s i₀ i = length s - i
+
+loop-holds : tie.Need-loop-holds Inv-loop μ-loop
+loop-holds c = (omega arith, refl)
+
+plain-requires : tie.Need-plain-requires Inv-loop μ-loop
+plain-requires c κs = search needs
+
+add-i : tie.Need-add-i Inv-loop μ-loop
+add-i c =
+    let a = c .before .before .before in
+    let g = a .before .before .args in
+    let e = eight (g .s .now) (λ i. a .before .shared-slice-known .given i .fits) (a .loop .i) _ (c .before .plain .ensures) (c .if1 .taken) in
+    omega (arith, e .0)
+
+loop-less : tie.Need-loop-less Inv-loop μ-loop
+loop-less c =
+    let a = c .before .before .before in
+    let g = a .before .before .args in
+    let e = eight (g .s .now) (λ i. a .before .shared-slice-known .given i .fits) (a .loop .i) _ (c .before .plain .ensures) (c .if1 .taken) in
+    omega (arith, e .0)
+
+loop-again : tie.Need-loop-again Inv-loop μ-loop
+loop-again c =
+    let a = c .before .before .before in
+    let g = a .before .before .args in
+    let e = eight (g .s .now) (λ i. a .before .shared-slice-known .given i .fits) (a .loop .i) _ (c .before .plain .ensures) (c .if1 .taken) in
+    (e .0, a .loop .inv .1 ∙ e .1)
+
+size-requires : tie.Need-size-requires Inv-loop μ-loop
+size-requires c κs = search needs
+
+returns : tie.Need-returns Inv-loop μ-loop
+returns c =
+    let z = c .before in
+    let a = z .before .before .before .before in
+    let g = a .before .before .args in
+    sym (a .loop .inv .1 ∙ z .size .ensures .0
+    ∙ ap (λ (t : Bool). not t && utf8 [] (drop (a .loop .i + z .size .result) (g .s .now))) (eq-eqb _ _ (c .if2 .taken)))
+
+add-i-2 : tie.Need-add-i-2 Inv-loop μ-loop
+add-i-2 c = omega arith
+
+loop-less-2 : tie.Need-loop-less-2 Inv-loop μ-loop
+loop-less-2 c =
+    let f = c .if2 .left in
+    omega arith
+
+loop-again-2 : tie.Need-loop-again-2 Inv-loop μ-loop
+loop-again-2 c =
+    let z = c .before in
+    let a = z .before .before .before .before in
+    let g = a .before .before .args in (
+      omega arith,
+      a .loop .inv .1 ∙ z .size .ensures .0
+          ∙ ap (λ (t : Bool). not t && utf8 [] (drop (a .loop .i + z .size .result) (g .s .now))) (ne-eqb _ _ (c .if2 .left)),
+    )
+
+returns-2 : tie.Need-returns-2 Inv-loop μ-loop
+returns-2 c =
+    let a = c .before in
+    let g = a .before .before .args in
+    sym (a .loop .inv .1 ∙ ap (utf8 []) (past (g .s .now) (a .loop .i) (omega arith)))
+
+pub utf8-ok-spec : {M : Type 1} → statement M
+utf8-ok-spec =
+    tie.close
+    (tie.spec
+    Inv-loop
+    μ-loop
+    loop-holds
+    plain-requires
+    add-i
+    loop-less
+    loop-again
+    size-requires
+    returns
+    add-i-2
+    loop-less-2
+    loop-again-2
+    returns-2)
