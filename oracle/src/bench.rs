@@ -9,7 +9,7 @@ use std::hint::black_box;
 use std::path::Path;
 use std::time::{Duration, Instant};
 
-const ROUNDS: usize = 15;
+const ROUNDS: usize = 40;
 
 // The original behind calls as costly as those of the port.
 
@@ -55,7 +55,7 @@ pub fn run(file: Option<&Path>) {
     let names: Vec<Vec<u8>> =
         (0..20_000).map(|i| ascii[i * 20..i * 20 + 8 + i % 20].to_vec()).collect();
 
-    println!("{:<34}{:>12}{:>12}{:>8}", "item", "port", "original", "ratio");
+    println!("{:<46}{:>12}{:>12}{:>8}", "item", "port", "original", "ratio");
     let all = [whole];
     of_bytes("CRC-32", &all, tzb_crc32, original_crc32);
     of_bytes("UTF-8, ASCII", &[ascii], tzb_utf8, original_utf8);
@@ -110,7 +110,7 @@ fn row(name: &str, items: usize, port: &mut dyn FnMut() -> u64, original: &mut d
     }
     let each = |d: Duration| d.as_secs_f64() * 1e9 / items as f64;
     let ratio = o.as_secs_f64() / p.as_secs_f64();
-    println!("{name:<34}{:>9.2} ns{:>9.2} ns{ratio:>8.2}", each(p), each(o));
+    println!("{name:<46}{:>9.2} ns{:>9.2} ns{ratio:>8.2}", each(p), each(o));
 }
 
 fn time(f: &mut dyn FnMut() -> u64) -> Duration {
