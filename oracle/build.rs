@@ -32,7 +32,7 @@ fn main() {
 
     let library = archive.join("libtzb_c.a");
     if !library.exists() {
-        panic!("{} is not there: run 'rt staticlib tzb_c' first", library.display());
+        stop(&format!("{} is not there: run 'rt staticlib tzb_c' first", library.display()));
     }
     println!("cargo:rerun-if-changed={}", library.display());
     println!("cargo:rerun-if-changed=shims/tzb");
@@ -47,5 +47,10 @@ fn folder(root: &Path, variable: &str, default: &str) -> PathBuf {
 
 fn read(path: &Path) -> String {
     println!("cargo:rerun-if-changed={}", path.display());
-    fs::read_to_string(path).unwrap_or_else(|e| panic!("{}: {e}", path.display()))
+    fs::read_to_string(path).unwrap_or_else(|e| stop(&format!("{}: {e}", path.display())))
+}
+
+fn stop(why: &str) -> ! {
+    eprintln!("{why}");
+    std::process::exit(1)
 }

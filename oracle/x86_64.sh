@@ -5,7 +5,7 @@
 #   sh oracle/x86_64.sh run WORDS..     builds the oracle and runs it, as 'run compare 60'
 #   sh oracle/x86_64.sh test            the oracle's own tests
 set -e
-cd "$(dirname "$0")"
+folder=$(dirname "$0")
 task=$1
 [ $# -gt 0 ] && shift
 
@@ -26,7 +26,7 @@ fi
 
 case $task in
   setup) ;;
-  run) exec cargo run --release --quiet --offline -- "$@" ;;
-  test) exec cargo test --release --quiet --offline ;;
+  run) exec cargo run --release --quiet --offline --manifest-path "$folder/Cargo.toml" -- "$@" ;;
+  test) exec cargo test --release --quiet --offline --manifest-path "$folder/Cargo.toml" ;;
   *) sed -n 's/^#   //p' "$0" >&2; exit 2 ;;
 esac
