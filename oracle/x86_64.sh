@@ -11,6 +11,7 @@ task=$1
 
 if [ "$(uname -m)" != x86_64 ]; then
   if [ "$task" = setup ]; then
+    wanted=
     command -v cargo >/dev/null || wanted=cargo-web
     dpkg --add-architecture amd64
     apt-get update -qq

@@ -56,8 +56,7 @@ pub fn run(file: Option<&Path>) {
         (0..20_000).map(|i| ascii[i * 20..i * 20 + 8 + i % 20].to_vec()).collect();
 
     println!("{:<46}{:>12}{:>12}{:>8}", "item", "port", "original", "ratio");
-    let all = [whole];
-    of_bytes("CRC-32", &all, tzb_crc32, original_crc32);
+    of_bytes("CRC-32", &[whole], tzb_crc32, original_crc32);
     of_bytes("UTF-8, ASCII", &[ascii], tzb_utf8, original_utf8);
     of_bytes("UTF-8, mixed text", &[mixed], tzb_utf8, original_utf8);
     of_bytes("UTF-8, names of 8 to 27 letters", &names, tzb_utf8, original_utf8);

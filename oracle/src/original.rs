@@ -21,10 +21,17 @@ pub fn reading(data: &[u8], at: usize) -> Reading {
     }
     match tzb::varint_at(data, at) {
         Ok((number, bytes)) => Reading { number, length: bytes as i32 },
-        Err(Error::Malformed("truncated varint")) => refused(38),
-        Err(Error::Malformed("nonminimal varint")) => refused(39),
-        Err(Error::Malformed("varint exceeds 32 bits")) => refused(40),
-        Err(e) => panic!("{data:02x?} at {at}: {e}"),
+        Err(e) => refused(refusal(&e)),
+    }
+}
+
+#[cold]
+fn refusal(e: &Error) -> i32 {
+    match e {
+        Error::Malformed("truncated varint") => 38,
+        Error::Malformed("nonminimal varint") => 39,
+        Error::Malformed("varint exceeds 32 bits") => 40,
+        _ => panic!("no refusal of a number: {e}"),
     }
 }
 
