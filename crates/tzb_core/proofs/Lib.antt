@@ -1,0 +1,5 @@
+-- What the proofs of the functions lean on, and what follows from the definitions.
+pub mod Sums
+pub mod Equals
+pub mod Corners
+pub mod Digits

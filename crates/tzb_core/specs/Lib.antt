@@ -1,0 +1,3 @@
+-- What the lower crate answers: boxes, numbers.
+pub mod Box
+pub mod Varint

@@ -1,0 +1,3 @@
+// The lower crate: boxes, the varint and the ray test. What stands above it sees only their promises.
+pub mod bbox;
+pub mod varint;
