@@ -8,10 +8,9 @@ use native.Mathlib.Omega.{arith}
 use mathlib.Core.List.{List}
 use mathlib.Core.Bool.{Bool, true, false}
 use lib.ListN.{length, getD}
-use lib.IntN.{ℤ}
 use borrow.Author.Tests.{lt-ltb, le-ltb, le-leb, lt-leb, eq-eqb, ne-eqb}
 use Rattle.answer.specs.Answers.{Answer, ok, refused, no}
-use Rattle.tzb_core.specs.Varint.{unzig, last, below, digits, signed, numberAt, rest}
+use Rattle.tzb_core.specs.Varint.{last, below, digits, rest}
 
 -- ---- the digits, by what the byte is
 module _ (s : List ℕ) (p : ℕ) where
@@ -48,58 +47,59 @@ below-below : (n u d : ℕ) (x : Answer (ℕ × ℕ)) → below (n + u * d) (u *
 below-below n u d (ok t) = ap (λ (k : ℕ). ok (k, t .1)) (omega arith)
 below-below n u d (refused r) = refl
 
--- ---- the whole number, by its first byte b
-module _ (s : List ℕ) (p b : ℕ) where
-  pub first-out : length s ≤ p → no 38 ≡ numberAt s p
-  unfolding numberAt
-  first-out h = sym (ap signed (digits-out s p 4 true h))
+-- ---- the digits, by the first byte b
+module _ (s : List ℕ) (p b : ℕ) (h : p < length s) (e : b ≡ getD s p 0) where
+  pub first-only : b < 128 → ok (b, p + 1) ≡ digits 4 true s p
+  first-only l = rw e (sym (digits-end s p h 3 true (omega arith)))
 
-  pub first-only : p < length s → b ≡ getD s p 0 → b < 128 → ok (unzig b, p + 1) ≡ numberAt s p
-  unfolding numberAt
-  first-only h e l = rw e (sym (ap signed (digits-end s p h 3 true (omega arith))))
+  pub first-more : 128 ≤ b → rest (b - 128) 128 3 s (p + 1) ≡ digits 4 true s p
+  unfolding rest
+  first-more l = rw e (sym (digits-more s p h 3 true (omega arith)))
 
-  pub first-more : p < length s → b ≡ getD s p 0 → 128 ≤ b → rest (b - 128) 128 3 s (p + 1) ≡ numberAt s p
-  unfolding numberAt rest
-  first-more h e l = rw e (sym (ap signed (digits-more s p h 3 true (omega arith))))
-
--- ---- what is left of it, by the next byte b
+-- ---- what is left of them, by the next byte b
 module _ (n u : ℕ) (s : List ℕ) (p : ℕ) where
   pub rest-out : (k : ℕ) → length s ≤ p → no 38 ≡ rest n u k s p
   unfolding rest
-  rest-out k h = sym (ap (λ x. signed (below n u x)) (digits-out s p k false h))
+  rest-out k h = sym (ap (below n u) (digits-out s p k false h))
 
   module _ (b : ℕ) (h : p < length s) (e : b ≡ getD s p 0) where
-    pub rest-zero : (k : ℕ) → 0 < k → b ≡ 0 → no 39 ≡ rest n u k s p
+    -- a last byte
+    zero-at : (k : ℕ) → digits k false s p ≡ last false (getD s p 0) (p + 1) → b ≡ 0 → no 39 ≡ rest n u k s p
     unfolding rest
-    rest-zero zero z i = absurd (not-suc-le-zero z)
-    rest-zero (suc k) z i =
-        sym (ap (λ x. signed (below n u x)) (digits-end s p h k false (omega arith) ∙ last-zero _ (p + 1) (sym e ∙ i)))
+    zero-at k d i = sym (ap (below n u) (d ∙ last-zero _ (p + 1) (sym e ∙ i)))
 
-    pub rest-end : (k : ℕ) → 0 < k → b < 128 → (b ≡ 0 → ⊥) → ok (unzig (n + u * b), p + 1) ≡ rest n u k s p
+    end-at : (k : ℕ) → digits k false s p ≡ last false (getD s p 0) (p + 1) → (b ≡ 0 → ⊥) → ok (n + u * b, p + 1) ≡ rest n u k s p
     unfolding rest
-    rest-end zero z l i = absurd (not-suc-le-zero z)
-    rest-end (suc k) z l i =
-        sym (ap (λ x. signed (below n u x)) (digits-end s p h k false (omega arith) ∙ ap (λ (d : ℕ). last false d (p + 1)) (sym e) ∙ last-whole b (p + 1) i))
+    end-at k d i = sym (ap (below n u) (d ∙ ap (λ (x : ℕ). last false x (p + 1)) (sym e) ∙ last-whole b (p + 1) i))
+
+    -- before the fifth
+    last-at : (k : ℕ) → 0 < k → b < 128 → digits k false s p ≡ last false (getD s p 0) (p + 1)
+    last-at zero z l = absurd (not-suc-le-zero z)
+    last-at (suc k) z l = digits-end s p h k false (omega arith)
+
+    pub rest-zero : (k : ℕ) → 0 < k → b < 128 → b ≡ 0 → no 39 ≡ rest n u k s p
+    rest-zero k z l = zero-at k (last-at k z l)
+
+    pub rest-end : (k : ℕ) → 0 < k → b < 128 → (b ≡ 0 → ⊥) → ok (n + u * b, p + 1) ≡ rest n u k s p
+    rest-end k z l = end-at k (last-at k z l)
 
     pub rest-more : (k : ℕ) → 0 < k → 128 ≤ b → rest (n + u * (b - 128)) (u * 128) (k - 1) s (p + 1) ≡ rest n u k s p
     unfolding rest
     rest-more zero z l = absurd (not-suc-le-zero z)
     rest-more (suc k) z l =
-        rw (e, sub-one) (ap signed (below-below n u (getD s p 0 - 128) (digits k false s (p + 1))
-        ∙ ap (below n u) (sym (digits-more s p h k false (omega arith)))))
+        rw (e, sub-one) (below-below n u (getD s p 0 - 128) (digits k false s (p + 1))
+        ∙ ap (below n u) (sym (digits-more s p h k false (omega arith))))
 
+    -- the fifth
     pub fifth-high : 15 < b → no 40 ≡ rest n u 0 s p
     unfolding rest
-    fifth-high l = sym (ap (λ x. signed (below n u x)) (digits-high s p h false (omega arith)))
+    fifth-high l = sym (ap (below n u) (digits-high s p h false (omega arith)))
 
     pub fifth-zero : b ≤ 15 → b ≡ 0 → no 39 ≡ rest n u 0 s p
-    unfolding rest
-    fifth-zero l i = sym (ap (λ x. signed (below n u x)) (digits-fifth s p h false (omega arith) ∙ last-zero _ (p + 1) (sym e ∙ i)))
+    fifth-zero l = zero-at 0 (digits-fifth s p h false (omega arith))
 
-    pub fifth-end : b ≤ 15 → (b ≡ 0 → ⊥) → ok (unzig (n + u * b), p + 1) ≡ rest n u 0 s p
-    unfolding rest
-    fifth-end l i =
-        sym (ap (λ x. signed (below n u x)) (digits-fifth s p h false (omega arith) ∙ ap (λ (d : ℕ). last false d (p + 1)) (sym e) ∙ last-whole b (p + 1) i))
+    pub fifth-end : b ≤ 15 → (b ≡ 0 → ⊥) → ok (n + u * b, p + 1) ≡ rest n u 0 s p
+    fifth-end l = end-at 0 (digits-fifth s p h false (omega arith))
 
 -- ---- the sums fit
 -- the numbers that k more digits after the first can hold are below it: 2 ^ 32 where k is 4

@@ -1,15 +1,19 @@
 -- Document 01, "Chunk bytes": Protocol Buffers' sint32 ("Encoding", base 128 varints and zigzag), in one to five bytes, read from place p of the bytes s.
 -- Assumes nothing.
 use Prim.Native.Nat.{ℕ, zero, suc, _+_, _-_, _*_, _/_, _%_}
+use mathlib.Core.Path.{_≡_, ap}
 use mathlib.Core.List.{List, [], _∷_}
 use mathlib.Core.Bool.{Bool, true, false, _||_, not, cond}
 use lib.ListN.{length, getD}
 use lib.Dec.{ltb, leb, eqb}
 use lib.IntN.{ℤ, pos, negsuc}
+use Rattle.answer.specs.declared.Refusal.{Refusal}
 use Rattle.answer.specs.Answers.{Answer, ok, refused, _then_, need}
 use Rattle.tzb_core.specs.declared.varint.Place.{Place}
 use Rattle.tzb_core.specs.declared.varint.Read.{Read}
-use Rattle.tzb_core.specs.declared.varint.Read.the-variants.{Number, Refused}
+use Rattle.tzb_core.specs.declared.varint.Read.the-variants as R
+use Rattle.tzb_core.specs.declared.varint.Digits.{Digits}
+use Rattle.tzb_core.specs.declared.varint.Digits.the-variants as D
 
 -- zigzag: 0, -1, 1, -2, .. are 0, 1, 2, 3, ..
 abbrev pub zig : ℤ → ℕ
@@ -49,8 +53,8 @@ numberAt s p = signed (digits 4 true s p)
 
 -- what the enum of the code says
 abbrev pub told : Read → Answer (ℤ × ℕ)
-told (Number z q) = ok (z, q .at)
-told (Refused r) = refused r
+told (R.Number z q) = ok (z, q .at)
+told (R.Refused r) = refused r
 
 -- no byte is left over: the place is the one after the last byte
 abbrev pub atEnd : List ℕ → ℕ → Bool
@@ -65,7 +69,21 @@ shortestDigits (suc k) n = cond (ltb n 128) (n ∷ []) ((n % 128 + 128) ∷ shor
 unfoldable pub encode : ℤ → List ℕ
 encode z = shortestDigits 4 (zig z)
 
--- ---- for the code's loop
--- the number at p of which n has been read, the next digit's unit is u, and k more may follow that digit
-unfoldable pub rest : ℕ → ℕ → ℕ → List ℕ → ℕ → Answer (ℤ × ℕ)
-rest n u k s p = signed (below n u (digits k false s p))
+-- ---- laws: the digits decide the number
+module _ (s : List ℕ) (p : ℕ) where
+  pub number-ok : (z : ℤ) (n q : ℕ) → z ≡ unzig n → ok (n, q) ≡ digits 4 true s p → ok (z, q) ≡ numberAt s p
+  unfolding numberAt
+  number-ok z n q h e = rw h (ap signed e)
+
+  pub number-no : (r : Refusal) → refused r ≡ digits 4 true s p → refused r ≡ numberAt s p
+  unfolding numberAt
+  number-no r e = ap signed e
+
+-- ---- for the code's steps
+abbrev pub digitsTold : Digits → Answer (ℕ × ℕ)
+digitsTold (D.Of n q) = ok (n, q .at)
+digitsTold (D.Refused r) = refused r
+
+-- the digits from p on with the n that was read before them, where the next digit's unit is u and k more may follow it
+unfoldable pub rest : ℕ → ℕ → ℕ → List ℕ → ℕ → Answer (ℕ × ℕ)
+rest n u k s p = below n u (digits k false s p)

@@ -1,8 +1,9 @@
 // The varint: zigzag LEB128, Protocol Buffers' sint32. A place is a value; a number read there comes with the place after it.
 ghost use mathlib.Core.Path.{_≡_};
+ghost use mathlib.Core.Bool.{true};
 ghost use Prim.Native.Nat.{_<_};
 ghost use Rattle.answer.specs.Answers.{ok, no};
-ghost use Rattle.tzb_core.specs.Varint.{unzig, numberAt, told, atEnd, rest};
+ghost use Rattle.tzb_core.specs.Varint.{unzig, digits, numberAt, told, digitsTold, atEnd, rest};
 use answer::Refusal;
 
 // Where the next number starts.
@@ -13,6 +14,12 @@ pub struct Place {
 pub enum Read {
     // The number, and the place after it.
     Number(i32, Place),
+    Refused(Refusal),
+}
+
+// What the digits make, before zigzag, and the place after them.
+enum Digits {
+    Of(u32, Place),
     Refused(Refusal),
 }
 
@@ -30,23 +37,22 @@ fn wide(b: u8) -> u32
     b as u32
 }
 
-// A number whose digits make n, and that ends before `at`.
-fn number(n: u32, at: usize) -> Read
-    ensures { λ r. ⌜ told r ≡ ok (unzig n, at) ⌝ }
+fn digits_of(n: u32, at: usize) -> Digits
+    ensures { λ r. ⌜ digitsTold r ≡ ok (n, at) ⌝ }
 {
-    Read::Number(unzigzag(n), Place { at })
+    Digits::Of(n, Place { at })
 }
 
-fn refused(number: u32) -> Read
-    ensures { λ r. ⌜ told r ≡ no number ⌝ }
+fn refused(number: u32) -> Digits
+    ensures { λ r. ⌜ digitsTold r ≡ no number ⌝ }
 {
-    Read::Refused(answer::refuse(number))
+    Digits::Refused(answer::refuse(number))
 }
 
 // The fifth byte: any of the bits 0xf0 is too much, whatever else it is.
-fn varint_fifth(s: &[u8], at: usize, low: u32) -> Read
+fn varint_fifth(s: &[u8], at: usize, low: u32) -> Digits
     requires { ⌜ low < 0x1000_0000 ⌝ }
-    ensures { λ r. ⌜ told r ≡ rest low 0x1000_0000 0 (now (s .entry)) at ⌝ }
+    ensures { λ r. ⌜ digitsTold r ≡ rest low 0x1000_0000 0 (now (s .entry)) at ⌝ }
 {
     if s.len() <= at {
         return refused(38);
@@ -58,13 +64,13 @@ fn varint_fifth(s: &[u8], at: usize, low: u32) -> Read
     if b == 0 {
         return refused(39);
     }
-    number(low + 0x1000_0000 * b, at + 1)
+    digits_of(low + 0x1000_0000 * b, at + 1)
 }
 
 // The bytes after the first, whose digit is low.
-fn varint_slow(s: &[u8], from: usize, low: u32) -> Read
+fn varint_slow(s: &[u8], from: usize, low: u32) -> Digits
     requires { ⌜ low < 128 ⌝ }
-    ensures { λ r. ⌜ told r ≡ rest low 128 3 (now (s .entry)) from ⌝ }
+    ensures { λ r. ⌜ digitsTold r ≡ rest low 128 3 (now (s .entry)) from ⌝ }
 {
     let mut at = from;
     let mut n = low;
@@ -80,13 +86,26 @@ fn varint_slow(s: &[u8], from: usize, low: u32) -> Read
             if b == 0 {
                 return refused(39);
             }
-            return number(n + unit * b, at);
+            return digits_of(n + unit * b, at);
         }
         n += unit * (b - 128);
         unit *= 128;
         left -= 1;
     }
     varint_fifth(s, at, n)
+}
+
+fn varint_digits(s: &[u8], from: usize) -> Digits
+    ensures { λ r. ⌜ digitsTold r ≡ digits 4 true (now (s .entry)) from ⌝ }
+{
+    if s.len() <= from {
+        return refused(38);
+    }
+    let b = wide(s[from]);
+    if b < 128 {
+        return digits_of(b, from + 1);
+    }
+    varint_slow(s, from + 1, b - 128)
 }
 
 impl Place {
@@ -99,14 +118,10 @@ impl Place {
     pub fn varint(self, s: &[u8]) -> Read
         ensures { λ r. ⌜ told r ≡ numberAt (now (s .entry)) (self .at) ⌝ }
     {
-        let from = self.at;
-        if s.len() <= from {
-            return refused(38);
+        let d = varint_digits(s, self.at);
+        match d {
+            Digits::Refused(k) => Read::Refused(k),
+            Digits::Of(n, next) => Read::Number(unzigzag(n), next),
         }
-        let b = wide(s[from]);
-        if b < 128 {
-            return number(b, from + 1);
-        }
-        varint_slow(s, from + 1, b - 128)
     }
 }

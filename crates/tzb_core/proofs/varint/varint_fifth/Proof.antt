@@ -36,22 +36,22 @@ returns-3 c =
     c .refused3 .ensures
     ∙ fifth-zero _ _ _ _ _ (w .before .before .if1 .left) (w .wide .ensures .0) (c .before .before .if2 .left) (c .before .if3 .taken)
 
-mul-number : tie.Need-mul-number
-mul-number c = search needs
+mul-digits-of : tie.Need-mul-digits-of
+mul-digits-of c = search needs
 
-add-number : tie.Need-add-number
-add-number c = search needs
+add-digits-of : tie.Need-add-digits-of
+add-digits-of c = search needs
 
-add-number-2 : tie.Need-add-number-2
-add-number-2 c = search needs
+add-digits-of-2 : tie.Need-add-digits-of-2
+add-digits-of-2 c = search needs
 
-number-requires : tie.Need-number-requires
-number-requires c κs = search needs
+digits-of-requires : tie.Need-digits-of-requires
+digits-of-requires c κs = search needs
 
 returns-4 : tie.Need-returns-4
 returns-4 c =
     let w = c .before .before .before in
-    c .number .ensures
+    c .digits-of .ensures
     ∙ fifth-end _ _ _ _ _ (w .before .before .if1 .left) (w .wide .ensures .0) (c .before .before .if2 .left) (c .before .if3 .left)
 
 pub varint-fifth-spec : {M : Type 1} → statement M
@@ -66,8 +66,8 @@ varint-fifth-spec =
     returns-2
     refused-requires-3
     returns-3
-    mul-number
-    add-number
-    add-number-2
-    number-requires
+    mul-digits-of
+    add-digits-of
+    add-digits-of-2
+    digits-of-requires
     returns-4)

@@ -56,26 +56,26 @@ returns-2 : tie.Need-returns-2 Inv-loop μ-loop
 returns-2 c =
     let w = c .before .before .before in
     c .refused2 .ensures
-    ∙ rest-zero _ _ _ _ _ (w .before .before .if1 .left) (w .wide .ensures .0) _ (w .before .before .before .loop-test .taken) (c .before .if3 .taken)
+    ∙ rest-zero _ _ _ _ _ (w .before .before .if1 .left) (w .wide .ensures .0) _ (w .before .before .before .loop-test .taken) (c .before .before .if2 .taken) (c .before .if3 .taken)
     ∙ loop-of w .loop .inv .2
 
-mul-number : tie.Need-mul-number Inv-loop μ-loop
-mul-number c =
+mul-digits-of : tie.Need-mul-digits-of Inv-loop μ-loop
+mul-digits-of c =
     let w = c .before .before in
     omega (arith, sum-fits w (w .wide .result) (c .before .if2 .taken), next-fits w)
 
-add-number : tie.Need-add-number Inv-loop μ-loop
-add-number c =
+add-digits-of : tie.Need-add-digits-of Inv-loop μ-loop
+add-digits-of c =
     let w = c .before .before in
     omega (arith, sum-fits w (w .wide .result) (c .before .if2 .taken), next-fits w)
 
-number-requires : tie.Need-number-requires Inv-loop μ-loop
-number-requires c κs = search needs
+digits-of-requires : tie.Need-digits-of-requires Inv-loop μ-loop
+digits-of-requires c κs = search needs
 
 returns-3 : tie.Need-returns-3 Inv-loop μ-loop
 returns-3 c =
     let w = c .before .before .before in
-    c .number .ensures
+    c .digits-of .ensures
     ∙ rest-end _ _ _ _ _ (w .before .before .if1 .left) (w .wide .ensures .0) _ (w .before .before .before .loop-test .taken) (c .before .before .if2 .taken) (c .before .if3 .left)
     ∙ loop-of w .loop .inv .2
 
@@ -134,9 +134,9 @@ varint-slow-spec =
     add-at
     refused-requires-2
     returns-2
-    mul-number
-    add-number
-    number-requires
+    mul-digits-of
+    add-digits-of
+    digits-of-requires
     returns-3
     mul-n
     add-n

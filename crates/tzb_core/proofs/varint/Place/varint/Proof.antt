@@ -1,57 +1,37 @@
--- `Place::varint` meets its contract: each return is one case of what the first byte is.
+-- `Place::varint` meets its contract: the digits, then zigzag.
 -- Assumes nothing.
-use mathlib.Core.Path.{_∙_}
-use Rattle.tzb_core.proofs.Digits.{first-out, first-only, first-more}
-use native.Mathlib.Omega.{arith}
+use mathlib.Core.Path.{sym, ap, _∙_}
+use mir.Syntax.{w32}
 use borrow.Author.Needs.{needs}
+use Rattle.tzb_core.specs.Varint.{digitsTold, number-ok, number-no}
+use Rattle.tzb_core.proofs.Sums.{back}
 use Rattle.tzb_core.proofs.varint.Place.varint.Statement.{statement}
 use Rattle.tzb_core.proofs.varint.Place.varint.Tie as tie
 
-refused-requires : tie.Need-refused-requires
-refused-requires c κs = search needs
+varint-digits-requires : tie.Need-varint-digits-requires
+varint-digits-requires c κs = search needs
+
+enum-known-d : tie.Need-enum-known-d
+enum-known-d c = search needs
+
+enum-known-d-2 : tie.Need-enum-known-d-2
+enum-known-d-2 c = search needs
+
+unzigzag-requires : tie.Need-unzigzag-requires
+unzigzag-requires c κs = search needs
 
 returns : tie.Need-returns
-returns c = c .refused .ensures ∙ first-out _ _ 0 (c .before .if1 .taken)
-
-shared-slice-read-wide : tie.Need-shared-slice-read-wide
-shared-slice-read-wide c = search needs
-
-wide-requires : tie.Need-wide-requires
-wide-requires c κs = search needs
-
-add-number : tie.Need-add-number
-add-number c = search needs
-
-number-requires : tie.Need-number-requires
-number-requires c κs = search needs
+returns c =
+    let d = c .before .before .before .varint-digits in
+    number-no _ _ _ (sym (ap digitsTold (c .before .d .given .1)) ∙ d .ensures)
 
 returns-2 : tie.Need-returns-2
 returns-2 c =
-    let w = c .before .before in
-    c .number .ensures ∙ first-only _ _ _ (w .before .before .if1 .left) (w .wide .ensures .0) (c .before .if2 .taken)
-
-add-varint-slow : tie.Need-add-varint-slow
-add-varint-slow c = search needs
-
-varint-slow-requires : tie.Need-varint-slow-requires
-varint-slow-requires c κs = search needs
-
-returns-3 : tie.Need-returns-3
-returns-3 c =
-    let w = c .before .before in
-    c .varint-slow .ensures ∙ first-more _ _ _ (w .before .before .if1 .left) (w .wide .ensures .0) (c .before .if2 .left)
+    let d = c .before .before .before .before .varint-digits in
+    number-ok _ _ _ _ _ (back w32 _ (c .unzigzag .ok) ∙ c .unzigzag .ensures)
+    (sym (ap digitsTold (c .before .before .d2 .given .1)) ∙ d .ensures)
 
 pub varint-spec : {M : Type 1} → statement M
 varint-spec =
     tie.close
-    (tie.spec
-    refused-requires
-    returns
-    shared-slice-read-wide
-    wide-requires
-    add-number
-    number-requires
-    returns-2
-    add-varint-slow
-    varint-slow-requires
-    returns-3)
+    (tie.spec varint-digits-requires enum-known-d enum-known-d-2 unzigzag-requires returns returns-2)
