@@ -3,3 +3,5 @@ pub mod Sums
 pub mod Equals
 pub mod Corners
 pub mod Digits
+pub mod Shortest
+pub mod Unreadable
