@@ -5,3 +5,4 @@ pub mod Corners
 pub mod Digits
 pub mod Shortest
 pub mod Unreadable
+pub mod Determined
