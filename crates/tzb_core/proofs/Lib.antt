@@ -4,5 +4,6 @@ pub mod Equals
 pub mod Corners
 pub mod Digits
 pub mod Shortest
+pub mod Places
 pub mod Unreadable
 pub mod Determined

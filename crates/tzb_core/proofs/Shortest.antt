@@ -74,7 +74,7 @@ fifth-digit n = refl
 -- ---- the shortest digits are read
 
 -- of a number that is not the only byte's
-abbrev First : Bool → ℕ → Type 0
+abbrev pub First : Bool → ℕ → Type 0
 First true n = Unit
 First false n = 0 < n
 
@@ -113,16 +113,16 @@ round a z n h =
 
 -- ---- what is read is the shortest digits of its number
 
-never : {A : Type 0} (r : Refusal) (a : A) → refused r ≡ ok a → ⊥
+pub never : {A : Type 0} (r : Refusal) (a : A) → refused r ≡ ok a → ⊥
 never r a e = let z : _≡_ {A = ℕ} 0 1 = cc in omega arith
 
 -- two answers of a pair
-parts : {A B : Type 0} (a c : A) (b d : B) → _≡_ {A = Answer (A × B)} (ok (a, b)) (ok (c, d)) → (a ≡ c) × (b ≡ d)
+pub parts : {A B : Type 0} (a c : A) (b d : B) → _≡_ {A = Answer (A × B)} (ok (a, b)) (ok (c, d)) → (a ≡ c) × (b ≡ d)
 parts {A} {B} a c b d e =
     let t : _≡_ {A = A × B} (a, b) (c, d) = cc in
     (ap (λ (x : A × B). x .0) t, ap (λ (x : A × B). x .1) t)
 
-last-inv : (f : Bool) (b q′ n q : ℕ) → last f b q′ ≡ ok (n, q) → (b ≡ n) × (q′ ≡ q) × First f n
+pub last-inv : (f : Bool) (b q′ n q : ℕ) → last f b q′ ≡ ok (n, q) → (b ≡ n) × (q′ ≡ q) × First f n
 last-inv true b q′ n q e = let u = parts b n q′ q e in (u .0, u .1, tt)
 last-inv false b q′ n q e = go (eqb b 0) refl e
   where
@@ -130,7 +130,7 @@ last-inv false b q′ n q e = go (eqb b 0) refl e
     go true x h = absurd (never _ (n, q) h)
     go false x h = let g = eqb-false b 0 x in let u = parts b n q′ q h in (u .0, u .1, omega (arith, u .0))
 
-below-inv : (d : ℕ) (x : Answer (ℕ × ℕ)) (n q : ℕ) → below d 128 x ≡ ok (n, q) → (m : ℕ) × (x ≡ ok (m, q)) × (d + 128 * m ≡ n)
+pub below-inv : (d : ℕ) (x : Answer (ℕ × ℕ)) (n q : ℕ) → below d 128 x ≡ ok (n, q) → (m : ℕ) × (x ≡ ok (m, q)) × (d + 128 * m ≡ n)
 below-inv d (ok (m, q′)) n q e =
     let u = parts (d + 128 * m) n q′ q e in
     (m, ap (λ (r : ℕ). ok (m, r)) (u .1), u .0)

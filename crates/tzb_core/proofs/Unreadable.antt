@@ -1,17 +1,20 @@
 -- The refusals of a number, by its bytes, in document 01's order: 38 where the bytes run out, 39 for a last byte of zero that is not the only one, 40 at the fifth byte before anything else about it.
 -- Assumes nothing.
-use mathlib.Core.Path.{_≡_, sym, ap, ap₂, _∙_}
-use Prim.Native.Nat.{ℕ, zero, suc, _+_, _-_, _≤_, _<_}
+use mathlib.Core.Path.{_≡_, refl, sym, ap, ap₂, _∙_}
+use Prim.Native.Nat.{ℕ, zero, suc, _+_, _-_, _*_, _≤_, _<_}
 use native.Mathlib.Nat.{not-suc-le-zero}
 use native.Mathlib.Omega.{arith}
 use mathlib.Core.List.{List}
-use mathlib.Core.Bool.{Bool, true, false, not, _&&_}
+use mathlib.Core.Bool.{Bool, true, false, not, cond, _&&_, _||_}
+use mathlib.Core.Logic.{_⊎_, inl, inr}
 use lib.ListN.{length, getD}
-use lib.Dec.{T, leb, eqb}
+use lib.Dec.{T, ltb, leb, eqb}
 use lib.Bits.{bitAnd}
+use lib.IntN.{ℤ}
 use Rattle.answer.specs.declared.Refusal.{Refusal}
-use Rattle.answer.specs.Answers.{refused, no}
-use Rattle.tzb_core.specs.Varint.{below, digits, signed, numberAt}
+use Rattle.answer.specs.Refusals.{refusal}
+use Rattle.answer.specs.Answers.{Answer, ok, refused, no, need}
+use Rattle.tzb_core.specs.Varint.{unzig, last, below, digits, signed, numberAt}
 use Rattle.tzb_core.proofs.Digits.{digits-out, digits-end, digits-more, digits-high, digits-fifth, last-zero}
 
 -- k bytes from p on, each with a digit to follow
@@ -71,6 +74,54 @@ module _ (s : List ℕ) (p : ℕ) where
   -- four such bytes, then one with any of the bits 0xf0
   pub too-big : Goes 4 s p → p + 4 < length s → 15 < getD s (p + 4) 0 → numberAt s p ≡ no 40
   too-big g l e = after 4 _ (omega arith) g (digits-high s (p + 4) l false e)
+
+-- ---- and there is no other refusal
+abbrev pub OneOf : Refusal → Type 0
+OneOf r = (r ≡ refusal 38) ⊎ (r ≡ refusal 39) ⊎ (r ≡ refusal 40)
+
+same-refusal : (r r' : Refusal) → _≡_ {A = Answer (ℕ × ℕ)} (refused r) (refused r') → r' ≡ r
+same-refusal r r' e = cc
+
+other : {A : Type 0} (a : A) (r : Refusal) → ok a ≡ refused r → ⊥
+other a r e = let z : _≡_ {A = ℕ} 0 1 = cc in omega arith
+
+last-no : (f : Bool) (b q : ℕ) (r : Refusal) → last f b q ≡ refused r → r ≡ refusal 39
+last-no f b q r e = go (f || not (eqb b 0)) e
+  where
+    go : (t : Bool) → need {A = ℕ × ℕ} 39 t (ok (b, q)) ≡ refused r → r ≡ refusal 39
+    go true h = absurd (other (b, q) r h)
+    go false h = same-refusal (refusal 39) r h
+
+below-no : (n u : ℕ) (x : Answer (ℕ × ℕ)) (r : Refusal) → below n u x ≡ refused r → x ≡ refused r
+below-no n u (ok t) r e = absurd (other (n + u * t .0, t .1) r e)
+below-no n u (refused k) r e = e
+
+one-of : (k : ℕ) (f : Bool) (s : List ℕ) (p : ℕ) (r : Refusal) → digits k f s p ≡ refused r → OneOf r
+unfolding digits
+one-of zero f s p r e = go (ltb p (length s)) (leb (getD s p 0) 15) e
+  where
+    go : (t u : Bool) → need 38 t (need 40 u (last f (getD s p 0) (p + 1))) ≡ refused r → OneOf r
+    go true true h = inr (inl (last-no f (getD s p 0) (p + 1) r h))
+    go true false h = inr (inr (same-refusal (refusal 40) r h))
+    go false u h = inl (same-refusal (refusal 38) r h)
+one-of (suc k) f s p r e = go (ltb p (length s)) (ltb (getD s p 0) 128) e (one-of k false s (p + 1) r)
+  where
+    go : (t u : Bool) → need 38 t (cond u (last f (getD s p 0) (p + 1)) (below (getD s p 0 - 128) 128 (digits k false s (p + 1)))) ≡ refused r
+        → (digits k false s (p + 1) ≡ refused r → OneOf r) → OneOf r
+    go true true h ih = inr (inl (last-no f (getD s p 0) (p + 1) r h))
+    go true false h ih = ih (below-no (getD s p 0 - 128) 128 (digits k false s (p + 1)) r h)
+    go false u h ih = inl (same-refusal (refusal 38) r h)
+
+pub three : (s : List ℕ) (p : ℕ) (r : Refusal) → numberAt s p ≡ refused r → OneOf r
+unfolding numberAt
+three s p r e = go (digits 4 true s p) refl e
+  where
+    go : (x : Answer (ℕ × ℕ)) → digits 4 true s p ≡ x → signed x ≡ refused r → OneOf r
+    go (ok t) h g = absurd (other (unzig (t .0), t .1) r g)
+    go (refused k) h g = one-of 4 true s p r (h ∙ again k g)
+      where
+        again : (k : Refusal) → _≡_ {A = Answer (ℤ × ℕ)} (refused k) (refused r) → _≡_ {A = Answer (ℕ × ℕ)} (refused k) (refused r)
+        again k g = let i : k ≡ r = cc in ap refused i
 
 -- of a byte, one of the bits 0xf0 is set exactly where it is above 15
 abbrev agree : Bool → Bool → Bool

@@ -25,7 +25,7 @@ refused-requires-2 c κs = search needs
 returns-2 : tie.Need-returns-2
 returns-2 c =
     let w = c .before .before in
-    c .refused2 .ensures ∙ fifth-high _ _ _ _ _ (w .before .before .if1 .left) (w .wide .ensures .0) (c .before .if2 .taken)
+    c .refused2 .ensures ∙ fifth-high _ _ _ _ _ (w .before .before .if1 .left) (w .wide .ensures .0) (omega arith)
 
 refused-requires-3 : tie.Need-refused-requires-3
 refused-requires-3 c κs = search needs
@@ -34,7 +34,7 @@ returns-3 : tie.Need-returns-3
 returns-3 c =
     let w = c .before .before .before in
     c .refused3 .ensures
-    ∙ fifth-zero _ _ _ _ _ (w .before .before .if1 .left) (w .wide .ensures .0) (c .before .before .if2 .left) (c .before .if3 .taken)
+    ∙ fifth-zero _ _ _ _ _ (w .before .before .if1 .left) (w .wide .ensures .0) (omega arith) (c .before .if3 .taken)
 
 mul-digits-of : tie.Need-mul-digits-of
 mul-digits-of c = search needs
@@ -52,7 +52,7 @@ returns-4 : tie.Need-returns-4
 returns-4 c =
     let w = c .before .before .before in
     c .digits-of .ensures
-    ∙ fifth-end _ _ _ _ _ (w .before .before .if1 .left) (w .wide .ensures .0) (c .before .before .if2 .left) (c .before .if3 .left)
+    ∙ fifth-end _ _ _ _ _ (w .before .before .if1 .left) (w .wide .ensures .0) (omega arith) (c .before .if3 .left)
 
 pub varint-fifth-spec : {M : Type 1} → statement M
 varint-fifth-spec =
