@@ -1,6 +1,8 @@
 -- The exports' answers as single numbers. Document 01, "Port order": -1000 - n for refusal n.
 -- Assumes nothing.
-use Prim.Native.Nat.{ℕ, _+_, _-_, min}
+use Prim.Native.Nat.{ℕ, _+_, _-_, _≤_, _<_, min}
+use native.Mathlib.Omega.{arith}
+use mathlib.Core.Path.{_≡_, ap}
 use mathlib.Core.Bool.{Bool, true, false}
 use lib.IntN.{ℤ, pos, negsuc}
 use lib.Ieee.{Float}
@@ -33,3 +35,30 @@ boxOf minx miny maxx maxy = record { minx = minx; miny = miny; maxx = maxx; maxy
 
 abbrev pub pointOf : Float → Float → Point
 pointOf x y = record { x = x; y = y }
+
+-- ---- laws
+module _ (r : Refusal) where
+  pub code-small : r .number < 1000 → negsuc (999 + r .number) ≡ refusalCode r
+  unfolding refusalCode
+  code-small h = ap negsuc (omega arith)
+
+  pub code-held : 1000 ≤ r .number → negsuc 1998 ≡ refusalCode r
+  unfolding refusalCode
+  code-held h = ap negsuc (omega arith)
+
+module _ (x : Answer (ℤ × ℕ)) where
+  pub number-no : (r : Refusal) → refused r ≡ x → pos 0 ≡ numberOf x
+  unfolding numberOf
+  number-no r e = rw (← e)
+
+  pub number-is : (z : ℤ) (q : ℕ) → ok (z, q) ≡ x → z ≡ numberOf x
+  unfolding numberOf
+  number-is z q e = rw (← e)
+
+  pub length-no : (p : ℕ) (r : Refusal) → refused r ≡ x → refusalCode r ≡ lengthFrom p x
+  unfolding lengthFrom
+  length-no p r e = rw (← e)
+
+  pub length-is : (p : ℕ) (z : ℤ) (q : ℕ) → ok (z, q) ≡ x → pos (q - p) ≡ lengthFrom p x
+  unfolding lengthFrom
+  length-is p z q e = rw (← e)

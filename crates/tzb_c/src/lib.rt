@@ -20,7 +20,8 @@ fn refusal_code(r: Refusal) -> i32
     ensures { λ z. ⌜ z ≡ refusalCode r ⌝ }
 {
     let n = r.number;
-    if n < 1000 { -1000 - (n as i32) } else { -1999 }
+    // !x is -1 - x
+    if n < 1000 { !((999 + n) as i32) } else { !1998 }
 }
 
 // ---- for comparison runs

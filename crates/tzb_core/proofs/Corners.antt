@@ -1,7 +1,7 @@
 -- Of an ordered box the least x, the greatest x, the least y and the greatest y, each held to one bound, put both corners into the domain.
 -- Assumes nothing.
 use Prim.Native.Nat.{ℕ, suc}
-use mathlib.Core.Path.{_≡_, refl, sym, ap, ap₂, _∙_}
+use mathlib.Core.Path.{_≡_, refl, ap₂, _∙_}
 use mathlib.Core.Bool.{Bool, true, false, _&&_}
 use lib.IntN.{ℤ, pos, negsuc}
 use lib.Signed.{leZ}

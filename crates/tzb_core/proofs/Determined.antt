@@ -1,11 +1,10 @@
 -- Any two answers that a promise allows are equal: stated over the contracts themselves. Two values of an enum that tell the same are the same.
 -- Assumes nothing.
-use mathlib.Core.Path.{_≡_, refl, sym, ap, ap₂, _∙_}
+use mathlib.Core.Path.{_≡_, sym, ap, ap₂, _∙_}
 use Prim.Native.Nat.{ℕ}
 use lib.IntN.{ℤ}
 use Rattle.basics.specs.Determined.{Determined}
-use Rattle.answer.specs.declared.Refusal.{Refusal}
-use Rattle.answer.specs.Answers.{Answer, ok, refused}
+use Rattle.answer.specs.Answers.{Answer, ok}
 use Rattle.tzb_core.specs.Box.{summed}
 use Rattle.tzb_core.specs.Varint.{told}
 use Rattle.tzb_core.specs.declared.bbox.Sum.{Sum}

@@ -9,7 +9,6 @@ use lib.Dec.{ltb, leb, eqb}
 use lib.IntN.{ℤ, pos, negsuc}
 use Rattle.answer.specs.declared.Refusal.{Refusal}
 use Rattle.answer.specs.Answers.{Answer, ok, refused, _then_, need}
-use Rattle.tzb_core.specs.declared.varint.Place.{Place}
 use Rattle.tzb_core.specs.declared.varint.Read.{Read}
 use Rattle.tzb_core.specs.declared.varint.Read.the-variants as R
 use Rattle.tzb_core.specs.declared.varint.Digits.{Digits}

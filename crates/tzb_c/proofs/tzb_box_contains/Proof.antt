@@ -1,23 +1,24 @@
-use native.Mathlib.Omega.{arith}
+-- `tzb_box_contains` meets its contract: the box's answer, as a number.
+-- Assumes nothing.
+use mathlib.Core.Path.{ap, _∙_}
 use borrow.Author.Needs.{needs}
+use mir.Syntax.{w32}
+use mir.ValLaws.{toZ-ofZ}
+use Rattle.tzb_c.specs.Exports.{bitOf}
 use Rattle.tzb_c.proofs.tzb_box_contains.Statement.{statement}
 use Rattle.tzb_c.proofs.tzb_box_contains.Tie as tie
-use Rattle.tzb_c.proofs.tzb_box_contains.Reads as reads
-use Rattle.tzb_c.proofs.tzb_box_contains.Lts as lts
-use Rattle.tzb_c.proofs.bit.Reads as bit-reads
-use Rattle.tzb_core.proofs.bbox.BBox.contains.Reads as contains-reads
 
--- src/lib.rt:65:9
 contains-requires : tie.Need-contains-requires
 contains-requires c κs = search needs
 
--- src/lib.rt:65:5
 bit-requires : tie.Need-bit-requires
 bit-requires c κs = search needs
 
--- src/lib.rt:55:1
 returns : tie.Need-returns
-returns c = search needs
+returns c =
+    let f = c .before .before .fits in
+    c .bit .ensures ∙ ap bitOf (c .before .contains .ensures)
+    ∙ rw (toZ-ofZ w32 _ (f .minx), toZ-ofZ w32 _ (f .miny), toZ-ofZ w32 _ (f .maxx), toZ-ofZ w32 _ (f .maxy))
 
 pub tzb-box-contains-spec : {M : Type 1} → statement M
 tzb-box-contains-spec = tie.close (tie.spec contains-requires bit-requires returns)

@@ -1,23 +1,24 @@
-use native.Mathlib.Omega.{arith}
+-- `tzb_box_relevant` meets its contract: the box's answer, as a number.
+-- Assumes nothing.
+use mathlib.Core.Path.{ap, _∙_}
 use borrow.Author.Needs.{needs}
+use mir.Syntax.{w32}
+use mir.ValLaws.{toZ-ofZ}
+use Rattle.tzb_c.specs.Exports.{bitOf}
 use Rattle.tzb_c.proofs.tzb_box_relevant.Statement.{statement}
 use Rattle.tzb_c.proofs.tzb_box_relevant.Tie as tie
-use Rattle.tzb_c.proofs.tzb_box_relevant.Reads as reads
-use Rattle.tzb_c.proofs.tzb_box_relevant.Lts as lts
-use Rattle.tzb_c.proofs.bit.Reads as bit-reads
-use Rattle.tzb_core.proofs.bbox.BBox.relevant.Reads as relevant-reads
 
--- src/lib.rt:79:9
 relevant-requires : tie.Need-relevant-requires
 relevant-requires c κs = search needs
 
--- src/lib.rt:79:5
 bit-requires : tie.Need-bit-requires
 bit-requires c κs = search needs
 
--- src/lib.rt:69:1
 returns : tie.Need-returns
-returns c = search needs
+returns c =
+    let f = c .before .before .fits in
+    c .bit .ensures ∙ ap bitOf (c .before .relevant .ensures)
+    ∙ rw (toZ-ofZ w32 _ (f .minx), toZ-ofZ w32 _ (f .miny), toZ-ofZ w32 _ (f .maxx), toZ-ofZ w32 _ (f .maxy))
 
 pub tzb-box-relevant-spec : {M : Type 1} → statement M
 tzb-box-relevant-spec = tie.close (tie.spec relevant-requires bit-requires returns)

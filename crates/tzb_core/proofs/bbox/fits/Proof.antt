@@ -1,3 +1,5 @@
+-- `bbox::fits` meets its contract: the two bounds of i32.
+-- Assumes nothing.
 use Rattle.tzb_core.specs.Box.{fits32}
 use borrow.Author.Needs.{needs}
 use Rattle.tzb_core.proofs.bbox.fits.Statement.{statement}

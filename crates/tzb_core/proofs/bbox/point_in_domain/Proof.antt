@@ -1,3 +1,5 @@
+-- `bbox::point_in_domain` meets its contract: the four bounds of the domain.
+-- Assumes nothing.
 use Rattle.plane.specs.Domain.{inDomain}
 use borrow.Author.Needs.{needs}
 use Rattle.tzb_core.proofs.bbox.point_in_domain.Statement.{statement}

@@ -2,7 +2,6 @@
 -- Assumes nothing.
 use mathlib.Core.Path.{sym, _∙_}
 use Rattle.tzb_core.proofs.Digits.{digits-out, first-only, first-more}
-use native.Mathlib.Omega.{arith}
 use mathlib.Core.Bool.{true}
 use borrow.Author.Needs.{needs}
 use Rattle.tzb_core.proofs.varint.varint_digits.Statement.{statement}

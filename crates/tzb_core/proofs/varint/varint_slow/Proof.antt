@@ -1,6 +1,6 @@
 -- `varint::varint_slow` meets its contract. The loop's invariant: what is left to read, below it what was read, is the number; the unit with the digits left makes 32 bits.
 -- The measure is the number of digits left before the fifth. Assumes nothing.
-use mathlib.Core.Path.{_≡_, refl, sym, ap, _∙_}
+use mathlib.Core.Path.{_≡_, refl, _∙_}
 use Prim.Native.Nat.{ℕ, _+_, _*_, _-_, _<_}
 use Rattle.tzb_core.specs.Varint.{rest}
 use Rattle.tzb_core.proofs.Digits.{rest-out, rest-zero, rest-end, rest-more, lim, lim-down, room, unit-fits, last-unit, last-rest}
@@ -8,8 +8,6 @@ use native.Mathlib.Omega.{arith}
 use borrow.Author.Needs.{needs}
 use Rattle.tzb_core.proofs.varint.varint_slow.Statement.{statement}
 use Rattle.tzb_core.proofs.varint.varint_slow.Tie as tie
-use Rattle.tzb_core.proofs.varint.varint_slow.Reads as reads
-use Rattle.tzb_core.proofs.varint.varint_slow.Lts as lts
 
 abbrev Inv-loop : tie.InvT-loop
 Inv-loop s from low at₀ n₀ unit₀ left₀ at n unit left =

@@ -1,3 +1,5 @@
+-- `BBox::contains` meets its contract: the four comparisons of the definition.
+-- Assumes nothing.
 use Rattle.tzb_core.specs.Box.{contains}
 use borrow.Author.Needs.{needs}
 use Rattle.tzb_core.proofs.bbox.BBox.contains.Statement.{statement}

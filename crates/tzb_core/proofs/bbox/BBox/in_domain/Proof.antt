@@ -1,9 +1,8 @@
 -- `BBox::in_domain` meets its contract: the four bounds of an ordered box put both corners into the domain.
 -- Assumes nothing.
-use mathlib.Core.Path.{ap, _∙_}
-use mathlib.Core.Bool.{Bool, _&&_}
+use mathlib.Core.Path.{_∙_}
 use borrow.Author.Needs.{needs}
-use Rattle.tzb_core.proofs.Corners.{bounded, corners}
+use Rattle.tzb_core.proofs.Corners.{corners}
 use Rattle.tzb_core.proofs.bbox.BBox.in_domain.Statement.{statement}
 use Rattle.tzb_core.proofs.bbox.BBox.in_domain.Tie as tie
 

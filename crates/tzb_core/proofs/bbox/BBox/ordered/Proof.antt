@@ -1,3 +1,5 @@
+-- `BBox::ordered` meets its contract: the two comparisons of the definition.
+-- Assumes nothing.
 use Rattle.tzb_core.specs.Box.{ordered}
 use borrow.Author.Needs.{needs}
 use Rattle.tzb_core.proofs.bbox.BBox.ordered.Statement.{statement}

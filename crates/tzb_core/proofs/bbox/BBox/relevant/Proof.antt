@@ -1,3 +1,5 @@
+-- `BBox::relevant` meets its contract: the three comparisons of the definition.
+-- Assumes nothing.
 use Rattle.tzb_core.specs.Box.{relevant}
 use borrow.Author.Needs.{needs}
 use Rattle.tzb_core.proofs.bbox.BBox.relevant.Statement.{statement}

@@ -1,3 +1,5 @@
+-- `BBox::right` meets its contract: the one comparison of the definition.
+-- Assumes nothing.
 use Rattle.tzb_core.specs.Box.{right}
 use borrow.Author.Needs.{needs}
 use Rattle.tzb_core.proofs.bbox.BBox.right.Statement.{statement}
