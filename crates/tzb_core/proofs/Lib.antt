@@ -1,4 +1,4 @@
--- What the proofs of the functions lean on, and what follows from the definitions.
+-- What is proved of the lower crate's definitions, and what its functions' proofs share.
 pub mod Sums
 pub mod Equals
 pub mod Corners

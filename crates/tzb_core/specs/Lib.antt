@@ -1,3 +1,3 @@
--- What the lower crate answers: boxes, numbers.
+-- What the lower crate's functions answer.
 pub mod Box
 pub mod Varint

@@ -1,3 +1,3 @@
-// The lower crate: boxes, the varint and the ray test. What stands above it sees only their promises.
+// The lower crate: what a chunk's bytes and a segment say, for the reader above, which sees only the promises.
 pub mod bbox;
 pub mod varint;
