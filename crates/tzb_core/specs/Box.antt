@@ -1,4 +1,4 @@
--- Document 01's boxes ("Port order", "Records") and its delta sum ("Chunk bytes"). A box of whole numbers is asked about a point of floats, and every comparison is one of floats.
+-- Document 01's boxes ("Port order", "Records") and its delta sum ("Chunk bytes"). A box of whole numbers that is asked about a point of floats compares as floats.
 -- Assumes nothing.
 use mathlib.Core.Path.{_≡_}
 use mathlib.Core.Bool.{Bool, true, false, _&&_}
@@ -13,7 +13,7 @@ use Rattle.tzb_core.specs.declared.bbox.BBox.{BBox}
 use Rattle.tzb_core.specs.declared.bbox.Sum.{Sum}
 use Rattle.tzb_core.specs.declared.bbox.Sum.the-variants.{Of, Refused}
 
--- a coordinate as a float: exact, since an i32 has fewer bits than a float's fraction
+-- a coordinate as a float
 abbrev pub float : ℤ → Float
 float z = ofInt binary64 z
 
@@ -23,7 +23,7 @@ contains b p =
     (le (float (b .minx)) (p .x) && le (p .x) (float (b .maxx)))
     && (le (float (b .miny)) (p .y) && le (p .y) (float (b .maxy)))
 
--- what lies in the box can matter to the ray from the point, to greater x: the point is level with the box, and no side of it is left of the point
+-- what lies in the box can matter to the ray from the point to greater x: the point is level with the box, and the box does not end left of the point
 unfoldable pub relevant : BBox → Point → Bool
 relevant b p = (le (float (b .miny)) (p .y) && le (p .y) (float (b .maxy))) && le (p .x) (float (b .maxx))
 
@@ -31,7 +31,7 @@ relevant b p = (le (float (b .miny)) (p .y) && le (p .y) (float (b .maxy))) && l
 unfoldable pub right : BBox → Point → Bool
 right b p = lt (p .x) (float (b .minx))
 
--- no side lies beyond the one across from it
+-- the least x is at most the greatest, and the least y
 unfoldable pub ordered : BBox → Bool
 ordered b = leZ (b .minx) (b .maxx) && leZ (b .miny) (b .maxy)
 

@@ -31,7 +31,7 @@ abbrev pub below : ℕ → ℕ → Answer (ℕ × ℕ) → Answer (ℕ × ℕ)
 below n u x = x then λ t. ok (n + u * t .0, t .1)
 
 -- the digits from p on, least significant first, and the place after them; k more may follow the first. `only`: no byte of the number stands before p.
--- No byte left is 38; a fifth byte above 15, with any of the bits 0xf0, is 40.
+-- No byte left is 38. A fifth byte above 15 is 40: it has one of the bits 0xf0 (`top-bits`, in proofs/Unreadable).
 unfoldable pub digits : ℕ → Bool → List ℕ → ℕ → Answer (ℕ × ℕ)
 digits zero only s p =
     need 38 (ltb p (length s))
@@ -78,7 +78,7 @@ module _ (s : List ℕ) (p : ℕ) where
   unfolding numberAt
   number-no r e = ap signed e
 
--- ---- for the code's steps
+-- ---- what the code's steps answer
 abbrev pub digitsTold : Digits → Answer (ℕ × ℕ)
 digitsTold (D.Of n q) = ok (n, q .at)
 digitsTold (D.Refused r) = refused r
