@@ -10,7 +10,7 @@ pub mod exports {
         pub fn tzb_number(data: *const u8, length: usize, at: usize) -> i32;
         pub fn tzb_number_length(data: *const u8, length: usize, at: usize) -> i32;
         pub safe fn tzb_ray(ax: i32, ay: i32, bx: i32, by: i32, x: f64, y: f64) -> i32;
-        pub safe fn tzb_parity(ay: i32, by: i32, y: f64) -> i32;
+        pub safe fn tzb_parity(ax: i32, ay: i32, bx: i32, by: i32, x: f64, y: f64) -> u32;
         pub safe fn tzb_next_up(x: f64) -> f64;
         pub safe fn tzb_box_contains(
             minx: i32,
@@ -55,7 +55,7 @@ pub fn ray(s: &Scene) -> u64 {
 }
 
 pub fn parity(s: &Scene) -> u64 {
-    tzb_parity(s.ay, s.by, s.y) as u64
+    u64::from(tzb_parity(s.ax, s.ay, s.bx, s.by, s.x, s.y))
 }
 
 pub fn next_up(s: &Scene) -> u64 {
