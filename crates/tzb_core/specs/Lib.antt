@@ -1,2 +1,4 @@
--- What the lower crate's functions answer.
+-- What the lower crate answers: numbers, boxes, the ray test.
+pub mod Varint
+pub mod Box
 pub mod Ray

@@ -1,0 +1,2 @@
+-- Document 01, "The sixteen marked points".
+pub mod Marks

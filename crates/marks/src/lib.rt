@@ -1,0 +1,1 @@
+// Only the marked points: see specs/.

@@ -1,0 +1,40 @@
+-- Any two answers that a promise allows are equal: stated over the contracts themselves.
+-- Assumes nothing.
+use mathlib.Core.Path.{sym, _∙_}
+use Rattle.basics.specs.Determined.{Determined}
+use Rattle.tzb_c.proofs.tzb_number.Reads as number-reads
+use Rattle.tzb_c.proofs.tzb_number_length.Reads as number-length-reads
+use Rattle.tzb_c.proofs.tzb_box_contains.Reads as box-contains-reads
+use Rattle.tzb_c.proofs.tzb_box_relevant.Reads as box-relevant-reads
+use Rattle.tzb_c.proofs.tzb_crc32.Reads as crc32-reads
+use Rattle.tzb_c.proofs.tzb_utf8.Reads as utf8-reads
+use Rattle.tzb_c.proofs.tzb_ray.Reads as ray-reads
+use Rattle.tzb_c.proofs.tzb_parity.Reads as parity-reads
+use Rattle.tzb_c.proofs.tzb_next_up.Reads as next-up-reads
+
+pub number : Determined number-reads.Learnt
+number κ a r r' e e' p q = p ∙ sym q
+
+pub number-length : Determined number-length-reads.Learnt
+number-length κ a r r' e e' p q = p ∙ sym q
+
+pub box-contains : Determined box-contains-reads.Learnt
+box-contains κ a r r' e e' p q = p ∙ sym q
+
+pub box-relevant : Determined box-relevant-reads.Learnt
+box-relevant κ a r r' e e' p q = p ∙ sym q
+
+pub crc32 : Determined crc32-reads.Learnt
+crc32 κ a r r' e e' p q = p ∙ sym q
+
+pub utf8 : Determined utf8-reads.Learnt
+utf8 κ a r r' e e' p q = p ∙ sym q
+
+pub ray : Determined ray-reads.Learnt
+ray κ a r r' e e' p q = p ∙ sym q
+
+pub parity : Determined parity-reads.Learnt
+parity κ a r r' e e' p q = p ∙ sym q
+
+pub next-up : Determined next-up-reads.Learnt
+next-up κ a r r' e e' p q = p ∙ sym q

@@ -1,0 +1,76 @@
+-- The exports' answers as single numbers. Document 01, "Port order": -1000 - n for refusal n.
+-- Assumes nothing.
+use Prim.Native.Nat.{ℕ, _+_, _-_, _≤_, _<_, min}
+use native.Mathlib.Omega.{arith}
+use mathlib.Core.Path.{_≡_, ap}
+use mathlib.Core.Bool.{Bool, true, false}
+use lib.IntN.{ℤ, pos, negsuc}
+use lib.Ieee.{Float}
+use Rattle.answer.specs.declared.Refusal.{Refusal}
+use Rattle.answer.specs.Answers.{Answer, ok, refused}
+use Rattle.plane.specs.declared.Point.{Point}
+use Rattle.plane.specs.declared.I32Point.{I32Point}
+use Rattle.plane.specs.declared.Seen.{Seen}
+use Rattle.plane.specs.declared.Seen.the-variants.{On, Off}
+use Rattle.tzb_core.specs.declared.bbox.BBox.{BBox}
+
+-- yes is 1, no is 0
+abbrev pub bitOf : Bool → ℕ
+bitOf true = 1
+bitOf false = 0
+
+-- -1000 - n. A refusal's number has at most three digits; one that had more would be told as 999.
+unfoldable pub refusalCode : Refusal → ℤ
+refusalCode r = negsuc (999 + min (r .number) 999)
+
+-- a number that was read, or 0 where it is refused
+unfoldable pub numberOf : Answer (ℤ × ℕ) → ℤ
+numberOf (ok t) = t .0
+numberOf (refused r) = pos 0
+
+-- how many bytes a number has that starts at p, or the refusal
+unfoldable pub lengthFrom : ℕ → Answer (ℤ × ℕ) → ℤ
+lengthFrom p (ok t) = pos (t .1 - p)
+lengthFrom p (refused r) = refusalCode r
+
+abbrev pub boxOf : ℤ → ℤ → ℤ → ℤ → BBox
+boxOf minx miny maxx maxy = record { minx = minx; miny = miny; maxx = maxx; maxy = maxy }
+
+abbrev pub pointOf : Float → Float → Point
+pointOf x y = record { x = x; y = y }
+
+-- ---- laws
+module _ (r : Refusal) where
+  pub code-small : r .number < 1000 → negsuc (999 + r .number) ≡ refusalCode r
+  unfolding refusalCode
+  code-small h = ap negsuc (omega arith)
+
+  pub code-held : 1000 ≤ r .number → negsuc 1998 ≡ refusalCode r
+  unfolding refusalCode
+  code-held h = ap negsuc (omega arith)
+
+module _ (x : Answer (ℤ × ℕ)) where
+  pub number-no : (r : Refusal) → refused r ≡ x → pos 0 ≡ numberOf x
+  unfolding numberOf
+  number-no r e = rw (← e)
+
+  pub number-is : (z : ℤ) (q : ℕ) → ok (z, q) ≡ x → z ≡ numberOf x
+  unfolding numberOf
+  number-is z q e = rw (← e)
+
+  pub length-no : (p : ℕ) (r : Refusal) → refused r ≡ x → refusalCode r ≡ lengthFrom p x
+  unfolding lengthFrom
+  length-no p r e = rw (← e)
+
+  pub length-is : (p : ℕ) (z : ℤ) (q : ℕ) → ok (z, q) ≡ x → pos (q - p) ≡ lengthFrom p x
+  unfolding lengthFrom
+  length-is p z q e = rw (← e)
+
+abbrev pub placeOf : ℤ → ℤ → I32Point
+placeOf x y = record { x = x; y = y }
+
+-- 2 for on, 1 for counts, 0 for neither
+abbrev pub seenCode : Seen → ℤ
+seenCode On = pos 2
+seenCode (Off true) = pos 1
+seenCode (Off false) = pos 0

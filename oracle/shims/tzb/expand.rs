@@ -1,0 +1,3 @@
+//! Stands for the original's `expand`, which is not ported: only the name is needed.
+
+pub(crate) struct ExpandedPolygon;

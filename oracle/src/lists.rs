@@ -1,0 +1,112 @@
+//! The fixed lists of the original's answers, which the gate replays without Rust. README.md has the layout of their records.
+
+use crate::bytes::{self, OF_NUMBERS};
+use crate::original;
+use crate::random::Random;
+use crate::scene::{self, ENDS, KINDS, Scene};
+use std::fs;
+use std::path::Path;
+
+const SEED: u64 = 20;
+
+pub fn write(folder: &Path) {
+    for (name, width, list) in [("varint.bin", 16, varint()), ("ray.bin", 40, ray())] {
+        fs::create_dir_all(folder).expect("the folder for the lists");
+        fs::write(folder.join(name), &list).expect("a list");
+        println!("{name}: {} records", list.len() / width);
+    }
+}
+
+/// M1 to M8.
+const MARKED_NUMBERS: [&[u8]; 8] = [
+    &[0x00],
+    &[0x01],
+    &[0x80, 0x01],
+    &[0x80, 0x00],
+    &[0xff, 0xff, 0xff, 0xff, 0x0f],
+    &[0xff, 0xff, 0xff, 0xff, 0x10],
+    &[0x80, 0x80, 0x80, 0x80, 0x00],
+    &[0x80],
+];
+
+fn varint() -> Vec<u8> {
+    let mut out = Vec::new();
+    MARKED_NUMBERS.iter().for_each(|b| number(&mut out, b, 0));
+    (0..=255).for_each(|b| number(&mut out, &[b], 0));
+    (0..=3).for_each(|n| bytes::all(&OF_NUMBERS, n, &mut |b| number(&mut out, b, 0)));
+    let mut random = Random::new(SEED);
+    for _ in 0..500 {
+        let length = 4 + random.below(5);
+        let data: Vec<u8> = (0..length).map(|_| random.pick(&OF_NUMBERS)).collect();
+        number(&mut out, &data, random.below(length + 1));
+    }
+    for _ in 0..500 {
+        let mut data: Vec<u8> = (0..4).map(|_| 0x80 | random.pick(&OF_NUMBERS)).collect();
+        data.push(random.pick(&OF_NUMBERS));
+        number(&mut out, &data, 0);
+    }
+    for _ in 0..1000 {
+        let mut data = bytes::numbers(&mut random, 3, false);
+        data.truncate(8);
+        number(&mut out, &data, random.below(data.len() + 1));
+    }
+    out
+}
+
+fn number(out: &mut Vec<u8>, data: &[u8], at: usize) {
+    let r = original::reading(data, at);
+    let mut padded = [0; 8];
+    padded[..data.len()].copy_from_slice(data);
+    out.push(data.len() as u8);
+    out.extend_from_slice(&padded);
+    out.push(at as u8);
+    out.push(if r.length < 0 { (-1000 - r.length) as u8 } else { 0 });
+    out.push(r.length.max(0) as u8);
+    out.extend_from_slice(&r.number.to_le_bytes());
+}
+
+/// M9 to M14.
+const MARKED_POINTS: [(i32, i32, i32, i32, f64, f64); 6] = [
+    (0, 0, 10, 10, 5.0, 5.0),
+    (0, 0, 10, 10, 4.0, 5.0),
+    (0, 0, 10, 10, 6.0, 5.0),
+    (0, 0, 10, 0, -1.0, 0.0),
+    (0, 0, 0, 10, -1.0, 0.0),
+    (0, 0, 0, 10, -1.0, 10.0),
+];
+
+/// Where the floats are not exact geometry: the difference rounds, so the point is called on.
+const ROUNDED: [(i32, i32, i32, i32, f64, f64); 2] = [
+    (1, 0, 0, 1, -8.673617379884035e-19, 1.0),
+    (i32::MIN, i32::MIN, i32::MAX, i32::MAX - 1, 2_147_483_646.0, 2_147_483_645.0),
+];
+
+fn ray() -> Vec<u8> {
+    let mut out = Vec::new();
+    for (ax, ay, bx, by, x, y) in MARKED_POINTS.into_iter().chain(ROUNDED) {
+        segment(&mut out, &Scene { ax, ay, bx, by, x, y });
+    }
+    let mut random = Random::new(SEED);
+    let floats = scene::floats();
+    for &x in &floats {
+        for &y in &floats {
+            let [ax, ay, bx, by] = [(); 4].map(|()| random.pick(&ENDS));
+            segment(&mut out, &Scene { ax, ay, bx, by, x, y });
+        }
+    }
+    for (_, make) in KINDS {
+        (0..300).for_each(|_| segment(&mut out, &make(&mut random)));
+    }
+    out
+}
+
+fn segment(out: &mut Vec<u8>, s: &Scene) {
+    for n in [s.ax, s.ay, s.bx, s.by] {
+        out.extend_from_slice(&n.to_le_bytes());
+    }
+    for x in [s.x, s.y] {
+        out.extend_from_slice(&x.to_bits().to_le_bytes());
+    }
+    out.push(original::ray(s) as u8);
+    out.extend_from_slice(&[0; 7]);
+}

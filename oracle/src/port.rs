@@ -1,0 +1,71 @@
+//! The port, through its archive's C exports. A `&[u8]` passes as pointer, then length.
+
+use crate::bytes::Reading;
+use crate::scene::Scene;
+
+pub mod exports {
+    unsafe extern "C" {
+        pub fn tzb_crc32(data: *const u8, length: usize) -> u32;
+        pub fn tzb_utf8(data: *const u8, length: usize) -> u32;
+        pub fn tzb_number(data: *const u8, length: usize, at: usize) -> i32;
+        pub fn tzb_number_length(data: *const u8, length: usize, at: usize) -> i32;
+        pub safe fn tzb_ray(ax: i32, ay: i32, bx: i32, by: i32, x: f64, y: f64) -> i32;
+        pub safe fn tzb_parity(ax: i32, ay: i32, bx: i32, by: i32, x: f64, y: f64) -> u32;
+        pub safe fn tzb_next_up(x: f64) -> f64;
+        pub safe fn tzb_box_contains(
+            minx: i32,
+            miny: i32,
+            maxx: i32,
+            maxy: i32,
+            x: f64,
+            y: f64,
+        ) -> u32;
+        pub safe fn tzb_box_relevant(
+            minx: i32,
+            miny: i32,
+            maxx: i32,
+            maxy: i32,
+            x: f64,
+            y: f64,
+        ) -> u32;
+    }
+}
+
+use exports::*;
+
+pub fn crc32(data: &[u8]) -> u32 {
+    unsafe { tzb_crc32(data.as_ptr(), data.len()) }
+}
+
+pub fn utf8(data: &[u8]) -> u32 {
+    unsafe { tzb_utf8(data.as_ptr(), data.len()) }
+}
+
+pub fn reading(data: &[u8], at: usize) -> Reading {
+    unsafe {
+        Reading {
+            number: tzb_number(data.as_ptr(), data.len(), at),
+            length: tzb_number_length(data.as_ptr(), data.len(), at),
+        }
+    }
+}
+
+pub fn ray(s: &Scene) -> u64 {
+    tzb_ray(s.ax, s.ay, s.bx, s.by, s.x, s.y) as u64
+}
+
+pub fn parity(s: &Scene) -> u64 {
+    u64::from(tzb_parity(s.ax, s.ay, s.bx, s.by, s.x, s.y))
+}
+
+pub fn next_up(s: &Scene) -> u64 {
+    crate::scene::bits(tzb_next_up(s.x))
+}
+
+pub fn contains(s: &Scene) -> u64 {
+    u64::from(tzb_box_contains(s.ax, s.ay, s.bx, s.by, s.x, s.y))
+}
+
+pub fn relevant(s: &Scene) -> u64 {
+    u64::from(tzb_box_relevant(s.ax, s.ay, s.bx, s.by, s.x, s.y))
+}
