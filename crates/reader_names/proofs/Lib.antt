@@ -1,0 +1,3 @@
+-- Laws over the whole crate.
+pub mod Determined
+pub mod Named
