@@ -1,3 +1,5 @@
--- Laws over the whole crate.
-pub mod Determined
+-- Laws of the names: of opening's checks, of the question, of both together.
+pub mod Rises
+pub mod Places
 pub mod Named
+pub mod Determined

@@ -12,8 +12,10 @@ use Rattle.answer.specs.Answers.{ok}
 use Rattle.answer.specs.CheckLaws.{fine-one, fine-rest}
 use Rattle.reader_opened.specs.declared.Opened.{Opened}
 use Rattle.reader_opened.specs.Opened.{each-at, Within}
-use Rattle.reader_names.specs.Names.{namesCheck, text, textAt, textCheck, edge, fits, rises, ends}
-use Rattle.reader_names.specs.Asked.{nameAt, bounds-in, name-is}
+use Rattle.reader_names.specs.Names.{namesCheck, text, textAt, textCheck, edge}
+use Rattle.reader_names.specs.Asked.{nameAt}
+use Rattle.reader_names.proofs.Rises.{fits, rises, ends}
+use Rattle.reader_names.proofs.Places.{bounds-in, name-is}
 
 pub record Named (o : Opened) (s : List ℕ) (zone : ℕ) : Type 0 where
   pub given : nameAt o s zone ≡ ok (text s (o .names .off) (o .zones .count) zone)

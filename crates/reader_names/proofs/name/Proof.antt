@@ -1,6 +1,8 @@
 -- A zone's name as a part of the file, or none.
+-- Assumes nothing.
 use mathlib.Core.Path.{sym, ap, _∙_}
-use Rattle.reader_names.specs.Asked.{told, name-given, name-none, bounds-good}
+use Rattle.reader_names.specs.Asked.{told}
+use Rattle.reader_names.proofs.Places.{name-given, name-none, bounds-good}
 use borrow.Author.Needs.{needs}
 use Rattle.reader_names.proofs.name.Statement.{statement}
 use Rattle.reader_names.proofs.name.Tie as tie

@@ -1,5 +1,6 @@
 -- Where a zone's name stands, or why there is none.
-use Rattle.reader_names.specs.Asked.{bounds-many, bounds-past, bounds-turned, bounds-out, bounds-in, edge-is, edge-next}
+-- Assumes nothing.
+use Rattle.reader_names.proofs.Places.{bounds-many, bounds-past, bounds-turned, bounds-out, bounds-in, edge-is, edge-next}
 use native.Mathlib.Omega.{arith}
 use borrow.Author.Needs.{needs}
 use Rattle.reader_names.proofs.name_bounds.Statement.{statement}

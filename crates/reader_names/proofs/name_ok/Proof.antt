@@ -1,5 +1,6 @@
 -- A name, at the place that its two offsets give.
-use Rattle.reader_names.specs.Names.{text-on}
+-- Assumes nothing.
+use Rattle.reader_names.proofs.Rises.{text-on}
 use native.Mathlib.Omega.{arith}
 use borrow.Author.Needs.{needs}
 use Rattle.reader_names.proofs.name_ok.Statement.{statement}

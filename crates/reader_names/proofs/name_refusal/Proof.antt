@@ -1,6 +1,8 @@
 -- The number of a refused name, or 0.
+-- Assumes nothing.
 use mathlib.Core.Path.{sym, ap, _∙_}
-use Rattle.reader_names.specs.Asked.{told, number-given, number-none}
+use Rattle.reader_names.specs.Asked.{told}
+use Rattle.reader_names.proofs.Places.{number-given, number-none}
 use borrow.Author.Needs.{needs}
 use Rattle.reader_names.proofs.name_refusal.Statement.{statement}
 use Rattle.reader_names.proofs.name_refusal.Tie as tie

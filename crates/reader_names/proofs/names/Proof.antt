@@ -1,7 +1,9 @@
 -- 21 to 26: the shape, then every offset, then every name.
+-- Assumes nothing.
 use mathlib.Core.Path.{sym, _∙_}
 use Rattle.answer.specs.CheckLaws.{met-by, unmet-by, none-left}
-use Rattle.reader_names.specs.Names.{namesCheck, shaped, ordered}
+use Rattle.reader_names.specs.Names.{namesCheck}
+use Rattle.reader_names.proofs.Rises.{shaped, ordered}
 use borrow.Author.Needs.{needs}
 use Rattle.reader_names.proofs.names.Statement.{statement}
 use Rattle.reader_names.proofs.names.Tie as tie

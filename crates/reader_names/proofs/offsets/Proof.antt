@@ -1,9 +1,11 @@
 -- Every offset in turn, with the one before kept at hand.
+-- Assumes nothing.
 use Prim.Native.Nat.{_≤_, _-_, _+_}
 use mathlib.Core.Path.{_≡_, sym, _∙_}
 use Rattle.answer.specs.Checks.{each}
 use Rattle.answer.specs.CheckLaws.{each-start, each-stop, each-fine, each-end}
-use Rattle.reader_names.specs.Names.{offsetCheck, prior, prior-first, prior-next, offset-on}
+use Rattle.reader_names.specs.Names.{offsetCheck, prior}
+use Rattle.reader_names.proofs.Rises.{prior-first, prior-next, offset-on}
 use native.Mathlib.Omega.{arith}
 use borrow.Author.Needs.{needs}
 use Rattle.reader_names.proofs.offsets.Statement.{statement}

@@ -1,4 +1,5 @@
 -- 21 and 22.
+-- Assumes nothing.
 use mathlib.Core.Path.{_∙_}
 use Rattle.answer.specs.CheckLaws.{met, unmet, end, le-at, gt-at, eq-same, ne-same}
 use Rattle.reader_names.specs.Names.{shapeCheck}

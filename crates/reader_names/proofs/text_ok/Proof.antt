@@ -1,4 +1,5 @@
 -- 25 and 26 of a name.
+-- Assumes nothing.
 use mathlib.Core.Path.{sym, _∙_}
 use Rattle.answer.specs.CheckLaws.{met, unmet, end, eq-same, ne-same, told-yes, told-no, seek-start}
 use Rattle.reader_names.specs.Names.{textCheck}

@@ -1,4 +1,5 @@
 -- Every name in turn.
+-- Assumes nothing.
 use Prim.Native.Nat.{_≤_, _-_}
 use mathlib.Core.Path.{_≡_, sym, _∙_}
 use Rattle.answer.specs.Checks.{each}
