@@ -1,20 +1,24 @@
-// Opening, 21 to 26: the names. They stand in the file from `at` on, `len` bytes, n names: blob length, n + 1 offsets, blob.
+// Names. Opening's part, 21 to 26: n names in the `len` bytes from `at` on, as blob length, n + 1 offsets, blob. Then the question: a zone's name.
 ghost use mathlib.Core.Path.{_≡_};
-ghost use Prim.Native.Nat.{_+_, _-_, _*_, _≤_, _<_};
+ghost use Prim.Native.Nat.{_+_, _≤_, _<_};
 ghost use lib.ListN.{length};
 ghost use Rattle.answer.specs.Checks.{each};
-ghost use Rattle.reader_names.specs.Names.{blobLen, offsetAt, prior, Shaped, Ordered, shapeCheck, offsetCheck, textCheck, textAt, namesCheck, lastOk, empty};
+ghost use Rattle.reader_names.specs.Names.{offsetAt, Shaped, Ordered, shapeCheck, offsetRule, offsetCheck, textCheck, textAt, namesCheck};
+ghost use Rattle.reader_names.specs.Asked.{boundsAt, told, nameOr, refusalOf, nameAt};
 use answer::Checked;
+use answer::Refusal;
+use reader_opened::Opened;
 
 // 21 and 22.
 fn shape(s: &[u8], at: usize, len: usize, n: usize) -> Checked
     requires { ⌜ (at + len ≤ length (now s)) × (length (now s) < 0x1_0000_0000) × (n < 0x1_0000_0000) ⌝ }
     ensures { λ r. ⌜ r ≡ shapeCheck (now (s .entry)) at len n ⌝ }
 {
-    if len < 8 + 4 * n {
+    let prefix = 8 + 4 * n;
+    if len < prefix {
         return answer::fail(21);
     }
-    if 8 + 4 * n + reader_head::word(s, at) != len {
+    if prefix + reader_head::word(s, at) != len {
         return answer::fail(22);
     }
     Checked::Fine
@@ -27,82 +31,46 @@ fn offset(s: &[u8], at: usize, n: usize, i: usize) -> usize
     reader_head::word(s, at + 4 + 4 * i)
 }
 
-// The offset before, 0 before the first.
-fn before(s: &[u8], at: usize, n: usize, i: usize) -> usize
-    requires { ⌜ Shaped (now s) at n × (i ≤ n) ⌝ }
-    ensures { λ r. ⌜ r ≡ prior (now (s .entry)) at i ⌝ }
+// 23 and 24 of one offset, with the one before.
+fn offset_ok(i: usize, n: usize, prev: usize, off: usize, blob: usize) -> Checked
+    ensures { λ r. ⌜ r ≡ offsetRule i n prev off blob ⌝ }
 {
-    if i == 0 {
-        return 0;
-    }
-    offset(s, at, n, i - 1)
-}
-
-// 23 and 24 of one offset.
-fn offset_ok(s: &[u8], at: usize, n: usize, i: usize) -> Checked
-    requires { ⌜ Shaped (now s) at n × (i ≤ n) ⌝ }
-    ensures { λ r. ⌜ r ≡ offsetCheck (now (s .entry)) at n i ⌝ }
-{
-    let blob = reader_head::word(s, at);
-    let prev = before(s, at, n, i);
-    let off = offset(s, at, n, i);
-    if off < prev {
+    if (off < prev) | ((off > blob) | ((i == n) & (off != blob))) {
         return answer::fail(23);
     }
-    if blob < off {
-        return answer::fail(23);
-    }
-    if !is_last_ok(i, n, off, blob) {
-        return answer::fail(23);
-    }
-    if is_empty(i, off, prev) {
+    if (i > 0) & (off == prev) {
         return answer::fail(24);
     }
     Checked::Fine
-}
-
-fn is_last_ok(i: usize, n: usize, off: usize, blob: usize) -> bool
-    ensures { λ r. ⌜ r ≡ lastOk i n off blob ⌝ }
-{
-    if i < n {
-        return true;
-    }
-    off == blob
-}
-
-fn is_empty(i: usize, off: usize, prev: usize) -> bool
-    ensures { λ r. ⌜ r ≡ empty i off prev ⌝ }
-{
-    if i < 1 {
-        return false;
-    }
-    off == prev
 }
 
 fn offsets(s: &[u8], at: usize, n: usize) -> Checked
     requires { ⌜ Shaped (now s) at n ⌝ }
     ensures { λ r. ⌜ r ≡ each (offsetCheck (now (s .entry)) at n) (n + 1) 0 ⌝ }
 {
+    let blob = reader_head::word(s, at);
+    let mut prev = 0;
     let mut i = 0;
     while i <= n {
-        let a = offset_ok(s, at, n, i);
+        let off = offset(s, at, n, i);
+        let a = offset_ok(i, n, prev, off, blob);
         if let Checked::Refused(k) = a {
             return Checked::Refused(k);
         }
+        prev = off;
         i += 1;
     }
     Checked::Fine
 }
 
 // 25 and 26 of a name.
-fn text_ok(s: &[u8], from: usize, to: usize) -> Checked
-    requires { ⌜ (from ≤ to) × (to ≤ length (now s)) ⌝ }
-    ensures { λ r. ⌜ r ≡ textCheck (now (s .entry)) from to ⌝ }
+fn text_ok(name: &[u8]) -> Checked
+    ensures { λ r. ⌜ r ≡ textCheck (now (name .entry)) ⌝ }
 {
-    if !utf8::utf8_ok(s, from, to) {
+    if !utf8::utf8_ok(name) {
         return answer::fail(25);
     }
-    if reader_head::text_end(s, from, to) != to {
+    if reader_head::text_end(name, 0, name.len()) != name.len() {
         return answer::fail(26);
     }
     Checked::Fine
@@ -113,9 +81,9 @@ fn name_ok(s: &[u8], at: usize, n: usize, i: usize) -> Checked
     ensures { λ r. ⌜ r ≡ textAt (now (s .entry)) at n i ⌝ }
 {
     let blob = at + 8 + 4 * n;
-    let from = offset(s, at, n, i);
-    let to = offset(s, at, n, i + 1);
-    text_ok(s, blob + from, blob + to)
+    let from = blob + offset(s, at, n, i);
+    let to = blob + offset(s, at, n, i + 1);
+    text_ok(&s[from..to])
 }
 
 fn texts(s: &[u8], at: usize, n: usize) -> Checked
@@ -147,4 +115,56 @@ pub fn names(s: &[u8], at: usize, len: usize, n: usize) -> Checked
         return Checked::Refused(k);
     }
     texts(s, at, n)
+}
+
+// Where a zone's name stands: from its start up to its end.
+enum Bounds {
+    At(usize, usize),
+    Refused(Refusal),
+}
+
+// The two offsets, and the name's bytes, for any bytes and any zone number.
+fn name_bounds(s: &[u8], names: u32, zones: u32, zone: u32) -> Bounds
+    ensures { λ r. ⌜ told r ≡ boundsAt (now (s .entry)) names zones zone ⌝ }
+{
+    if zones <= zone {
+        return Bounds::Refused(answer::refuse(45));
+    }
+    let at = reader_head::wide(names);
+    let p = at + 4 + 4 * reader_head::wide(zone);
+    if s.len() < p + 8 {
+        return Bounds::Refused(answer::refuse(44));
+    }
+    let blob = at + 8 + 4 * reader_head::wide(zones);
+    let from = blob + reader_head::word(s, p);
+    let to = blob + reader_head::word(s, p + 4);
+    if to < from {
+        return Bounds::Refused(answer::refuse(23));
+    }
+    if to <= s.len() {
+        return Bounds::At(from, to);
+    }
+    Bounds::Refused(answer::refuse(44))
+}
+
+// A zone's name as that part of the lent file, empty where it is refused.
+pub fn name(o: Opened, s: &[u8], zone: u32) -> &[u8]
+    ensures { λ r. ⌜ now r ≡ nameOr o (now (s .entry)) zone ⌝ }
+{
+    let b = name_bounds(s, o.names.off, o.zones.count, zone);
+    if let Bounds::At(from, to) = b {
+        return &s[from..to];
+    }
+    &s[..0]
+}
+
+// The number by which a zone's name is refused, or 0.
+pub fn name_refusal(o: Opened, s: &[u8], zone: u32) -> u32
+    ensures { λ r. ⌜ r ≡ refusalOf (nameAt o (now (s .entry)) zone) ⌝ }
+{
+    let b = name_bounds(s, o.names.off, o.zones.count, zone);
+    if let Bounds::Refused(k) = b {
+        return k.number;
+    }
+    0
 }

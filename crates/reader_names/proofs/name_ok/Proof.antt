@@ -1,54 +1,49 @@
-use mathlib.Core.Path.{_≡_, refl, sym, ap, _∙_}
-use Rattle.reader_names.specs.Names.{textAt}
+-- A name, at the place that its two offsets give.
+-- Assumes nothing.
+use Rattle.reader_names.proofs.Rises.{text-on}
 use native.Mathlib.Omega.{arith}
 use borrow.Author.Needs.{needs}
 use Rattle.reader_names.proofs.name_ok.Statement.{statement}
 use Rattle.reader_names.proofs.name_ok.Tie as tie
-use Rattle.reader_names.proofs.name_ok.Reads as reads
-use Rattle.reader_names.proofs.name_ok.Lts as lts
-use Rattle.reader_names.proofs.offset.Reads as offset-reads
-use Rattle.reader_names.proofs.text_ok.Reads as text-ok-reads
 
--- src/lib.rt:115:16
 add-blob : tie.Need-add-blob
 add-blob c = search needs
 
--- src/lib.rt:115:25
 mul-blob : tie.Need-mul-blob
 mul-blob c = search needs
 
--- src/lib.rt:115:16
 add-blob-2 : tie.Need-add-blob-2
 add-blob-2 c = search needs
 
--- src/lib.rt:116:9
 offset-requires : tie.Need-offset-requires
 offset-requires c κs = search needs
 
--- src/lib.rt:117:31
+add-from : tie.Need-add-from
+add-from c = search needs
+
 add-offset : tie.Need-add-offset
 add-offset c = search needs
 
--- src/lib.rt:117:9
 offset-requires-2 : tie.Need-offset-requires-2
 offset-requires-2 c κs = search needs
 
--- src/lib.rt:118:16
-add-text-ok : tie.Need-add-text-ok
-add-text-ok c = search needs
+add-to : tie.Need-add-to
+add-to c = search needs
 
--- src/lib.rt:118:29
-add-text-ok-2 : tie.Need-add-text-ok-2
-add-text-ok-2 c = search needs
+sub-text-ok : tie.Need-sub-text-ok
+sub-text-ok c = let g = c .before .before .before in omega (arith, g .pre .0 .rises (g .args .i) (g .pre .1))
 
--- src/lib.rt:118:5
+part-text-ok-start : tie.Need-part-text-ok-start
+part-text-ok-start c = let g = c .before .before .before in omega (arith, g .pre .0 .rises (g .args .i) (g .pre .1))
+
+part-text-ok-end : tie.Need-part-text-ok-end
+part-text-ok-end c = let g = c .before .before .before in omega (arith, g .pre .0 .ends (g .args .i) (g .pre .1))
+
 text-ok-requires : tie.Need-text-ok-requires
-text-ok-requires c κs = let g = c .before .before .before in (omega (arith, g .pre .0 .rises (g .args .i) (g .pre .1)), omega (arith, g .pre .0 .ends (g .args .i) (g .pre .1)))
+text-ok-requires c κs = search needs
 
--- src/lib.rt:111:1
 returns : tie.Need-returns
-unfolding textAt
-returns c = c .text-ok .ensures ∙ cc
+returns c = text-on _ _ _ _ _ _ _ (c .before .before .before .offset .ensures .0) (c .before .before .offset2 .ensures .0) (c .text-ok .ensures)
 
 pub name-ok-spec : {M : Type 1} → statement M
 name-ok-spec =
@@ -58,9 +53,12 @@ name-ok-spec =
     mul-blob
     add-blob-2
     offset-requires
+    add-from
     add-offset
     offset-requires-2
-    add-text-ok
-    add-text-ok-2
+    add-to
+    sub-text-ok
+    part-text-ok-start
+    part-text-ok-end
     text-ok-requires
     returns)

@@ -1,56 +1,51 @@
-use Prim.Native.Nat.{_≤_, _<_, _-_}
-use mathlib.Core.Path.{_≡_, refl, sym, _∙_}
+-- Every name in turn.
+-- Assumes nothing.
+use Prim.Native.Nat.{_≤_, _-_}
+use mathlib.Core.Path.{_≡_, sym, _∙_}
 use Rattle.answer.specs.Checks.{each}
 use Rattle.answer.specs.CheckLaws.{each-start, each-stop, each-fine, each-end}
-use Rattle.reader_names.specs.Names.{textAt, Ordered}
+use Rattle.reader_names.specs.Names.{textAt}
 use native.Mathlib.Omega.{arith}
 use borrow.Author.Needs.{needs}
 use Rattle.reader_names.proofs.texts.Statement.{statement}
 use Rattle.reader_names.proofs.texts.Tie as tie
-use Rattle.reader_names.proofs.texts.Reads as reads
-use Rattle.reader_names.proofs.texts.Lts as lts
-use Rattle.reader_names.proofs.name_ok.Reads as name-ok-reads
 
 abbrev Inv-loop : tie.InvT-loop
-Inv-loop s at n i₀ i = (i ≤ n) × (Ordered s at n) × (each (textAt s at n) (n - i) i ≡ each (textAt s at n) n 0)
+Inv-loop s at n i₀ i = (i ≤ n) × (each (textAt s at n) (n - i) i ≡ each (textAt s at n) n 0)
 
 abbrev μ-loop : tie.MeasureT-loop
 μ-loop s at n i₀ i = n - i
 
--- src/lib.rt:126:5
 loop-holds : tie.Need-loop-holds Inv-loop μ-loop
-loop-holds c = (omega arith, search needs, each-start _ _)
+loop-holds c = (omega arith, each-start _ _)
 
--- src/lib.rt:127:13
 name-ok-requires : tie.Need-name-ok-requires Inv-loop μ-loop
 name-ok-requires c κs = search needs
 
--- src/lib.rt:128:33
 enum-known-a : tie.Need-enum-known-a Inv-loop μ-loop
 enum-known-a c = search needs
 
--- src/lib.rt:129:13
 returns : tie.Need-returns Inv-loop μ-loop
-returns c = each-stop _ _ _ _ (c .before .before .before .before .before .loop .inv .2) (omega arith) _ (cc)
+returns c =
+    let told = c .before .before .before in
+    each-stop _ _ _ _ (told .before .before .loop .inv .1) (told .before .loop-test .taken) _ (sym (told .name-ok .ensures) ∙ c .before .a .given .1)
 
 enum-told : tie.Need-enum-told Inv-loop μ-loop
 enum-told c = search needs
 
--- src/lib.rt:131:9
 add-i : tie.Need-add-i Inv-loop μ-loop
 add-i c = search needs
 
--- src/lib.rt:126:5
 loop-less : tie.Need-loop-less Inv-loop μ-loop
 loop-less c = search needs
 
--- src/lib.rt:126:5
 loop-again : tie.Need-loop-again Inv-loop μ-loop
-loop-again c = (omega arith, search needs, each-fine _ _ _ _ (c .before .before .before .before .loop .inv .2) (omega arith) (cc))
+loop-again c =
+    let told = c .before .before in
+    (omega arith, each-fine _ _ _ _ (told .before .before .loop .inv .1) (told .before .loop-test .taken) (sym (told .name-ok .ensures) ∙ c .enum-told .given .1))
 
--- src/lib.rt:121:1
 returns-2 : tie.Need-returns-2 Inv-loop μ-loop
-returns-2 c = each-end _ _ _ _ (c .before .loop .inv .2) (omega arith)
+returns-2 c = each-end _ _ _ _ (c .before .loop .inv .1) (c .loop-test .left)
 
 pub texts-spec : {M : Type 1} → statement M
 texts-spec =

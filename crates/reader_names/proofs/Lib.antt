@@ -1,0 +1,5 @@
+-- Laws of the names: of opening's checks, of the question, of both together.
+pub mod Rises
+pub mod Places
+pub mod Named
+pub mod Determined
