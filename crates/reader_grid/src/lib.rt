@@ -1,64 +1,61 @@
-// Opening, 27 to 31: GRID, `len` bytes from `at` on.
+// GRID: opening's checks of it, 27 to 31, and which zones are candidates for a position.
 ghost use mathlib.Core.Path.{_≡_};
-ghost use Prim.Native.Nat.{_+_, _-_, _*_, _≤_, _<_};
+ghost use mathlib.Core.Bool.{true};
+ghost use Prim.Native.Nat.{_+_, _*_, _≤_, _<_};
+ghost use lib.IntN.{pos, natAbs, _-ℤ_};
+ghost use lib.Signed.{leZ};
 ghost use lib.ListN.{length};
 ghost use Rattle.answer.specs.Checks.{each};
-ghost use Rattle.reader_grid.specs.Grid.{firstsCheck, spansCheck, Small, candidateCheck, cellCheck, rangeCheck, gridCheck, wordCount, wordOffset};
+ghost use Rattle.reader_opened.specs.Opened.{Within};
+ghost use Rattle.reader_grid.specs.Word.{wordCount, wordOffset, rangeCheck};
+ghost use Rattle.reader_grid.specs.Grid.{lastOf, dimensions, cellCount, candidateCheck, cellCheck, gridCheck};
+ghost use Rattle.reader_grid.specs.Floor.{floorOf, Small};
+ghost use Rattle.reader_grid.specs.Asked.{told, toldZone, onEarth, inSpan, inGrid, cellOf, cellCandidates, candidatesOf, candidatePlace, zoneBelow, candidateAt};
 use answer::Checked;
+use answer::Refusal;
+use fields::Loaded16;
+use fields::Loaded32;
+use reader_opened::Grid;
+use reader_opened::Opened;
+use reader_table::Section;
 
-// The firsts, 32,768 higher, columns, rows, total.
-pub struct Dims {
-    pub lng: usize,
-    pub lat: usize,
-    pub cols: usize,
-    pub rows: usize,
-    pub total: usize,
+// The zones that a question looks at.
+pub enum Choice {
+    None,
+    // All zones, in order: how many there are.
+    All(u32),
+    // The candidates of a cell: how many, and the place of the first.
+    Listed(u32, u32),
+    Refused(Refusal),
 }
 
-// 28: columns, rows and firsts.
-fn firsts(d: Dims) -> Checked
-    ensures { λ r. ⌜ r ≡ firstsCheck d ⌝ }
-{
-    if d.cols < 1 {
-        return answer::fail(28);
-    }
-    if d.rows < 1 {
-        return answer::fail(28);
-    }
-    if d.lng < 32_768 - 181 {
-        return answer::fail(28);
-    }
-    if 32_768 + 180 < d.lng {
-        return answer::fail(28);
-    }
-    if d.lat < 32_768 - 91 {
-        return answer::fail(28);
-    }
-    if 32_768 + 90 < d.lat {
-        return answer::fail(28);
-    }
-    Checked::Fine
+// The zone at a place of the candidate list.
+pub enum Candidate {
+    Zone(u32),
+    Refused(Refusal),
 }
 
-// 28: lasts and total.
-fn spans(d: Dims) -> Checked
-    requires { ⌜ Small d ⌝ }
-    ensures { λ r. ⌜ r ≡ spansCheck d ⌝ }
+// ---- opening
+
+// The last longitude or latitude.
+fn last(first: i16, count: u16) -> i32
+    ensures { λ r. ⌜ r ≡ lastOf first count ⌝ }
 {
-    if 32_768 + 182 < d.lng + d.cols {
-        return answer::fail(28);
-    }
-    if 32_768 + 92 < d.lat + d.rows {
-        return answer::fail(28);
-    }
-    if 0x1000_0000 <= d.total {
-        return answer::fail(28);
-    }
-    Checked::Fine
+    (first as i32) + (count as i32) - 1
+}
+
+// 28.
+fn dimensions(g: Grid) -> bool
+    ensures { λ r. ⌜ r ≡ dimensions g ⌝ }
+{
+    ((0 < g.cols) & (0 < g.rows))
+        & (((-181 <= g.lng) & (g.lng <= 180)) & ((-91 <= g.lat) & (g.lat <= 90)))
+        & ((last(g.lng, g.cols) <= 181) & (last(g.lat, g.rows) <= 91))
+        & (g.total < 0x1000_0000)
 }
 
 // 31, the j-th candidate from `at` on.
-fn candidate(s: &[u8], at: usize, zones: usize, j: usize) -> Checked
+fn zone_listed(s: &[u8], at: usize, zones: usize, j: usize) -> Checked
     requires { ⌜ (at + 2 * j + 2 ≤ length (now s)) × (length (now s) < 0x1_0000_0000) ⌝ }
     ensures { λ r. ⌜ r ≡ candidateCheck (now (s .entry)) at zones j ⌝ }
 {
@@ -66,13 +63,13 @@ fn candidate(s: &[u8], at: usize, zones: usize, j: usize) -> Checked
 }
 
 // 31, of n candidates from `at` on.
-fn candidates(s: &[u8], at: usize, zones: usize, n: usize) -> Checked
+fn zones_listed(s: &[u8], at: usize, zones: usize, n: usize) -> Checked
     requires { ⌜ (at + 2 * n ≤ length (now s)) × (length (now s) < 0x1_0000_0000) ⌝ }
     ensures { λ r. ⌜ r ≡ each (candidateCheck (now (s .entry)) at zones) n 0 ⌝ }
 {
     let mut j = 0;
     while j < n {
-        let a = candidate(s, at, zones, j);
+        let a = zone_listed(s, at, zones, j);
         if let Checked::Refused(k) = a {
             return Checked::Refused(k);
         }
@@ -111,7 +108,7 @@ fn cell(s: &[u8], at: usize, cands: usize, total: usize, zones: usize, i: usize)
     if let Checked::Refused(k) = a {
         return Checked::Refused(k);
     }
-    candidates(s, cands + 2 * low(w), zones, top(w))
+    zones_listed(s, cands + 2 * low(w), zones, top(w))
 }
 
 fn cells(s: &[u8], at: usize, n: usize, total: usize, zones: usize) -> Checked
@@ -131,33 +128,165 @@ fn cells(s: &[u8], at: usize, n: usize, total: usize, zones: usize) -> Checked
 }
 
 // How many cells there are.
-fn area(cols: usize, rows: usize) -> usize
-    requires { ⌜ (cols < 65536) × (rows < 65536) ⌝ }
+fn area(cols: u16, rows: u16) -> usize
     ensures { λ r. ⌜ (r ≡ cols * rows) × (r < 0x1_0000_0000) ⌝ }
 {
-    cols * rows
+    (cols as usize) * (rows as usize)
 }
 
-// 27 to 31.
-pub fn grid(s: &[u8], at: usize, len: usize, d: Dims, zones: usize) -> Checked
-    requires { ⌜ (at + len ≤ length (now s)) × (length (now s) < 0x1_0000_0000) × Small d ⌝ }
-    ensures { λ r. ⌜ r ≡ gridCheck (now (s .entry)) at len d zones ⌝ }
+// 27 to 31, of a section and what its first bytes say.
+pub fn grid(s: &[u8], sec: Section, g: Grid, zones: usize) -> Checked
+    requires { ⌜ Within (now s) sec × (length (now s) < 0x1_0000_0000) ⌝ }
+    ensures { λ r. ⌜ r ≡ gridCheck (now (s .entry)) sec g zones ⌝ }
 {
+    let len = reader_head::wide(sec.len);
     if len < 12 {
         return answer::fail(27);
     }
-    let a = firsts(d);
-    if let Checked::Refused(k) = a {
-        return Checked::Refused(k);
+    if !dimensions(g) {
+        return answer::fail(28);
     }
-    let b = spans(d);
-    if let Checked::Refused(k) = b {
-        return Checked::Refused(k);
-    }
-    let n = area(d.cols, d.rows);
-    let total = d.total;
+    let n = area(g.cols, g.rows);
+    let total = reader_head::wide(g.total);
     if 12 + 4 * n + 2 * total != len {
         return answer::fail(29);
     }
+    let at = reader_head::wide(sec.off);
     cells(s, at + 12, n, total, zones)
+}
+
+// ---- asking
+
+fn on_earth(lng: f64, lat: f64) -> bool
+    ensures { λ r. ⌜ r ≡ onEarth lng lat ⌝ }
+{
+    ((-180.0 <= lng) & (lng <= 180.0)) & ((-90.0 <= lat) & (lat <= 90.0))
+}
+
+// The greatest whole number not above x.
+fn floor(x: f64) -> i64
+    requires { ⌜ Small x ⌝ }
+    ensures { λ r. ⌜ (r ≡ floorOf x) × (natAbs r ≤ 181) ⌝ }
+{
+    let cut = std::num::truncating_f64_to_i64(x);
+    if std::num::nearest_i64_to_f64(cut) > x {
+        cut - 1
+    } else {
+        cut
+    }
+}
+
+// How many cells a coordinate lies past the first.
+fn steps(x: f64, first: i16) -> i64
+    requires { ⌜ Small x ⌝ }
+    ensures { λ r. ⌜ r ≡ floorOf x -ℤ first ⌝ }
+{
+    floor(x) - (first as i64)
+}
+
+fn in_span(z: i64, count: u16) -> bool
+    ensures { λ r. ⌜ r ≡ inSpan z count ⌝ }
+{
+    (0 <= z) & (z < (count as i64))
+}
+
+fn in_grid(g: Grid, column: i64, row: i64) -> bool
+    ensures { λ r. ⌜ r ≡ inGrid g column row ⌝ }
+{
+    in_span(column, g.cols) & in_span(row, g.rows)
+}
+
+fn natural(z: i64) -> usize
+    requires { ⌜ leZ (pos 0) z ≡ true ⌝ }
+    ensures { λ r. ⌜ r ≡ natAbs z ⌝ }
+{
+    z as usize
+}
+
+fn wide16(x: u16) -> usize
+    ensures { λ r. ⌜ (r ≡ x) × (r < 0x1_0000) ⌝ }
+{
+    x as usize
+}
+
+// Where the word of a cell stands.
+fn cell_place(g: Grid, column: i64, row: i64) -> usize
+    requires { ⌜ inGrid g column row ≡ true ⌝ }
+    ensures { λ r. ⌜ r ≡ g .off + 12 + 4 * cellOf g column row ⌝ }
+{
+    let cell = natural(row) * wide16(g.cols) + natural(column);
+    reader_head::wide(g.off) + 12 + 4 * cell
+}
+
+// The candidates of a cell.
+fn cell_candidates(s: &[u8], g: Grid, column: i64, row: i64) -> Choice
+    ensures { λ r. ⌜ told r ≡ cellCandidates (now (s .entry)) g column row ⌝ }
+{
+    if !in_grid(g, column, row) {
+        return Choice::None;
+    }
+    let word = fields::u32_le(s, cell_place(g, column, row));
+    match word {
+        Loaded32::Value(w) => Choice::Listed(w / 0x1000_0000, w % 0x1000_0000),
+        Loaded32::Refused(k) => Choice::Refused(k),
+    }
+}
+
+// The candidates for a position.
+pub fn candidates(o: Opened, s: &[u8], lng: f64, lat: f64) -> Choice
+    ensures { λ r. ⌜ told r ≡ candidatesOf o (now (s .entry)) lng lat ⌝ }
+{
+    if !on_earth(lng, lat) {
+        return Choice::None;
+    }
+    if o.flags % 2 == 0 {
+        let zones = o.zones;
+        return Choice::All(zones.count);
+    }
+    let g = o.grid;
+    let column = steps(lng, g.lng);
+    let row = steps(lat, g.lat);
+    cell_candidates(s, g, column, row)
+}
+
+// Where a candidate stands.
+fn candidate_place(g: Grid, place: u32) -> usize
+    ensures { λ r. ⌜ r ≡ candidatePlace g place ⌝ }
+{
+    let cells = area(g.cols, g.rows);
+    reader_head::wide(g.off) + 12 + 4 * cells + 2 * reader_head::wide(place)
+}
+
+fn number(x: u16) -> u32
+    ensures { λ r. ⌜ r ≡ x ⌝ }
+{
+    x as u32
+}
+
+// 31.
+fn zone_below(zones: u32, x: u16) -> Candidate
+    ensures { λ r. ⌜ toldZone r ≡ zoneBelow zones x ⌝ }
+{
+    let zone = number(x);
+    if zone < zones {
+        Candidate::Zone(zone)
+    } else {
+        Candidate::Refused(answer::refuse(31))
+    }
+}
+
+// The zone at a place of the candidate list.
+pub fn candidate_at(o: Opened, s: &[u8], place: u32) -> Candidate
+    ensures { λ r. ⌜ toldZone r ≡ candidateAt o (now (s .entry)) place ⌝ }
+{
+    let g = o.grid;
+    if g.total <= place {
+        return Candidate::Refused(answer::refuse(30));
+    }
+    let zones = o.zones;
+    let found = fields::u16_le(s, candidate_place(g, place));
+    match found {
+        Loaded16::Value(x) => zone_below(zones.count, x),
+        Loaded16::Refused(k) => Candidate::Refused(k),
+    }
 }

@@ -1,71 +1,54 @@
-use Prim.Native.Nat.{_≤_, _<_, _-_, _+_}
-use mathlib.Core.Path.{_≡_, refl, sym, _∙_}
-use Rattle.answer.specs.Checks.{each}
-use Rattle.answer.specs.CheckLaws.{each-start, each-stop, each-fine, each-end}
-use Prim.Native.Nat.{_*_}
-use lib.ListN.{length}
-use Rattle.reader_grid.specs.Grid.{candidateCheck}
-use native.Mathlib.Omega.{arith}
+-- `candidates` meets its contract: off the earth, without GRID, by the cell.
+-- Assumes nothing.
+use mathlib.Core.Path.{ap, _∙_}
+use lib.IntN.{ℤ, _-ℤ_}
+use mir.Syntax.{w16, w64}
+use Rattle.answer.specs.CheckLaws.{told-yes, told-no}
+use Rattle.reader_grid.proofs.Asking.{off-earth, no-grid, by-grid}
+use Rattle.reader_grid.specs.Floor.{floorOf}
+use Rattle.reader_grid.proofs.Numbers.{back}
+use Rattle.reader_grid.proofs.Bounds.{lng-small, lat-small}
 use borrow.Author.Needs.{needs}
 use Rattle.reader_grid.proofs.candidates.Statement.{statement}
 use Rattle.reader_grid.proofs.candidates.Tie as tie
-use Rattle.reader_grid.proofs.candidates.Reads as reads
-use Rattle.reader_grid.proofs.candidates.Lts as lts
-use Rattle.reader_grid.proofs.candidate.Reads as candidate-reads
 
-abbrev Inv-loop : tie.InvT-loop
-Inv-loop s at zones n j₀ j = (j ≤ n) × (at + 2 * n ≤ length s) × (length s < 0x1_0000_0000) × (each (candidateCheck s at zones) (n - j) j ≡ each (candidateCheck s at zones) (n) 0)
+on-earth-requires : tie.Need-on-earth-requires
+on-earth-requires c κs = search needs
 
-abbrev μ-loop : tie.MeasureT-loop
-μ-loop s at zones n j₀ j = n - j
+returns : tie.Need-returns
+returns c = off-earth _ _ _ _ (told-no _ _ (c .before .on-earth .ensures) (c .if1 .taken))
 
--- src/lib.rt:74:5
-loop-holds : tie.Need-loop-holds Inv-loop μ-loop
-loop-holds c = (omega arith, search needs, search needs, each-start _ _)
+returns-2 : tie.Need-returns-2
+returns-2 c = no-grid _ _ _ _ (told-yes _ _ (c .before .before .before .before .on-earth .ensures) (c .before .before .before .if1 .left)) (c .before .if2 .taken)
 
--- src/lib.rt:75:13
-candidate-requires : tie.Need-candidate-requires Inv-loop μ-loop
-candidate-requires c κs = search needs
+steps-requires : tie.Need-steps-requires
+steps-requires c κs = lng-small _ _ (told-yes _ _ (c .before .before .before .before .before .on-earth .ensures) (c .before .before .before .before .if1 .left))
 
--- src/lib.rt:76:33
-enum-known-a : tie.Need-enum-known-a Inv-loop μ-loop
-enum-known-a c = search needs
+steps-requires-2 : tie.Need-steps-requires-2
+steps-requires-2 c κs = lat-small _ _ (told-yes _ _ (c .before .before .before .before .before .before .before .on-earth .ensures) (c .before .before .before .before .before .before .if1 .left))
 
--- src/lib.rt:77:13
-returns : tie.Need-returns Inv-loop μ-loop
-returns c = each-stop _ _ _ _ (c .before .before .before .before .before .loop .inv .3) (omega arith) _ (cc)
+cell-candidates-requires : tie.Need-cell-candidates-requires
+cell-candidates-requires c κs = search needs
 
-enum-told : tie.Need-enum-told Inv-loop μ-loop
-enum-told c = search needs
-
--- src/lib.rt:79:9
-add-j : tie.Need-add-j Inv-loop μ-loop
-add-j c = search needs
-
--- src/lib.rt:74:5
-loop-less : tie.Need-loop-less Inv-loop μ-loop
-loop-less c = search needs
-
--- src/lib.rt:74:5
-loop-again : tie.Need-loop-again Inv-loop μ-loop
-loop-again c = (omega arith, search needs, search needs, each-fine _ _ _ _ (c .before .before .before .before .loop .inv .3) (omega arith) (cc))
-
--- src/lib.rt:69:1
-returns-2 : tie.Need-returns-2 Inv-loop μ-loop
-returns-2 c = each-end _ _ _ _ (c .before .loop .inv .3) (omega arith)
+returns-3 : tie.Need-returns-3
+returns-3 c =
+    let second = c .before in
+    let one = second .before .before in
+    let test = one .before .before .before in
+    let start = test .before .before .before .before .before in
+    by-grid _ _ _ _ _ _ _ (told-yes _ _ (test .before .before .before .on-earth .ensures) (test .before .before .if1 .left)) (test .if2 .left)
+    (back w64 (one .steps .result) (one .steps .ok) ∙ one .steps .ensures ∙ ap (λ (z : ℤ). floorOf (start .args .lng) -ℤ z) (back w16 (start .args .o .grid .lng) (one .before .struct-told .given .1 .0 .1)))
+    (back w64 (second .steps2 .result) (second .steps2 .ok) ∙ second .steps2 .ensures ∙ ap (λ (z : ℤ). floorOf (start .args .lat) -ℤ z) (back w16 (start .args .o .grid .lat) (second .before .struct-told2 .given .1 .1 .0 .1)))
+    (c .cell-candidates .ensures)
 
 pub candidates-spec : {M : Type 1} → statement M
 candidates-spec =
     tie.close
     (tie.spec
-    Inv-loop
-    μ-loop
-    loop-holds
-    candidate-requires
-    enum-known-a
+    on-earth-requires
     returns
-    enum-told
-    add-j
-    loop-less
-    loop-again
-    returns-2)
+    returns-2
+    steps-requires
+    steps-requires-2
+    cell-candidates-requires
+    returns-3)

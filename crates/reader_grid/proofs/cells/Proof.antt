@@ -1,5 +1,7 @@
+-- `cells` meets its contract. The loop's invariant: what is left of the cells answers as all of them do.
+-- Assumes nothing.
 use Prim.Native.Nat.{_≤_, _<_, _-_, _+_}
-use mathlib.Core.Path.{_≡_, refl, sym, _∙_}
+use mathlib.Core.Path.{_≡_}
 use Rattle.answer.specs.Checks.{each}
 use Rattle.answer.specs.CheckLaws.{each-start, each-stop, each-fine, each-end}
 use Prim.Native.Nat.{_*_}
@@ -9,9 +11,6 @@ use native.Mathlib.Omega.{arith}
 use borrow.Author.Needs.{needs}
 use Rattle.reader_grid.proofs.cells.Statement.{statement}
 use Rattle.reader_grid.proofs.cells.Tie as tie
-use Rattle.reader_grid.proofs.cells.Reads as reads
-use Rattle.reader_grid.proofs.cells.Lts as lts
-use Rattle.reader_grid.proofs.cell.Reads as cell-reads
 
 abbrev Inv-loop : tie.InvT-loop
 Inv-loop s at n total zones cands i₀ i = (i ≤ n) × (cands ≡ at + 4 * n) × (at + 4 * n + 2 * total ≤ length s) × (length s < 0x1_0000_0000) × (each (cellCheck s at (at + 4 * n) total zones) (n - i) i ≡ each (cellCheck s at (at + 4 * n) total zones) (n) 0)
@@ -19,46 +18,36 @@ Inv-loop s at n total zones cands i₀ i = (i ≤ n) × (cands ≡ at + 4 * n) �
 abbrev μ-loop : tie.MeasureT-loop
 μ-loop s at n total zones cands i₀ i = n - i
 
--- src/lib.rt:121:22
 mul-cands : tie.Need-mul-cands Inv-loop μ-loop
 mul-cands c = search needs
 
--- src/lib.rt:121:17
 add-cands : tie.Need-add-cands Inv-loop μ-loop
 add-cands c = search needs
 
--- src/lib.rt:123:5
 loop-holds : tie.Need-loop-holds Inv-loop μ-loop
 loop-holds c = (omega arith, search needs, search needs, search needs, each-start _ _)
 
--- src/lib.rt:124:13
 cell-requires : tie.Need-cell-requires Inv-loop μ-loop
 cell-requires c κs = search needs
 
--- src/lib.rt:125:33
 enum-known-a : tie.Need-enum-known-a Inv-loop μ-loop
 enum-known-a c = search needs
 
--- src/lib.rt:126:13
 returns : tie.Need-returns Inv-loop μ-loop
 returns c = each-stop _ _ _ _ (c .before .before .before .before .before .loop .inv .4) (omega arith) _ (cc)
 
 enum-told : tie.Need-enum-told Inv-loop μ-loop
 enum-told c = search needs
 
--- src/lib.rt:128:9
 add-i : tie.Need-add-i Inv-loop μ-loop
 add-i c = search needs
 
--- src/lib.rt:123:5
 loop-less : tie.Need-loop-less Inv-loop μ-loop
 loop-less c = search needs
 
--- src/lib.rt:123:5
 loop-again : tie.Need-loop-again Inv-loop μ-loop
 loop-again c = (omega arith, search needs, search needs, search needs, each-fine _ _ _ _ (c .before .before .before .before .loop .inv .4) (omega arith) (cc))
 
--- src/lib.rt:117:1
 returns-2 : tie.Need-returns-2 Inv-loop μ-loop
 returns-2 c = each-end _ _ _ _ (c .before .loop .inv .4) (omega arith)
 

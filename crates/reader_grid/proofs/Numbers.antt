@@ -1,0 +1,153 @@
+-- Whole numbers in the code's widths: sums and differences that fit, and the last column or row of a grid.
+-- Assumes nothing.
+use Prim.Native.Nat.{ℕ, zero, suc, _+_, _-_, _≤_, _<_, _^_}
+use native.Mathlib.Omega.{arith}
+use mathlib.Core.Path.{_≡_, refl}
+use mathlib.Core.Bool.{Bool, true, false, cond, false≢true}
+use borrow.Author.Tests.{ltb-true}
+use lib.Dec.{T, ltb}
+use lib.IntN.{ℤ, pos, negsuc, negℤ, natAbs, subℕ, _+ℤ_, _-ℤ_}
+use lib.Signed.{mag, leZ, ltZ, nonNeg, natAbs-le}
+use mir.Syntax.{Width, w16, w32, w64}
+use mir.Val.{SFits, toZ, ofZ, hbits}
+use mir.ValLaws.{toZ-ofZ, toZ-pos}
+use Rattle.basics.specs.Truth.{and-l, and-r}
+use Rattle.reader_grid.specs.Grid.{lastOf}
+use Rattle.reader_opened.specs.declared.Grid.{Grid}
+use Rattle.reader_grid.specs.Asked.{inSpan, inGrid}
+
+sub-abs : (a b : ℕ) → natAbs (subℕ a b) ≤ a + b
+sub-abs a b = go (ltb a b) refl
+  where
+    go : (t : Bool) → ltb a b ≡ t → natAbs (cond t (negsuc (b - suc a)) (pos (a - b))) ≤ a + b
+    go true e = omega (arith, ltb-true a b e)
+    go false e = omega arith
+
+sum-abs : (x y : ℤ) → natAbs (x +ℤ y) ≤ natAbs x + natAbs y
+sum-abs (pos a) (pos b) = omega arith
+sum-abs (pos a) (negsuc b) = sub-abs a (suc b)
+sum-abs (negsuc a) (pos b) = omega (arith, sub-abs b (suc a))
+sum-abs (negsuc a) (negsuc b) = omega arith
+
+neg-abs : (x : ℤ) → natAbs (negℤ x) ≡ natAbs x
+neg-abs (pos zero) = refl
+neg-abs (pos (suc n)) = refl
+neg-abs (negsuc n) = refl
+
+pub minus-abs : (x y : ℤ) → natAbs (x -ℤ y) ≤ natAbs x + natAbs y
+minus-abs x y = omega (arith, sum-abs x (negℤ y), neg-abs y)
+
+mag-le : (z : ℤ) → mag z ≤ natAbs z
+mag-le (pos n) = omega arith
+mag-le (negsuc n) = omega arith
+
+-- a small number fits
+pub near : (w : Width) (z : ℤ) → natAbs z < 2 ^ hbits w → SFits w z
+near w z h = record { sfits = omega (arith, mag-le z) }
+
+-- a signed number, read back from its bits
+pub back : (w : Width) (z : ℤ) → mag z < 2 ^ hbits w → toZ w (ofZ w z) ≡ z
+back w z h = toZ-ofZ w z (record { sfits = h })
+
+-- an i16 made wider is the same number
+module _ (w : Width) (z : ℤ) (k : 32_768 ≤ 2 ^ hbits w) (h : SFits w16 z) where
+  pub widened : SFits w z
+  widened = record { sfits = omega (arith, h .sfits) }
+
+  pub wide-fits : SFits w (toZ w16 (ofZ w16 z))
+  wide-fits = rw (toZ-ofZ w16 z h) widened
+
+  pub wide-eq : toZ w (ofZ w (toZ w16 (ofZ w16 z))) ≡ z
+  wide-eq = rw (toZ-ofZ w16 z h) (toZ-ofZ w z widened)
+
+-- first + count - 1, in 32 bits
+module _ (first : ℤ) (count : ℕ) (h : SFits w16 first) (k : count < 65_536) where
+  wide-first : toZ w32 (ofZ w32 (toZ w16 (ofZ w16 first))) ≡ first
+  wide-first = wide-eq w32 first (omega arith) h
+
+  wide-count : toZ w32 count ≡ pos count
+  wide-count = toZ-pos w32 count (omega arith)
+
+  sum-small : natAbs (first +ℤ pos count) ≤ 98_304
+  sum-small = omega (arith, sum-abs first (pos count), natAbs-le first (h .sfits))
+
+  sum-in : SFits w32 (first +ℤ pos count)
+  sum-in = near w32 _ (omega (arith, sum-small))
+
+  last-in : SFits w32 (lastOf first count)
+  last-in = near w32 _ (omega (arith, minus-abs (first +ℤ pos count) (pos 1), sum-small))
+
+  pub sum-fits : SFits w32 (toZ w32 (ofZ w32 (toZ w16 (ofZ w16 first))) +ℤ toZ w32 count)
+  sum-fits = rw (wide-first, wide-count) sum-in
+
+  pub last-fits : SFits w32 (toZ w32 (ofZ w32 (toZ w32 (ofZ w32 (toZ w16 (ofZ w16 first))) +ℤ toZ w32 count)) -ℤ pos 1)
+  last-fits = rw (wide-first, wide-count, toZ-ofZ w32 (first +ℤ pos count) sum-in) last-in
+
+  pub last-is : toZ w32 (ofZ w32 (toZ w32 (ofZ w32 (toZ w32 (ofZ w32 (toZ w16 (ofZ w16 first))) +ℤ toZ w32 count)) -ℤ pos 1)) ≡ lastOf first count
+  last-is = rw (wide-first, wide-count, toZ-ofZ w32 (first +ℤ pos count) sum-in) (toZ-ofZ w32 (lastOf first count) last-in)
+
+-- a floor less the first, in 64 bits
+module _ (z first : ℤ) (k : natAbs z ≤ 181) (h : SFits w16 first) where
+  wide-step : toZ w64 (ofZ w64 (toZ w16 (ofZ w16 first))) ≡ first
+  wide-step = wide-eq w64 first (omega arith) h
+
+  same-z : toZ w64 (ofZ w64 z) ≡ z
+  same-z = toZ-ofZ w64 z (near w64 z (omega arith))
+
+  step-in : SFits w64 (z -ℤ first)
+  step-in = near w64 _ (omega (arith, minus-abs z first, natAbs-le first (h .sfits)))
+
+  pub step-fits : SFits w64 (toZ w64 (ofZ w64 z) -ℤ toZ w64 (ofZ w64 (toZ w16 (ofZ w16 first))))
+  step-fits = rw (same-z, wide-step) step-in
+
+  pub step-is : toZ w64 (ofZ w64 (toZ w64 (ofZ w64 z) -ℤ toZ w64 (ofZ w64 (toZ w16 (ofZ w16 first))))) ≡ z -ℤ first
+  step-is = rw (same-z, wide-step) (toZ-ofZ w64 (z -ℤ first) step-in)
+
+-- one less, in 64 bits
+module _ (z : ℤ) (k : natAbs z ≤ 180) where
+  kept : toZ w64 (ofZ w64 z) ≡ z
+  kept = toZ-ofZ w64 z (near w64 z (omega arith))
+
+  less-in : SFits w64 (z -ℤ pos 1)
+  less-in = near w64 _ (omega (arith, minus-abs z (pos 1)))
+
+  pub less-fits : SFits w64 (toZ w64 (ofZ w64 z) -ℤ pos 1)
+  less-fits = rw kept less-in
+
+  pub less-is : toZ w64 (ofZ w64 (toZ w64 (ofZ w64 z) -ℤ pos 1)) ≡ z -ℤ pos 1
+  less-is = rw kept (toZ-ofZ w64 (z -ℤ pos 1) less-in)
+
+  pub less-small : natAbs (z -ℤ pos 1) ≤ 181
+  less-small = omega (arith, minus-abs z (pos 1))
+
+-- a number not below 0
+pub not-negative : (z : ℤ) → leZ (pos 0) z ≡ true → T (nonNeg z)
+not-negative (pos n) h = tt
+not-negative (negsuc n) h = absurd (false≢true h)
+
+-- a column or row of the grid is below their number
+pub span-below : (z : ℤ) (n : ℕ) → inSpan z n ≡ true → natAbs z < n
+span-below (pos a) n h = ltb-true a n (and-r (leZ (pos 0) (pos a)) (ltb a n) h)
+span-below (negsuc a) n h = absurd (false≢true h)
+
+-- what a cell inside the grid tells of its column and row
+module _ (g : Grid) (column row : ℤ) (h : inGrid g column row ≡ true) where
+  column-in : inSpan column (g .cols) ≡ true
+  unfolding inGrid
+  column-in = and-l (inSpan column (g .cols)) (inSpan row (g .rows)) h
+
+  row-in : inSpan row (g .rows) ≡ true
+  unfolding inGrid
+  row-in = and-r (inSpan column (g .cols)) (inSpan row (g .rows)) h
+
+  pub column-from : leZ (pos 0) column ≡ true
+  column-from = and-l (leZ (pos 0) column) (ltZ column (pos (g .cols))) column-in
+
+  pub row-from : leZ (pos 0) row ≡ true
+  row-from = and-l (leZ (pos 0) row) (ltZ row (pos (g .rows))) row-in
+
+  pub column-below : natAbs column < g .cols
+  column-below = span-below column (g .cols) column-in
+
+  pub row-below : natAbs row < g .rows
+  row-below = span-below row (g .rows) row-in
