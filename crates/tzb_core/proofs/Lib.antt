@@ -9,3 +9,11 @@ pub mod Order
 pub mod Loop
 pub mod Warnings
 pub mod DeterminedRay
+pub mod Sums
+pub mod Equals
+pub mod Corners
+pub mod Digits
+pub mod Shortest
+pub mod Places
+pub mod Unreadable
+pub mod Determined

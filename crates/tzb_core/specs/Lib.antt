@@ -1,2 +1,4 @@
--- What the lower crate's functions answer.
+-- What the lower crate answers: the ray test, boxes, numbers.
 pub mod Ray
+pub mod Box
+pub mod Varint

@@ -1,2 +1,4 @@
-// The lower crate: what a chunk's bytes and a segment say, for the reader above, which sees only the promises.
+// The lower crate: boxes, the varint and the ray test. What stands above it sees only their promises.
+pub mod bbox;
 pub mod raycast;
+pub mod varint;

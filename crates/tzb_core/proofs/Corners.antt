@@ -1,0 +1,49 @@
+-- Of an ordered box the least x, the greatest x, the least y and the greatest y, each held to one bound, put both corners into the domain.
+-- Assumes nothing.
+use Prim.Native.Nat.{ℕ, suc}
+use mathlib.Core.Path.{_≡_, refl, sym, ap, ap₂, _∙_}
+use mathlib.Core.Bool.{Bool, true, false, _&&_}
+use lib.IntN.{ℤ, pos, negsuc}
+use lib.Signed.{leZ}
+use Rattle.basics.specs.Truth.{and-l, and-r}
+use Rattle.basics.specs.Whole.{le-le}
+use Rattle.plane.specs.Domain.{within, inDomain}
+use Rattle.tzb_core.specs.declared.bbox.BBox.{BBox}
+use Rattle.tzb_core.specs.Box.{ordered, least, greatest, boxInDomain}
+
+-- a gives c, and d gives b
+squeeze : (a b c d : Bool) → (a ≡ true → c ≡ true) → (d ≡ true → b ≡ true) → a && d ≡ (a && b) && (c && d)
+squeeze false b c d f g = refl
+squeeze true b c true f g = rw (f refl, g refl)
+squeeze true false c false f g = refl
+squeeze true true false false f g = refl
+squeeze true true true false f g = refl
+
+swap : (a b c d : Bool) → (a && b) && (c && d) ≡ (a && c) && (b && d)
+swap false b c d = refl
+swap true true c d = refl
+swap true false true d = refl
+swap true false false d = refl
+
+axis : (n : ℕ) (lo hi : ℤ) → leZ lo hi ≡ true → leZ (negsuc n) lo && leZ hi (pos (suc n)) ≡ within n lo && within n hi
+axis n lo hi h =
+    squeeze (leZ (negsuc n) lo) (leZ lo (pos (suc n))) (leZ (negsuc n) hi) (leZ hi (pos (suc n)))
+    (λ l. le-le (negsuc n) lo hi l h) (λ l. le-le lo hi (pos (suc n)) h l)
+
+-- the four bounds of an ordered box
+abbrev pub bounded : BBox → Bool
+bounded b =
+    (leZ (negsuc 17_999_999) (b .minx) && leZ (b .maxx) (pos 18_000_000))
+    && (leZ (negsuc 8_999_999) (b .miny) && leZ (b .maxy) (pos 9_000_000))
+
+pub corners : (b : BBox) → ordered b && bounded b ≡ boxInDomain b
+unfolding boxInDomain ordered inDomain
+corners b = go (ordered b) refl
+  where
+    go : (t : Bool) → ordered b ≡ t → t && bounded b ≡ t && (inDomain (least b) && inDomain (greatest b))
+    go false e = refl
+    go true e =
+        ap₂ _&&_
+        (axis 17_999_999 (b .minx) (b .maxx) (and-l (leZ (b .minx) (b .maxx)) (leZ (b .miny) (b .maxy)) e))
+        (axis 8_999_999 (b .miny) (b .maxy) (and-r (leZ (b .minx) (b .maxx)) (leZ (b .miny) (b .maxy)) e))
+        ∙ swap (within 17_999_999 (b .minx)) (within 17_999_999 (b .maxx)) (within 8_999_999 (b .miny)) (within 8_999_999 (b .maxy))

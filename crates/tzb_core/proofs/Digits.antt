@@ -1,0 +1,144 @@
+-- Laws of the digits: what each test on a byte says of the number that is being read, and the sums that the loop keeps.
+-- Assumes nothing.
+use mathlib.Core.Path.{_≡_, refl, sym, ap, _∙_}
+use Prim.Native.Nat.{ℕ, zero, suc, _+_, _-_, _*_, _≤_, _<_}
+use native.Mathlib.Nat.{not-suc-le-zero, mul-le-mul-left}
+use native.Mathlib.Numerals.{sub-one}
+use native.Mathlib.Omega.{arith}
+use mathlib.Core.List.{List}
+use mathlib.Core.Bool.{Bool, true, false}
+use lib.ListN.{length, getD}
+use borrow.Author.Tests.{lt-ltb, le-ltb, le-leb, lt-leb, eq-eqb, ne-eqb}
+use Rattle.answer.specs.Answers.{Answer, ok, refused, no}
+use Rattle.tzb_core.specs.Varint.{last, below, digits, rest}
+
+-- ---- the digits, by what the byte is
+module _ (s : List ℕ) (p : ℕ) where
+  pub digits-out : (k : ℕ) (f : Bool) → length s ≤ p → digits k f s p ≡ no 38
+  unfolding digits
+  digits-out zero f h = simp (le-ltb _ _ h)
+  digits-out (suc k) f h = simp (le-ltb _ _ h)
+
+  module _ (h : p < length s) where
+    pub digits-end : (k : ℕ) (f : Bool) → getD s p 0 < 128 → digits (suc k) f s p ≡ last f (getD s p 0) (p + 1)
+    unfolding digits
+    digits-end k f b = simp (lt-ltb _ _ h, lt-ltb _ _ b)
+
+    pub digits-more : (k : ℕ) (f : Bool) → 128 ≤ getD s p 0
+        → digits (suc k) f s p ≡ below (getD s p 0 - 128) 128 (digits k false s (p + 1))
+    unfolding digits
+    digits-more k f b = simp (lt-ltb _ _ h, le-ltb _ _ b)
+
+    pub digits-high : (f : Bool) → 15 < getD s p 0 → digits 0 f s p ≡ no 40
+    unfolding digits
+    digits-high f b = simp (lt-ltb _ _ h, lt-leb _ _ b)
+
+    pub digits-fifth : (f : Bool) → getD s p 0 ≤ 15 → digits 0 f s p ≡ last f (getD s p 0) (p + 1)
+    unfolding digits
+    digits-fifth f b = simp (lt-ltb _ _ h, le-leb _ _ b)
+
+pub last-zero : (b q : ℕ) → b ≡ 0 → last false b q ≡ no 39
+last-zero b q e = simp (eq-eqb _ _ e)
+
+pub last-whole : (b q : ℕ) → (b ≡ 0 → ⊥) → last false b q ≡ ok (b, q)
+last-whole b q e = simp (ne-eqb _ _ e)
+
+below-below : (n u d : ℕ) (x : Answer (ℕ × ℕ)) → below (n + u * d) (u * 128) x ≡ below n u (below d 128 x)
+below-below n u d (ok t) = ap (λ (k : ℕ). ok (k, t .1)) (omega arith)
+below-below n u d (refused r) = refl
+
+-- ---- the digits, by the first byte b
+module _ (s : List ℕ) (p b : ℕ) (h : p < length s) (e : b ≡ getD s p 0) where
+  pub first-only : b < 128 → ok (b, p + 1) ≡ digits 4 true s p
+  first-only l = rw e (sym (digits-end s p h 3 true (omega arith)))
+
+  pub first-more : 128 ≤ b → rest (b - 128) 128 3 s (p + 1) ≡ digits 4 true s p
+  unfolding rest
+  first-more l = rw e (sym (digits-more s p h 3 true (omega arith)))
+
+-- ---- what is left of them, by the next byte b
+module _ (n u : ℕ) (s : List ℕ) (p : ℕ) where
+  pub rest-out : (k : ℕ) → length s ≤ p → no 38 ≡ rest n u k s p
+  unfolding rest
+  rest-out k h = sym (ap (below n u) (digits-out s p k false h))
+
+  module _ (b : ℕ) (h : p < length s) (e : b ≡ getD s p 0) where
+    -- a last byte
+    zero-at : (k : ℕ) → digits k false s p ≡ last false (getD s p 0) (p + 1) → b ≡ 0 → no 39 ≡ rest n u k s p
+    unfolding rest
+    zero-at k d i = sym (ap (below n u) (d ∙ last-zero _ (p + 1) (sym e ∙ i)))
+
+    end-at : (k : ℕ) → digits k false s p ≡ last false (getD s p 0) (p + 1) → (b ≡ 0 → ⊥) → ok (n + u * b, p + 1) ≡ rest n u k s p
+    unfolding rest
+    end-at k d i = sym (ap (below n u) (d ∙ ap (λ (x : ℕ). last false x (p + 1)) (sym e) ∙ last-whole b (p + 1) i))
+
+    -- before the fifth
+    last-at : (k : ℕ) → 0 < k → b < 128 → digits k false s p ≡ last false (getD s p 0) (p + 1)
+    last-at zero z l = absurd (not-suc-le-zero z)
+    last-at (suc k) z l = digits-end s p h k false (omega arith)
+
+    pub rest-zero : (k : ℕ) → 0 < k → b < 128 → b ≡ 0 → no 39 ≡ rest n u k s p
+    rest-zero k z l = zero-at k (last-at k z l)
+
+    pub rest-end : (k : ℕ) → 0 < k → b < 128 → (b ≡ 0 → ⊥) → ok (n + u * b, p + 1) ≡ rest n u k s p
+    rest-end k z l = end-at k (last-at k z l)
+
+    pub rest-more : (k : ℕ) → 0 < k → 128 ≤ b → rest (n + u * (b - 128)) (u * 128) (k - 1) s (p + 1) ≡ rest n u k s p
+    unfolding rest
+    rest-more zero z l = absurd (not-suc-le-zero z)
+    rest-more (suc k) z l =
+        rw (e, sub-one) (below-below n u (getD s p 0 - 128) (digits k false s (p + 1))
+        ∙ ap (below n u) (sym (digits-more s p h k false (omega arith))))
+
+    -- the fifth
+    pub fifth-high : 15 < b → no 40 ≡ rest n u 0 s p
+    unfolding rest
+    fifth-high l = sym (ap (below n u) (digits-high s p h false (omega arith)))
+
+    pub fifth-zero : b ≤ 15 → b ≡ 0 → no 39 ≡ rest n u 0 s p
+    fifth-zero l = zero-at 0 (digits-fifth s p h false (omega arith))
+
+    pub fifth-end : b ≤ 15 → (b ≡ 0 → ⊥) → ok (n + u * b, p + 1) ≡ rest n u 0 s p
+    fifth-end l = end-at 0 (digits-fifth s p h false (omega arith))
+
+-- ---- the sums fit
+-- the numbers that k more digits after the first can hold are below it: 2 ^ 32 where k is 4
+abbrev pub lim : ℕ → ℕ
+lim zero = 16
+lim (suc k) = 128 * lim k
+
+pub lim-pos : (k : ℕ) → 16 ≤ lim k
+lim-pos zero = omega arith
+lim-pos (suc k) = omega (arith, lim-pos k)
+
+module _ (u k : ℕ) (z : 0 < k) (e : u * lim k ≡ 0x1_0000_0000) where
+  pub lim-down : u * 128 * lim (k - 1) ≡ 0x1_0000_0000
+  lim-down = go k z e
+    where
+      go : (k : ℕ) → 0 < k → u * lim k ≡ 0x1_0000_0000 → u * 128 * lim (k - 1) ≡ 0x1_0000_0000
+      go zero z e = absurd (not-suc-le-zero z)
+      go (suc k) z e = simp sub-one (omega (arith, e))
+
+  -- a digit b of unit u, on n below it: below the next unit, which is at most 2 ^ 28
+  pub room : (n b : ℕ) → n < u → b < 128 → n + u * b < u * 128
+  room n b h l = omega (arith, mul-le-mul-left u (pred l))
+    where
+      pred : b < 128 → b ≤ 127
+      pred l = omega arith
+
+  pub unit-fits : u * 128 ≤ 0x1000_0000
+  unit-fits = go k z e
+    where
+      go : (k : ℕ) → 0 < k → u * lim k ≡ 0x1_0000_0000 → u * 128 ≤ 0x1000_0000
+      go zero z e = absurd (not-suc-le-zero z)
+      go (suc k) z e = omega (arith, e, mul-le-mul-left u (lim-pos k))
+
+-- where none is left the unit is that of the fifth digit
+pub last-unit : (u k : ℕ) → k ≤ 0 → u * lim k ≡ 0x1_0000_0000 → u ≡ 0x1000_0000
+last-unit u zero h e = omega (arith, e)
+last-unit u (suc k) h e = absurd (not-suc-le-zero h)
+
+pub last-rest : (n u k : ℕ) (s : List ℕ) (p : ℕ) → k ≤ 0 → u * lim k ≡ 0x1_0000_0000 → rest n 0x1000_0000 0 s p ≡ rest n u k s p
+last-rest n u k s p h e =
+    let z : k ≡ 0 = omega arith in
+    rw (last-unit u k h e, z)

@@ -1,0 +1,11 @@
+use Rattle.plane.specs.Domain.{inDomain}
+use borrow.Author.Needs.{needs}
+use Rattle.tzb_core.proofs.bbox.point_in_domain.Statement.{statement}
+use Rattle.tzb_core.proofs.bbox.point_in_domain.Tie as tie
+
+returns : tie.Need-returns
+unfolding inDomain
+returns c = search needs
+
+pub point-in-domain-spec : {M : Type 1} → statement M
+point-in-domain-spec = tie.close (tie.spec returns)

@@ -1,0 +1,37 @@
+-- `Place::varint` meets its contract: the digits, then zigzag.
+-- Assumes nothing.
+use mathlib.Core.Path.{sym, ap, _∙_}
+use mir.Syntax.{w32}
+use borrow.Author.Needs.{needs}
+use Rattle.tzb_core.specs.Varint.{digitsTold, number-ok, number-no}
+use Rattle.tzb_core.proofs.Sums.{back}
+use Rattle.tzb_core.proofs.varint.Place.varint.Statement.{statement}
+use Rattle.tzb_core.proofs.varint.Place.varint.Tie as tie
+
+varint-digits-requires : tie.Need-varint-digits-requires
+varint-digits-requires c κs = search needs
+
+enum-known-d : tie.Need-enum-known-d
+enum-known-d c = search needs
+
+enum-known-d-2 : tie.Need-enum-known-d-2
+enum-known-d-2 c = search needs
+
+unzigzag-requires : tie.Need-unzigzag-requires
+unzigzag-requires c κs = search needs
+
+returns : tie.Need-returns
+returns c =
+    let d = c .before .before .before .varint-digits in
+    number-no _ _ _ (sym (ap digitsTold (c .before .d .given .1)) ∙ d .ensures)
+
+returns-2 : tie.Need-returns-2
+returns-2 c =
+    let d = c .before .before .before .before .varint-digits in
+    number-ok _ _ _ _ _ (back w32 _ (c .unzigzag .ok) ∙ c .unzigzag .ensures)
+    (sym (ap digitsTold (c .before .before .d2 .given .1)) ∙ d .ensures)
+
+pub varint-spec : {M : Type 1} → statement M
+varint-spec =
+    tie.close
+    (tie.spec varint-digits-requires enum-known-d enum-known-d-2 unzigzag-requires returns returns-2)

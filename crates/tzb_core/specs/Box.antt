@@ -1,0 +1,69 @@
+-- Document 01's boxes ("Port order", "Records") and its delta sum ("Chunk bytes"). A box of whole numbers is asked about a point of floats, and every comparison is one of floats.
+-- Assumes nothing.
+use mathlib.Core.Path.{_≡_}
+use mathlib.Core.Bool.{Bool, true, false, _&&_}
+use lib.Ieee.{Float, binary64, le, lt, ofInt}
+use lib.IntN.{ℤ, pos, negsuc, _+ℤ_}
+use lib.Signed.{leZ}
+use Rattle.plane.specs.declared.Point.{Point}
+use Rattle.plane.specs.declared.I32Point.{I32Point}
+use Rattle.plane.specs.Domain.{inDomain}
+use Rattle.answer.specs.Answers.{Answer, ok, refused, no, need}
+use Rattle.tzb_core.specs.declared.bbox.BBox.{BBox}
+use Rattle.tzb_core.specs.declared.bbox.Sum.{Sum}
+use Rattle.tzb_core.specs.declared.bbox.Sum.the-variants.{Of, Refused}
+
+-- a coordinate as a float: exact, since an i32 has fewer bits than a float's fraction
+abbrev pub float : ℤ → Float
+float z = ofInt binary64 z
+
+-- the point lies in the box, its sides with it
+unfoldable pub contains : BBox → Point → Bool
+contains b p =
+    (le (float (b .minx)) (p .x) && le (p .x) (float (b .maxx)))
+    && (le (float (b .miny)) (p .y) && le (p .y) (float (b .maxy)))
+
+-- what lies in the box can matter to the ray from the point, to greater x: the point is level with the box, and no side of it is left of the point
+unfoldable pub relevant : BBox → Point → Bool
+relevant b p = (le (float (b .miny)) (p .y) && le (p .y) (float (b .maxy))) && le (p .x) (float (b .maxx))
+
+-- the box lies strictly to the right of the point
+unfoldable pub right : BBox → Point → Bool
+right b p = lt (p .x) (float (b .minx))
+
+-- no side lies beyond the one across from it
+unfoldable pub ordered : BBox → Bool
+ordered b = leZ (b .minx) (b .maxx) && leZ (b .miny) (b .maxy)
+
+-- its corner of the least coordinates, and that of the greatest
+abbrev pub least : BBox → I32Point
+least b = record { x = b .minx; y = b .miny }
+
+abbrev pub greatest : BBox → I32Point
+greatest b = record { x = b .maxx; y = b .maxy }
+
+-- ordered, and within ±18,000,000 and ±9,000,000
+unfoldable pub boxInDomain : BBox → Bool
+boxInDomain b = ordered b && (inDomain (least b) && inDomain (greatest b))
+
+-- within i32
+unfoldable pub fits32 : ℤ → Bool
+fits32 z = leZ (negsuc 2_147_483_647) z && leZ z (pos 2_147_483_647)
+
+-- a delta added to the coordinate before it: a sum outside i32 is 41
+unfoldable pub addDelta : ℤ → ℤ → Answer ℤ
+addDelta before delta = need 41 (fits32 (before +ℤ delta)) (ok (before +ℤ delta))
+
+-- what the enum of the code says
+abbrev pub summed : Sum → Answer ℤ
+summed (Of z) = ok z
+summed (Refused r) = refused r
+
+-- ---- laws
+pub sum-fits : (before delta z : ℤ) → z ≡ before +ℤ delta → fits32 z ≡ true → ok z ≡ addDelta before delta
+unfolding addDelta
+sum-fits before delta z e h = rw (← e, h)
+
+pub sum-over : (before delta : ℤ) → fits32 (before +ℤ delta) ≡ false → no 41 ≡ addDelta before delta
+unfolding addDelta
+sum-over before delta h = rw h

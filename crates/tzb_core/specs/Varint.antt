@@ -1,0 +1,89 @@
+-- Document 01, "Chunk bytes": Protocol Buffers' sint32 ("Encoding", base 128 varints and zigzag), in one to five bytes, read from place p of the bytes s.
+-- Assumes nothing.
+use Prim.Native.Nat.{ℕ, zero, suc, _+_, _-_, _*_, _/_, _%_}
+use mathlib.Core.Path.{_≡_, ap}
+use mathlib.Core.List.{List, [], _∷_}
+use mathlib.Core.Bool.{Bool, true, false, _||_, not, cond}
+use lib.ListN.{length, getD}
+use lib.Dec.{ltb, leb, eqb}
+use lib.IntN.{ℤ, pos, negsuc}
+use Rattle.answer.specs.declared.Refusal.{Refusal}
+use Rattle.answer.specs.Answers.{Answer, ok, refused, _then_, need}
+use Rattle.tzb_core.specs.declared.varint.Place.{Place}
+use Rattle.tzb_core.specs.declared.varint.Read.{Read}
+use Rattle.tzb_core.specs.declared.varint.Read.the-variants as R
+use Rattle.tzb_core.specs.declared.varint.Digits.{Digits}
+use Rattle.tzb_core.specs.declared.varint.Digits.the-variants as D
+
+-- zigzag: 0, -1, 1, -2, .. are 0, 1, 2, 3, ..
+abbrev pub zig : ℤ → ℕ
+zig (pos k) = 2 * k
+zig (negsuc k) = 2 * k + 1
+
+abbrev pub unzig : ℕ → ℤ
+unzig n = cond (eqb (n % 2) 0) (pos (n / 2)) (negsuc (n / 2))
+
+-- a last byte and the place after it: zero is 39 unless it is the only byte
+abbrev pub last : Bool → ℕ → ℕ → Answer (ℕ × ℕ)
+last only b q = need 39 (only || not (eqb b 0)) (ok (b, q))
+
+-- a number n below the digits that follow, whose unit is u
+abbrev pub below : ℕ → ℕ → Answer (ℕ × ℕ) → Answer (ℕ × ℕ)
+below n u x = x then λ t. ok (n + u * t .0, t .1)
+
+-- the digits from p on, least significant first, and the place after them; k more may follow the first. `only`: no byte of the number stands before p.
+-- No byte left is 38; a fifth byte above 15, with any of the bits 0xf0, is 40.
+unfoldable pub digits : ℕ → Bool → List ℕ → ℕ → Answer (ℕ × ℕ)
+digits zero only s p =
+    need 38 (ltb p (length s))
+    (need 40 (leb (getD s p 0) 15)
+    (last only (getD s p 0) (p + 1)))
+digits (suc k) only s p =
+    need 38 (ltb p (length s))
+    (cond (ltb (getD s p 0) 128)
+    (last only (getD s p 0) (p + 1))
+    (below (getD s p 0 - 128) 128 (digits k false s (p + 1))))
+
+abbrev pub signed : Answer (ℕ × ℕ) → Answer (ℤ × ℕ)
+signed x = x then λ t. ok (unzig (t .0), t .1)
+
+-- the number at p, and the place after it
+unfoldable pub numberAt : List ℕ → ℕ → Answer (ℤ × ℕ)
+numberAt s p = signed (digits 4 true s p)
+
+-- what the enum of the code says
+abbrev pub told : Read → Answer (ℤ × ℕ)
+told (R.Number z q) = ok (z, q .at)
+told (R.Refused r) = refused r
+
+-- no byte is left over: the place is the one after the last byte
+abbrev pub atEnd : List ℕ → ℕ → Bool
+atEnd s p = eqb p (length s)
+
+-- the shortest digits of n, of which k more may follow the first
+unfoldable pub shortestDigits : ℕ → ℕ → List ℕ
+shortestDigits zero n = n ∷ []
+shortestDigits (suc k) n = cond (ltb n 128) (n ∷ []) ((n % 128 + 128) ∷ shortestDigits k (n / 128))
+
+-- the shortest encoding of z
+unfoldable pub encode : ℤ → List ℕ
+encode z = shortestDigits 4 (zig z)
+
+-- ---- laws: the digits decide the number
+module _ (s : List ℕ) (p : ℕ) where
+  pub number-ok : (z : ℤ) (n q : ℕ) → z ≡ unzig n → ok (n, q) ≡ digits 4 true s p → ok (z, q) ≡ numberAt s p
+  unfolding numberAt
+  number-ok z n q h e = rw h (ap signed e)
+
+  pub number-no : (r : Refusal) → refused r ≡ digits 4 true s p → refused r ≡ numberAt s p
+  unfolding numberAt
+  number-no r e = ap signed e
+
+-- ---- for the code's steps
+abbrev pub digitsTold : Digits → Answer (ℕ × ℕ)
+digitsTold (D.Of n q) = ok (n, q .at)
+digitsTold (D.Refused r) = refused r
+
+-- the digits from p on with the n that was read before them, where the next digit's unit is u and k more may follow it
+unfoldable pub rest : ℕ → ℕ → ℕ → List ℕ → ℕ → Answer (ℕ × ℕ)
+rest n u k s p = below n u (digits k false s p)

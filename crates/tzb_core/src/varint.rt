@@ -1,0 +1,127 @@
+// The varint: zigzag LEB128, Protocol Buffers' sint32. A place is a value; a number read there comes with the place after it.
+ghost use mathlib.Core.Path.{_≡_};
+ghost use mathlib.Core.Bool.{true};
+ghost use Prim.Native.Nat.{_<_};
+ghost use Rattle.answer.specs.Answers.{ok, no};
+ghost use Rattle.tzb_core.specs.Varint.{unzig, digits, numberAt, told, digitsTold, atEnd, rest};
+use answer::Refusal;
+
+// Where the next number starts.
+pub struct Place {
+    pub at: usize,
+}
+
+pub enum Read {
+    // The number, and the place after it.
+    Number(i32, Place),
+    Refused(Refusal),
+}
+
+// What the digits make, before zigzag, and the place after them.
+enum Digits {
+    Of(u32, Place),
+    Refused(Refusal),
+}
+
+// 0, -1, 1, -2, .. for 0, 1, 2, 3, ..
+pub fn unzigzag(n: u32) -> i32
+    ensures { λ r. ⌜ r ≡ unzig n ⌝ }
+{
+    let h = (n / 2) as i32;
+    if n % 2 == 0 { h } else { !h }
+}
+
+fn wide(b: u8) -> u32
+    ensures { λ r. ⌜ (r ≡ b) × (r < 256) ⌝ }
+{
+    b as u32
+}
+
+fn digits_of(n: u32, at: usize) -> Digits
+    ensures { λ r. ⌜ digitsTold r ≡ ok (n, at) ⌝ }
+{
+    Digits::Of(n, Place { at })
+}
+
+fn refused(number: u32) -> Digits
+    ensures { λ r. ⌜ digitsTold r ≡ no number ⌝ }
+{
+    Digits::Refused(answer::refuse(number))
+}
+
+// The fifth byte: any of the bits 0xf0 is too much, whatever else it is.
+fn varint_fifth(s: &[u8], at: usize, low: u32) -> Digits
+    requires { ⌜ low < 0x1000_0000 ⌝ }
+    ensures { λ r. ⌜ digitsTold r ≡ rest low 0x1000_0000 0 (now (s .entry)) at ⌝ }
+{
+    if s.len() <= at {
+        return refused(38);
+    }
+    let b = wide(s[at]);
+    if 15 < b {
+        return refused(40);
+    }
+    if b == 0 {
+        return refused(39);
+    }
+    digits_of(low + 0x1000_0000 * b, at + 1)
+}
+
+// The bytes after the first, whose digit is low.
+fn varint_slow(s: &[u8], from: usize, low: u32) -> Digits
+    requires { ⌜ low < 128 ⌝ }
+    ensures { λ r. ⌜ digitsTold r ≡ rest low 128 3 (now (s .entry)) from ⌝ }
+{
+    let mut at = from;
+    let mut n = low;
+    let mut unit: u32 = 128;
+    let mut left: u32 = 3;
+    while 0 < left {
+        if s.len() <= at {
+            return refused(38);
+        }
+        let b = wide(s[at]);
+        at += 1;
+        if b < 128 {
+            if b == 0 {
+                return refused(39);
+            }
+            return digits_of(n + unit * b, at);
+        }
+        n += unit * (b - 128);
+        unit *= 128;
+        left -= 1;
+    }
+    varint_fifth(s, at, n)
+}
+
+fn varint_digits(s: &[u8], from: usize) -> Digits
+    ensures { λ r. ⌜ digitsTold r ≡ digits 4 true (now (s .entry)) from ⌝ }
+{
+    if s.len() <= from {
+        return refused(38);
+    }
+    let b = wide(s[from]);
+    if b < 128 {
+        return digits_of(b, from + 1);
+    }
+    varint_slow(s, from + 1, b - 128)
+}
+
+impl Place {
+    pub fn at_end(self, s: &[u8]) -> bool
+        ensures { λ r. ⌜ r ≡ atEnd (now (s .entry)) (self .at) ⌝ }
+    {
+        self.at == s.len()
+    }
+
+    pub fn varint(self, s: &[u8]) -> Read
+        ensures { λ r. ⌜ told r ≡ numberAt (now (s .entry)) (self .at) ⌝ }
+    {
+        let d = varint_digits(s, self.at);
+        match d {
+            Digits::Refused(k) => Read::Refused(k),
+            Digits::Of(n, next) => Read::Number(unzigzag(n), next),
+        }
+    }
+}
