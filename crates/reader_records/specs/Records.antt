@@ -11,7 +11,8 @@ use lib.Dec.{ltb, leb}
 use lib.IntN.{ℤ}
 use mir.Syntax.{w32}
 use mir.Val.{toZ}
-use borrow.Author.Tests.{lt-leb, le-leb, lt-ltb, le-ltb, leb-true}
+use borrow.Author.Tests.{lt-leb, le-leb, lt-ltb, le-ltb, leb-true, ltb-true}
+use Rattle.basics.specs.Truth.{and-l, and-r}
 use Rattle.plane.specs.declared.I32Point.{I32Point}
 use Rattle.plane.specs.Domain.{inDomain}
 use Rattle.answer.specs.declared.Refusal.{Refusal}
@@ -193,3 +194,31 @@ module _ {A : Type 0} (at : Answer ℕ) (read : ℕ → A) (rule : A → Bool) (
     ruled-ok z =
         let y : rule (read p) ≡ true = ap rule (sym g) ∙ sym h ∙ z in
         ap ok g ∙ sym (rw (← e, y) refl)
+
+-- a record that is there and keeps its rule is answered
+pub ruled-there : {A : Type 0} (s : List ℕ) (d : Directory) (w i n : ℕ) (read : ℕ → A) (rule : A → Bool)
+    → i < d .count → place d w i + w ≤ length s → rule (read (place d w i)) ≡ true → ok (read (place d w i)) ≡ ruled (recordAt s d w i) read rule n
+ruled-there s d w i n read rule h k e = ruled-ok (recordAt s d w i) read rule n (place d w i) (read (place d w i)) true (record-at s d w i h k) refl (sym e) refl
+
+-- what the rules tell
+module _ (first count below : ℕ) (h : within first count below ≡ true) where
+  pub within-some : 0 < count
+  unfolding within
+  within-some = ltb-true 0 count (and-l (ltb 0 count) (leb (first + count) below) h)
+
+  pub within-fits : first + count ≤ below
+  unfolding within
+  within-fits = leb-true (first + count) below (and-r (ltb 0 count) (leb (first + count) below) h)
+
+module _ (below : ℕ) (v : GroupRecord) (h : groupRule below v ≡ true) where
+  pub group-within : within (v .first) (v .count) below ≡ true
+  unfolding groupRule
+  group-within = and-r (boxInDomain (v .bbox)) (within (v .first) (v .count) below) (and-l (boxInDomain (v .bbox) && within (v .first) (v .count) below) (inDomain (v .entry) && inDomain (v .exit)) h)
+
+  pub group-box : boxInDomain (v .bbox) ≡ true
+  unfolding groupRule
+  group-box = and-l (boxInDomain (v .bbox)) (within (v .first) (v .count) below) (and-l (boxInDomain (v .bbox) && within (v .first) (v .count) below) (inDomain (v .entry) && inDomain (v .exit)) h)
+
+  pub group-ends : (inDomain (v .entry) && inDomain (v .exit)) ≡ true
+  unfolding groupRule
+  group-ends = and-r (boxInDomain (v .bbox) && within (v .first) (v .count) below) (inDomain (v .entry) && inDomain (v .exit)) h
