@@ -1,2 +1,2 @@
 -- What the proofs of the functions lean on, what an accepted file's directories tell, and that answers are determined.
-pub mod Sums
+pub mod Loops

@@ -1,56 +1,50 @@
+-- `reader_dirs::chunk` meets its contract: one claim after another.
+-- Assumes nothing.
 use native.Mathlib.Omega.{arith}
+use mathlib.Core.Path.{_∙_}
+use Rattle.answer.specs.CheckLaws.{met, unmet, end, le-at, gt-at, lt-below, ge-below, told-yes, told-no}
+use Rattle.reader_dirs.specs.Dirs.{chunkCheck}
 use borrow.Author.Needs.{needs}
 use Rattle.reader_dirs.proofs.chunk.Statement.{statement}
 use Rattle.reader_dirs.proofs.chunk.Tie as tie
-use Rattle.reader_dirs.proofs.chunk.Reads as reads
-use Rattle.reader_dirs.proofs.chunk.Lts as lts
-use Rattle.answer.proofs.fail.Reads as fail-reads
-use Rattle.reader_head.proofs.wide.Reads as wide-reads
-use Rattle.reader_records.proofs.chunk_rule.Reads as chunk-rule-reads
 
--- src/lib.rt:16:9
 chunk-rule-requires : tie.Need-chunk-rule-requires
 chunk-rule-requires c κs = search needs
 
--- src/lib.rt:17:9
 fail-requires : tie.Need-fail-requires
 fail-requires c κs = search needs
 
--- src/lib.rt:17:9
 returns : tie.Need-returns
-returns c = search needs
+unfolding chunkCheck
+returns c = c .fail .ensures ∙ unmet _ _ _ (told-no _ _ (c .before .before .chunk-rule .ensures) (c .before .if1 .taken))
 
--- src/lib.rt:20:9
 fail-requires-2 : tie.Need-fail-requires-2
 fail-requires-2 c κs = search needs
 
--- src/lib.rt:20:9
 returns-2 : tie.Need-returns-2
-returns-2 c = search needs
+unfolding chunkCheck
+returns-2 c = c .fail2 .ensures ∙ met _ _ _ _ (told-yes _ _ (c .before .before .before .before .chunk-rule .ensures) (c .before .before .before .if1 .left)) (unmet _ _ _ (gt-at _ _ (omega arith)))
 
--- src/lib.rt:23:9
 fail-requires-3 : tie.Need-fail-requires-3
 fail-requires-3 c κs = search needs
 
--- src/lib.rt:23:9
 returns-3 : tie.Need-returns-3
-returns-3 c = search needs
+unfolding chunkCheck
+returns-3 c = c .fail3 .ensures ∙ met _ _ _ _ (told-yes _ _ (c .before .before .before .before .before .before .chunk-rule .ensures) (c .before .before .before .before .before .if1 .left)) (met _ _ _ _ (le-at _ _ (omega arith)) (unmet _ _ _ (ge-below _ _ (omega arith))))
 
--- src/lib.rt:25:8
 wide-requires : tie.Need-wide-requires
 wide-requires c κs = search needs
 
--- src/lib.rt:26:9
 fail-requires-4 : tie.Need-fail-requires-4
 fail-requires-4 c κs = search needs
 
--- src/lib.rt:26:9
 returns-4 : tie.Need-returns-4
-returns-4 c = search needs
+unfolding chunkCheck
+returns-4 c = c .fail4 .ensures ∙ met _ _ _ _ (told-yes _ _ (c .before .before .before .before .before .before .before .before .chunk-rule .ensures) (c .before .before .before .before .before .before .before .if1 .left)) (met _ _ _ _ (le-at _ _ (omega arith)) (met _ _ _ _ (lt-below _ _ (omega arith)) (unmet _ _ _ (gt-at _ _ (omega arith)))))
 
--- src/lib.rt:13:1
 returns-5 : tie.Need-returns-5
-returns-5 c = search needs
+unfolding chunkCheck
+returns-5 c = met _ _ _ _ (told-yes _ _ (c .before .before .before .before .before .before .before .chunk-rule .ensures) (c .before .before .before .before .before .before .if1 .left)) (met _ _ _ _ (le-at _ _ (omega arith)) (met _ _ _ _ (lt-below _ _ (omega arith)) (met _ _ _ _ (le-at _ _ (omega arith)) end)))
 
 pub chunk-spec : {M : Type 1} → statement M
 chunk-spec =

@@ -1,13 +1,15 @@
--- A sum that a loop makes, and the offset that it asks of the next chunk.
+-- What the two loops keep: the offset that is asked of the next chunk, and a sum of point counts.
 -- Assumes nothing.
 use Prim.Native.Nat.{ℕ, suc, _+_, _-_, _*_, _≤_, _<_}
 use native.Mathlib.Omega.{arith}
 use native.Mathlib.Numerals.{add-one}
-use mathlib.Core.Path.{_≡_, refl, ap, _∙_}
+use mathlib.Core.Path.{_≡_, refl, sym, ap, _∙_}
 use mathlib.Core.List.{List}
+use Rattle.answer.specs.declared.Checked.{Checked}
 use Rattle.reader_opened.specs.declared.Directory.{Directory}
 use Rattle.reader_records.specs.declared.ChunkRecord.{ChunkRecord}
-use Rattle.reader_dirs.specs.Dirs.{total, leastOff, chunkOf}
+use Rattle.reader_records.specs.declared.GroupRecord.{GroupRecord}
+use Rattle.reader_dirs.specs.Dirs.{total, leastOff, chunkOf, groupOf, chunkCheck, chunkCheckAt, groupCheck, groupCheckAt}
 
 -- with `sum` added so far, the whole is m
 pub total-start : (f : ℕ → ℕ) (n i : ℕ) → 0 + total f (n - i) i ≡ total f (n - i) i
@@ -41,3 +43,13 @@ least-first s d = refl
 pub least-next : (s : List ℕ) (d : Directory) (i x : ℕ) (v : ChunkRecord) → x ≡ v .off → v ≡ chunkOf s d i → x + 1 ≡ leastOff s d (i + 1)
 unfolding leastOff
 least-next s d i x v e g = rw (add-one i) (ap (λ (y : ℕ). y + 1) (e ∙ ap (λ (u : ChunkRecord). u .off) g))
+
+-- a check made of a record that was read, with the offset that was kept, is that record's check
+pub chunk-checked : (s : List ℕ) (d : Directory) (points i least : ℕ) (v : ChunkRecord) (a : Checked)
+    → v ≡ chunkOf s d i → least ≡ leastOff s d i → a ≡ chunkCheck v points least → chunkCheckAt s d points i ≡ a
+unfolding chunkCheckAt
+chunk-checked s d points i least v a e g h = rw (← e, ← g) (sym h)
+
+pub group-checked : (s : List ℕ) (g d : Directory) (i : ℕ) (v : GroupRecord) (a : Checked) → v ≡ groupOf s g i → a ≡ groupCheck s d v → groupCheckAt s g d i ≡ a
+unfolding groupCheckAt
+group-checked s g d i v a e h = rw (← e) (sym h)
