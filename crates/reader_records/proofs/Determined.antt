@@ -1,0 +1,91 @@
+-- Any two answers that a promise allows are equal: stated over the contracts themselves. Two values of an enum that tell the same are the same.
+-- Assumes nothing.
+use mathlib.Core.Path.{_≡_, sym, _∙_}
+use Prim.Native.Nat.{ℕ}
+use Rattle.basics.specs.Determined.{Determined}
+use Rattle.answer.specs.Answers.{Answer}
+use Rattle.reader_records.specs.Records.{toldList, toldRing, toldOp, toldGroup, toldChunk}
+use Rattle.reader_records.specs.declared.ListRecord.{ListRecord}
+use Rattle.reader_records.specs.declared.RingRecord.{RingRecord}
+use Rattle.reader_records.specs.declared.GroupRecord.{GroupRecord}
+use Rattle.reader_records.specs.declared.ChunkRecord.{ChunkRecord}
+use Rattle.reader_records.specs.declared.ListAt.{ListAt}
+use Rattle.reader_records.specs.declared.ListAt.the-variants as L
+use Rattle.reader_records.specs.declared.RingAt.{RingAt}
+use Rattle.reader_records.specs.declared.RingAt.the-variants as N
+use Rattle.reader_records.specs.declared.OpAt.{OpAt}
+use Rattle.reader_records.specs.declared.OpAt.the-variants as O
+use Rattle.reader_records.specs.declared.GroupAt.{GroupAt}
+use Rattle.reader_records.specs.declared.GroupAt.the-variants as G
+use Rattle.reader_records.specs.declared.ChunkAt.{ChunkAt}
+use Rattle.reader_records.specs.declared.ChunkAt.the-variants as C
+use Rattle.reader_records.proofs.tz_at.Reads as tz-at-reads
+use Rattle.reader_records.proofs.poly_at.Reads as poly-at-reads
+use Rattle.reader_records.proofs.ring_at.Reads as ring-at-reads
+use Rattle.reader_records.proofs.op_at.Reads as op-at-reads
+use Rattle.reader_records.proofs.group_at.Reads as group-at-reads
+use Rattle.reader_records.proofs.chunk_at.Reads as chunk-at-reads
+use Rattle.reader_records.proofs.group_in.Reads as group-in-reads
+use Rattle.reader_records.proofs.chunk_in.Reads as chunk-in-reads
+use Rattle.reader_records.proofs.group_rule.Reads as group-rule-reads
+use Rattle.reader_records.proofs.chunk_rule.Reads as chunk-rule-reads
+
+one-list : (a b : ListAt) (x : Answer ListRecord) → toldList a ≡ x → toldList b ≡ x → a ≡ b
+one-list (L.At v) (L.At w) x e f = cc
+one-list (L.At v) (L.Refused k) x e f = cc
+one-list (L.Refused k) (L.At w) x e f = cc
+one-list (L.Refused k) (L.Refused l) x e f = cc
+
+one-ring : (a b : RingAt) (x : Answer RingRecord) → toldRing a ≡ x → toldRing b ≡ x → a ≡ b
+one-ring (N.At v) (N.At w) x e f = cc
+one-ring (N.At v) (N.Refused k) x e f = cc
+one-ring (N.Refused k) (N.At w) x e f = cc
+one-ring (N.Refused k) (N.Refused l) x e f = cc
+
+one-op : (a b : OpAt) (x : Answer ℕ) → toldOp a ≡ x → toldOp b ≡ x → a ≡ b
+one-op (O.At v) (O.At w) x e f = cc
+one-op (O.At v) (O.Refused k) x e f = cc
+one-op (O.Refused k) (O.At w) x e f = cc
+one-op (O.Refused k) (O.Refused l) x e f = cc
+
+one-group : (a b : GroupAt) (x : Answer GroupRecord) → toldGroup a ≡ x → toldGroup b ≡ x → a ≡ b
+one-group (G.At v) (G.At w) x e f = cc
+one-group (G.At v) (G.Refused k) x e f = cc
+one-group (G.Refused k) (G.At w) x e f = cc
+one-group (G.Refused k) (G.Refused l) x e f = cc
+
+one-chunk : (a b : ChunkAt) (x : Answer ChunkRecord) → toldChunk a ≡ x → toldChunk b ≡ x → a ≡ b
+one-chunk (C.At v) (C.At w) x e f = cc
+one-chunk (C.At v) (C.Refused k) x e f = cc
+one-chunk (C.Refused k) (C.At w) x e f = cc
+one-chunk (C.Refused k) (C.Refused l) x e f = cc
+
+pub tz-at : Determined tz-at-reads.Learnt
+tz-at κ a r r' e e' p q = one-list r r' _ p q
+
+pub poly-at : Determined poly-at-reads.Learnt
+poly-at κ a r r' e e' p q = one-list r r' _ p q
+
+pub ring-at : Determined ring-at-reads.Learnt
+ring-at κ a r r' e e' p q = one-ring r r' _ p q
+
+pub op-at : Determined op-at-reads.Learnt
+op-at κ a r r' e e' p q = one-op r r' _ p q
+
+pub group-at : Determined group-at-reads.Learnt
+group-at κ a r r' e e' p q = one-group r r' _ p q
+
+pub chunk-at : Determined chunk-at-reads.Learnt
+chunk-at κ a r r' e e' p q = one-chunk r r' _ p q
+
+pub group-in : Determined group-in-reads.Learnt
+group-in κ a r r' e e' p q = p ∙ sym q
+
+pub chunk-in : Determined chunk-in-reads.Learnt
+chunk-in κ a r r' e e' p q = p ∙ sym q
+
+pub group-rule : Determined group-rule-reads.Learnt
+group-rule κ a r r' e e' p q = p ∙ sym q
+
+pub chunk-rule : Determined chunk-rule-reads.Learnt
+chunk-rule κ a r r' e e' p q = p ∙ sym q

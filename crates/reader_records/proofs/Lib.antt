@@ -1,0 +1,3 @@
+-- What the proofs of the functions lean on, and that answers are determined.
+pub mod Parts
+pub mod Determined

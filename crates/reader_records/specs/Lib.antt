@@ -1,0 +1,2 @@
+-- What a question about a directory record answers.
+pub mod Records

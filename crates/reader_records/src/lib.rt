@@ -1,0 +1,313 @@
+// Directory records, by index: of any opened record and any bytes.
+ghost use mathlib.Core.Path.{_≡_};
+ghost use Prim.Native.Nat.{_+_, _≤_, _<_};
+ghost use lib.ListN.{length};
+ghost use Rattle.fields.specs.Le.{le};
+ghost use Rattle.reader_records.specs.Records.{toldPlace, toldList, toldRing, toldOp, toldGroup, toldChunk, recordAt, boxIn, pointIn, within, listIn, listRule, listAt, zoneAt, polyAt, ringIn, ringRule, ringAt, opRule, opAt, groupIn, groupRule, groupAt, chunkIn, chunkRule, chunkAt};
+use answer::Refusal;
+use plane::I32Point;
+use reader_opened::Directory;
+use reader_opened::Opened;
+use tzb_core::bbox::BBox;
+
+// A zone with its polygons, a polygon with its rings.
+pub struct ListRecord {
+    pub first: u32,
+    pub count: u16,
+    pub bbox: BBox,
+}
+
+pub struct RingRecord {
+    pub first: u32,
+    pub points: u32,
+    pub count: u16,
+    pub bbox: BBox,
+}
+
+pub struct GroupRecord {
+    pub first: u32,
+    pub points: u32,
+    pub count: u16,
+    pub entry: I32Point,
+    pub exit: I32Point,
+    pub bbox: BBox,
+}
+
+pub struct ChunkRecord {
+    pub off: u32,
+    pub count: u16,
+    pub bbox: BBox,
+}
+
+// Where a record stands.
+pub enum Place {
+    At(usize),
+    Refused(Refusal),
+}
+
+pub enum ListAt {
+    At(ListRecord),
+    Refused(Refusal),
+}
+
+pub enum RingAt {
+    At(RingRecord),
+    Refused(Refusal),
+}
+
+// A ring op's word: its group's index, and in the top bit whether that is turned round.
+pub enum OpAt {
+    At(usize),
+    Refused(Refusal),
+}
+
+pub enum GroupAt {
+    At(GroupRecord),
+    Refused(Refusal),
+}
+
+pub enum ChunkAt {
+    At(ChunkRecord),
+    Refused(Refusal),
+}
+
+pub fn wide16(x: u16) -> usize
+    ensures { λ r. ⌜ (r ≡ x) × (r < 0x1_0000) ⌝ }
+{
+    x as usize
+}
+
+// Where record `index` of `width` bytes stands.
+fn record_at(s: &[u8], d: Directory, width: usize, index: usize) -> Place
+    requires { ⌜ width ≤ 64 ⌝ }
+    ensures { λ r. ⌜ toldPlace r ≡ recordAt (now (s .entry)) d width index ⌝ }
+{
+    if reader_head::wide(d.count) <= index {
+        return Place::Refused(answer::refuse(34));
+    }
+    let at = reader_head::wide(d.off) + index * width;
+    if s.len() < at + width {
+        return Place::Refused(answer::refuse(44));
+    }
+    Place::At(at)
+}
+
+fn box_in(s: &[u8], at: usize) -> BBox
+    requires { ⌜ at + 16 ≤ length (now s) ⌝ }
+    ensures { λ r. ⌜ r ≡ boxIn (now (s .entry)) at ⌝ }
+{
+    BBox {
+        minx: fields::i32_at(s, at),
+        miny: fields::i32_at(s, at + 4),
+        maxx: fields::i32_at(s, at + 8),
+        maxy: fields::i32_at(s, at + 12),
+    }
+}
+
+fn point_in(s: &[u8], at: usize) -> I32Point
+    requires { ⌜ at + 8 ≤ length (now s) ⌝ }
+    ensures { λ r. ⌜ r ≡ pointIn (now (s .entry)) at ⌝ }
+{
+    I32Point {
+        x: fields::i32_at(s, at),
+        y: fields::i32_at(s, at + 4),
+    }
+}
+
+// At least one, and all within the directory below.
+fn is_within(first: u32, count: u16, below: u32) -> bool
+    ensures { λ r. ⌜ r ≡ within first count below ⌝ }
+{
+    (0 < count) & (reader_head::wide(first) + wide16(count) <= reader_head::wide(below))
+}
+
+fn list_in(s: &[u8], at: usize) -> ListRecord
+    requires { ⌜ at + 24 ≤ length (now s) ⌝ }
+    ensures { λ r. ⌜ r ≡ listIn (now (s .entry)) at ⌝ }
+{
+    ListRecord {
+        first: fields::u32_at(s, at),
+        count: fields::u16_at(s, at + 4),
+        bbox: box_in(s, at + 8),
+    }
+}
+
+fn list_rule(below: u32, v: ListRecord) -> bool
+    ensures { λ r. ⌜ r ≡ listRule below v ⌝ }
+{
+    let b = v.bbox;
+    b.in_domain() & is_within(v.first, v.count, below)
+}
+
+fn list_at(s: &[u8], d: Directory, below: u32, index: usize) -> ListAt
+    ensures { λ r. ⌜ toldList r ≡ listAt (now (s .entry)) d below index ⌝ }
+{
+    let t = record_at(s, d, 24, index);
+    match t {
+        Place::Refused(r) => ListAt::Refused(r),
+        Place::At(at) => {
+            let v = list_in(s, at);
+            if list_rule(below, v) {
+                ListAt::At(v)
+            } else {
+                ListAt::Refused(answer::refuse(34))
+            }
+        }
+    }
+}
+
+pub fn tz_at(o: Opened, s: &[u8], index: usize) -> ListAt
+    ensures { λ r. ⌜ toldList r ≡ zoneAt o (now (s .entry)) index ⌝ }
+{
+    let d = o.zones;
+    list_at(s, d, o.polys.count, index)
+}
+
+pub fn poly_at(o: Opened, s: &[u8], index: usize) -> ListAt
+    ensures { λ r. ⌜ toldList r ≡ polyAt o (now (s .entry)) index ⌝ }
+{
+    let d = o.polys;
+    list_at(s, d, o.rings.count, index)
+}
+
+fn ring_in(s: &[u8], at: usize) -> RingRecord
+    requires { ⌜ at + 28 ≤ length (now s) ⌝ }
+    ensures { λ r. ⌜ r ≡ ringIn (now (s .entry)) at ⌝ }
+{
+    RingRecord {
+        first: fields::u32_at(s, at),
+        points: fields::u32_at(s, at + 4),
+        count: fields::u16_at(s, at + 8),
+        bbox: box_in(s, at + 12),
+    }
+}
+
+fn ring_rule(below: u32, v: RingRecord) -> bool
+    ensures { λ r. ⌜ r ≡ ringRule below v ⌝ }
+{
+    let b = v.bbox;
+    b.in_domain() & is_within(v.first, v.count, below)
+}
+
+pub fn ring_at(o: Opened, s: &[u8], index: usize) -> RingAt
+    ensures { λ r. ⌜ toldRing r ≡ ringAt o (now (s .entry)) index ⌝ }
+{
+    let d = o.rings;
+    let t = record_at(s, d, 28, index);
+    match t {
+        Place::Refused(r) => RingAt::Refused(r),
+        Place::At(at) => {
+            let v = ring_in(s, at);
+            if ring_rule(o.ops.count, v) {
+                RingAt::At(v)
+            } else {
+                RingAt::Refused(answer::refuse(34))
+            }
+        }
+    }
+}
+
+// The group is one of the directory.
+fn op_rule(below: u32, word: usize) -> bool
+    ensures { λ r. ⌜ r ≡ opRule below word ⌝ }
+{
+    word % 0x8000_0000 < reader_head::wide(below)
+}
+
+pub fn op_at(o: Opened, s: &[u8], index: usize) -> OpAt
+    ensures { λ r. ⌜ toldOp r ≡ opAt o (now (s .entry)) index ⌝ }
+{
+    let d = o.ops;
+    let t = record_at(s, d, 4, index);
+    match t {
+        Place::Refused(r) => OpAt::Refused(r),
+        Place::At(at) => {
+            let word = reader_head::word(s, at);
+            if op_rule(o.groups.count, word) {
+                OpAt::At(word)
+            } else {
+                OpAt::Refused(answer::refuse(35))
+            }
+        }
+    }
+}
+
+// The group record that stands at a tested place.
+pub fn group_in(s: &[u8], at: usize) -> GroupRecord
+    requires { ⌜ at + 44 ≤ length (now s) ⌝ }
+    ensures { λ r. ⌜ r ≡ groupIn (now (s .entry)) at ⌝ }
+{
+    GroupRecord {
+        first: fields::u32_at(s, at),
+        points: fields::u32_at(s, at + 4),
+        count: fields::u16_at(s, at + 8),
+        entry: point_in(s, at + 12),
+        exit: point_in(s, at + 20),
+        bbox: box_in(s, at + 28),
+    }
+}
+
+pub fn group_rule(below: u32, v: GroupRecord) -> bool
+    ensures { λ r. ⌜ r ≡ groupRule below v ⌝ }
+{
+    let b = v.bbox;
+    let e = v.entry;
+    let x = v.exit;
+    (b.in_domain() & is_within(v.first, v.count, below))
+        & (tzb_core::bbox::point_in_domain(e) & tzb_core::bbox::point_in_domain(x))
+}
+
+pub fn group_at(o: Opened, s: &[u8], index: usize) -> GroupAt
+    ensures { λ r. ⌜ toldGroup r ≡ groupAt o (now (s .entry)) index ⌝ }
+{
+    let d = o.groups;
+    let t = record_at(s, d, 44, index);
+    match t {
+        Place::Refused(r) => GroupAt::Refused(r),
+        Place::At(at) => {
+            let v = group_in(s, at);
+            if group_rule(o.chunks.count, v) {
+                GroupAt::At(v)
+            } else {
+                GroupAt::Refused(answer::refuse(34))
+            }
+        }
+    }
+}
+
+// The chunk record that stands at a tested place.
+pub fn chunk_in(s: &[u8], at: usize) -> ChunkRecord
+    requires { ⌜ at + 24 ≤ length (now s) ⌝ }
+    ensures { λ r. ⌜ r ≡ chunkIn (now (s .entry)) at ⌝ }
+{
+    ChunkRecord {
+        off: fields::u32_at(s, at),
+        count: fields::u16_at(s, at + 4),
+        bbox: box_in(s, at + 8),
+    }
+}
+
+pub fn chunk_rule(v: ChunkRecord) -> bool
+    ensures { λ r. ⌜ r ≡ chunkRule v ⌝ }
+{
+    let b = v.bbox;
+    b.in_domain()
+}
+
+pub fn chunk_at(o: Opened, s: &[u8], index: usize) -> ChunkAt
+    ensures { λ r. ⌜ toldChunk r ≡ chunkAt o (now (s .entry)) index ⌝ }
+{
+    let d = o.chunks;
+    let t = record_at(s, d, 24, index);
+    match t {
+        Place::Refused(r) => ChunkAt::Refused(r),
+        Place::At(at) => {
+            let v = chunk_in(s, at);
+            if chunk_rule(v) {
+                ChunkAt::At(v)
+            } else {
+                ChunkAt::Refused(answer::refuse(34))
+            }
+        }
+    }
+}
