@@ -1,24 +1,30 @@
-// Opening a file: the opened record, or the first refusal.
+// The reader. Opening answers an opened record, by value; every question takes it beside the file's bytes.
 ghost use mathlib.Core.Path.{_≡_};
-ghost use Prim.Native.Nat.{_+_, _-_, _*_, _≤_, _<_};
-ghost use lib.ListN.{length};
-ghost use Rattle.reader_head.specs.Head.{Headed};
-ghost use Rattle.reader_opened.specs.Opened.{Tabled};
-ghost use Rattle.reader_grid.specs.Grid.{Small};
-ghost use Rattle.tzb.specs.Open.{dimsOf, Room, tableCheck, gridIf, namesIn, chunksIn, groupsIn, sizesCheck, contentsCheck, openOf};
+ghost use Rattle.reader_opened.specs.Opened.{openedOf};
+ghost use Rattle.tzb.specs.Opening.{tableCheck, sizesCheck, namesIn, gridIn, contentsCheck, openOf, told, Placed};
 use answer::Checked;
 use answer::Refusal;
-use reader_grid::Dims;
+pub use reader_grid::candidate_at;
+pub use reader_grid::candidates;
+pub use reader_names::name;
+pub use reader_names::name_refusal;
 use reader_opened::Grid;
 use reader_opened::Opened;
+use reader_opened::Sections;
+pub use reader_records::chunk_at;
+pub use reader_records::group_at;
+pub use reader_records::op_at;
+pub use reader_records::poly_at;
+pub use reader_records::ring_at;
+pub use reader_records::tz_at;
 
 pub enum Opening {
-    Ok(Opened),
+    Done(Opened),
     Refused(Refusal),
 }
 
-// 1 to 18.
-fn tables(s: &[u8]) -> Checked
+// 1 to 18: the header, the section table, the sections that there must be.
+fn table(s: &[u8]) -> Checked
     ensures { λ r. ⌜ r ≡ tableCheck (now (s .entry)) ⌝ }
 {
     let a = reader_head::head(s);
@@ -36,129 +42,84 @@ fn tables(s: &[u8]) -> Checked
     reader_opened::flag(s)
 }
 
-fn wide16(x: u16) -> usize
-    ensures { λ r. ⌜ (r ≡ x) × (r < 65536) ⌝ }
+// 19 and 20: the directories' lengths.
+fn sizes(p: Sections) -> Checked
+    ensures { λ r. ⌜ r ≡ sizesCheck p ⌝ }
 {
-    x as usize
-}
-
-fn dims(g: Grid) -> Dims
-    ensures { λ r. ⌜ (r ≡ dimsOf g) × Small r ⌝ }
-{
-    let lng = wide16(g.lng);
-    let lat = wide16(g.lat);
-    let cols = wide16(g.cols);
-    let rows = wide16(g.rows);
-    let total = reader_head::wide(g.total);
-    Dims {
-        lng,
-        lat,
-        cols,
-        rows,
-        total,
+    let a = reader_opened::zone_length(p);
+    if let Checked::Refused(k) = a {
+        return Checked::Refused(k);
     }
+    let b = reader_opened::lengths(p);
+    if let Checked::Refused(k) = b {
+        return Checked::Refused(k);
+    }
+    reader_opened::counts(p)
 }
 
 // 21 to 26.
-fn names_in(s: &[u8], o: Opened) -> Checked
-    requires { ⌜ Room (now s) o ⌝ }
-    ensures { λ r. ⌜ r ≡ namesIn (now (s .entry)) o ⌝ }
+fn names(s: &[u8], p: Sections) -> Checked
+    requires { ⌜ Placed (now s) p ⌝ }
+    ensures { λ r. ⌜ r ≡ namesIn (now (s .entry)) p ⌝ }
 {
-    let at = reader_head::wide(o.names.off);
-    let len = reader_head::wide(o.names.len);
-    let n = reader_head::wide(o.zones);
+    let at = reader_head::wide(p.names.off);
+    let len = reader_head::wide(p.names.len);
+    let n = reader_head::wide(p.zones);
     reader_names::names(s, at, len, n)
 }
 
 // 27 to 31, if GRID is present.
-fn grid_if(s: &[u8], o: Opened) -> Checked
-    requires { ⌜ Room (now s) o ⌝ }
-    ensures { λ r. ⌜ r ≡ gridIf (now (s .entry)) o ⌝ }
+fn grid(s: &[u8], p: Sections, g: Grid) -> Checked
+    requires { ⌜ Placed (now s) p ⌝ }
+    ensures { λ r. ⌜ r ≡ gridIn (now (s .entry)) p g ⌝ }
 {
-    if o.flags % 2 == 0 {
+    if p.flags % 2 == 0 {
         return Checked::Fine;
     }
-    let at = reader_head::wide(o.gridpart.off);
-    let len = reader_head::wide(o.gridpart.len);
-    let n = reader_head::wide(o.zones);
-    let g = o.grid;
-    reader_grid::grid(s, at, len, dims(g), n)
-}
-
-// 34 and 32.
-fn chunks_in(s: &[u8], o: Opened) -> Checked
-    requires { ⌜ Room (now s) o ⌝ }
-    ensures { λ r. ⌜ r ≡ chunksIn (now (s .entry)) o ⌝ }
-{
-    let at = reader_head::wide(o.chunkdir.off);
-    let len = reader_head::wide(o.chunkdir.len);
-    let points = reader_head::wide(o.points.len);
-    reader_dirs::chunks(s, at, len / 24, points)
-}
-
-// 34 and 33.
-fn groups_in(s: &[u8], o: Opened) -> Checked
-    requires { ⌜ Room (now s) o ⌝ }
-    ensures { λ r. ⌜ r ≡ groupsIn (now (s .entry)) o ⌝ }
-{
-    let dir = reader_head::wide(o.groupdir.off);
-    let n = reader_head::wide(o.groupdir.len);
-    let at = reader_head::wide(o.chunkdir.off);
-    let len = reader_head::wide(o.chunkdir.len);
-    reader_dirs::groups(s, dir, n / 44, at, len / 24)
-}
-
-// 19 and 20.
-fn sizes(o: Opened) -> Checked
-    ensures { λ r. ⌜ r ≡ sizesCheck o ⌝ }
-{
-    let a = reader_opened::zone_length(o);
-    if let Checked::Refused(k) = a {
-        return Checked::Refused(k);
-    }
-    let b = reader_opened::lengths(o);
-    if let Checked::Refused(k) = b {
-        return Checked::Refused(k);
-    }
-    reader_opened::counts(o)
+    let part = p.gridpart;
+    let n = reader_head::wide(p.zones);
+    reader_grid::grid(s, part, g, n)
 }
 
 // 19 to 34.
-fn contents(s: &[u8], o: Opened) -> Checked
-    requires { ⌜ Room (now s) o ⌝ }
-    ensures { λ r. ⌜ r ≡ contentsCheck (now (s .entry)) o ⌝ }
+fn contents(s: &[u8], p: Sections, g: Grid, o: Opened) -> Checked
+    requires { ⌜ Placed (now s) p × (o ≡ openedOf p g) ⌝ }
+    ensures { λ r. ⌜ r ≡ contentsCheck (now (s .entry)) p g o ⌝ }
 {
-    let a = sizes(o);
+    let a = sizes(p);
     if let Checked::Refused(k) = a {
         return Checked::Refused(k);
     }
-    let b = names_in(s, o);
+    let b = names(s, p);
     if let Checked::Refused(k) = b {
         return Checked::Refused(k);
     }
-    let d = grid_if(s, o);
+    let d = grid(s, p, g);
     if let Checked::Refused(k) = d {
         return Checked::Refused(k);
     }
-    let e = chunks_in(s, o);
+    let e = reader_dirs::chunks(o, s);
     if let Checked::Refused(k) = e {
         return Checked::Refused(k);
     }
-    groups_in(s, o)
+    reader_dirs::groups(o, s)
 }
 
 // The opened record, or the first refusal.
-pub fn open(s: &[u8]) -> Opening
-    ensures { λ r. ⌜ r ≡ openOf (now (s .entry)) ⌝ }
+pub fn open(file: &[u8]) -> Opening
+    ensures { λ r. ⌜ told r ≡ openOf (now (file .entry)) ⌝ }
 {
-    let a = tables(s);
+    let a = table(file);
     if let Checked::Refused(k) = a {
         return Opening::Refused(k);
     }
-    let o = reader_opened::read_record(s);
-    let b = contents(s, o);
+    let p = reader_opened::read_sections(file);
+    let part = p.gridpart;
+    let g = reader_opened::grid_of(file, part);
+    let o = reader_opened::opened_of(p, g);
+    let b = contents(file, p, g, o);
     if let Checked::Refused(k) = b {
         return Opening::Refused(k);
     }
-    Opening::Ok(o)
+    Opening::Done(o)
 }

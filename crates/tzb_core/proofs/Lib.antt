@@ -1,4 +1,14 @@
 -- What is proved of the lower crate's definitions, and what its functions' proofs share.
+-- numbers and boxes
+pub mod Sums
+pub mod Equals
+pub mod Corners
+pub mod Digits
+pub mod Shortest
+pub mod Places
+pub mod Unreadable
+pub mod Determined
+-- the ray test
 pub mod Steps
 pub mod Pattern
 pub mod Sides
@@ -9,11 +19,3 @@ pub mod Order
 pub mod Loop
 pub mod Warnings
 pub mod DeterminedRay
-pub mod Sums
-pub mod Equals
-pub mod Corners
-pub mod Digits
-pub mod Shortest
-pub mod Places
-pub mod Unreadable
-pub mod Determined

@@ -1,4 +1,4 @@
--- What the lower crate answers: the ray test, boxes, numbers.
-pub mod Ray
-pub mod Box
+-- What the lower crate answers: numbers, boxes, the ray test.
 pub mod Varint
+pub mod Box
+pub mod Ray

@@ -1,62 +1,58 @@
-use mathlib.Core.Path.{_≡_, refl, sym, ap, _∙_}
-use Rattle.tzb.specs.Open.{open-stop, open-bad, open-fine, tabled, room}
-use native.Mathlib.Omega.{arith}
+-- `tzb::open` meets its contract: the table first, then what it places, then the record.
+-- Assumes nothing.
+use mathlib.Core.Path.{sym, _∙_}
+use Rattle.tzb.specs.Opening.{tabled, placed, open-barred, open-refused, open-done}
 use borrow.Author.Needs.{needs}
 use Rattle.tzb.proofs.open.Statement.{statement}
 use Rattle.tzb.proofs.open.Tie as tie
-use Rattle.tzb.proofs.open.Reads as reads
-use Rattle.tzb.proofs.open.Lts as lts
-use Rattle.reader_opened.proofs.read_record.Reads as read-record-reads
-use Rattle.tzb.proofs.contents.Reads as contents-reads
-use Rattle.tzb.proofs.tables.Reads as tables-reads
 
--- src/lib.rt:116:9
-tables-requires : tie.Need-tables-requires
-tables-requires c κs = search needs
+table-requires : tie.Need-table-requires
+table-requires c κs = search needs
 
--- src/lib.rt:117:29
 enum-known-a : tie.Need-enum-known-a
 enum-known-a c = search needs
 
--- src/lib.rt:118:9
 returns : tie.Need-returns
-returns c = open-stop _ _ (cc)
+returns c = open-barred _ _ (sym (c .before .before .before .table .ensures) ∙ c .before .a .given .1)
 
 enum-told : tie.Need-enum-told
 enum-told c = search needs
 
--- src/lib.rt:120:9
-read-record-requires : tie.Need-read-record-requires
-read-record-requires c κs = tabled _ (cc)
+read-sections-requires : tie.Need-read-sections-requires
+read-sections-requires c κs = tabled _ (sym (c .before .before .table .ensures) ∙ c .enum-told .given .1)
 
--- src/lib.rt:121:9
+grid-of-requires : tie.Need-grid-of-requires
+grid-of-requires c κs = rw (c .before .read-sections .ensures) (placed _ (tabled _ (sym (c .before .before .before .before .table .ensures) ∙ c .before .before .enum-told .given .1)) .grid)
+
+opened-of-requires : tie.Need-opened-of-requires
+opened-of-requires c κs = search needs
+
 contents-requires : tie.Need-contents-requires
-contents-requires c κs = rw (c .read-record .ensures) (room _ (tabled _ (cc)))
+contents-requires c κs = (rw (c .before .before .before .read-sections .ensures) (placed _ (tabled _ (sym (c .before .before .before .before .before .before .table .ensures) ∙ c .before .before .before .before .enum-told .given .1))), c .opened-of .ensures)
 
--- src/lib.rt:122:29
 enum-known-b : tie.Need-enum-known-b
 enum-known-b c = search needs
 
--- src/lib.rt:123:9
 returns-2 : tie.Need-returns-2
-returns-2 c = open-bad _ _ _ (cc) (c .before .before .before .before .read-record .ensures) (cc)
+returns-2 c = open-refused _ _ _ _ (sym (c .before .before .before .before .before .before .before .before .before .before .table .ensures) ∙ c .before .before .before .before .before .before .before .before .enum-told .given .1) (c .before .before .before .before .before .before .before .read-sections .ensures) (c .before .before .before .before .before .grid-of .ensures) (c .before .before .before .before .opened-of .ensures) _ (sym (c .before .before .before .contents .ensures) ∙ c .before .b .given .1)
 
 enum-told-2 : tie.Need-enum-told-2
 enum-told-2 c = search needs
 
--- src/lib.rt:113:1
 returns-3 : tie.Need-returns-3
-returns-3 c = open-fine _ _ (cc) (c .before .before .before .read-record .ensures) (cc)
+returns-3 c = open-done _ _ _ _ (sym (c .before .before .before .before .before .before .before .before .before .table .ensures) ∙ c .before .before .before .before .before .before .before .enum-told .given .1) (c .before .before .before .before .before .before .read-sections .ensures) (c .before .before .before .before .grid-of .ensures) (c .before .before .before .opened-of .ensures) (sym (c .before .before .contents .ensures) ∙ c .enum-told2 .given .1)
 
 pub open-spec : {M : Type 1} → statement M
 open-spec =
     tie.close
     (tie.spec
-    tables-requires
+    table-requires
     enum-known-a
     returns
     enum-told
-    read-record-requires
+    read-sections-requires
+    grid-of-requires
+    opened-of-requires
     contents-requires
     enum-known-b
     returns-2
