@@ -7,7 +7,7 @@ use mathlib.Core.Path.{_≡_, refl, sym, ap, _∙_}
 use mathlib.Core.Bool.{Bool, true, false, cond, _||_, false≢true, true≢false}
 use borrow.Author.Tests.{ltb-true, ltb-false, lt-ltb, le-ltb}
 use lib.Dec.{T, ltb, lt→ltb}
-use lib.IntN.{ℤ, pos, negsuc, negℤ, natAbs, _-ℤ_}
+use lib.IntN.{ℤ, pos, negsuc, negℤ, natAbs, _+ℤ_, _-ℤ_}
 use lib.Signed.{shrZ}
 use mir.Syntax.{w64}
 use mir.Val.{SFits, toZ, ofZ}
@@ -17,7 +17,7 @@ use lib.Ieee.Fits.{down-pos}
 use lib.Ieee.Exact.{HasValue}
 use lib.Ieee.Back.{round-whole}
 use Rattle.reader_grid.specs.Floor.{signed, floorOf, Small}
-use Rattle.reader_grid.proofs.Numbers.{near, less-fits, less-is, less-small}
+use Rattle.reader_grid.proofs.Numbers.{near, moved-fits, moved-is, moved-small}
 
 or-l : (a b : Bool) → T a → T (a || b)
 or-l true b t = tt
@@ -182,10 +182,11 @@ module _ (x : Float) (cut : ℤ) (y : Float) (h : Small x) (ec : cut ≡ toSigne
 
   pub floor-taken : lt x y ≡ true → (toZ w64 (ofZ w64 (toZ w64 (ofZ w64 cut) -ℤ pos 1)) ≡ floorOf x) × (natAbs (toZ w64 (ofZ w64 (toZ w64 (ofZ w64 cut) -ℤ pos 1))) ≤ 181)
   floor-taken t =
-      (less-is cut small-cut ∙ ap (λ (z : ℤ). z -ℤ pos 1) ec ∙ floor-less x h (sym asked ∙ t), rw (less-is cut small-cut) (less-small cut small-cut))
+      let e : toZ w64 (ofZ w64 (toZ w64 (ofZ w64 cut) -ℤ pos 1)) ≡ cut -ℤ pos 1 = moved-is cut small-cut (negsuc 0) (omega arith) in
+      (e ∙ ap (λ (z : ℤ). z -ℤ pos 1) ec ∙ floor-less x h (sym asked ∙ t), rw e (moved-small cut small-cut (negsuc 0) (omega arith)))
 
   pub floor-left : lt x y ≡ false → (toZ w64 (ofZ w64 cut) ≡ floorOf x) × (natAbs (toZ w64 (ofZ w64 cut)) ≤ 181)
   floor-left t = (same-cut ∙ ec ∙ floor-kept x h (sym asked ∙ t), rw same-cut (omega (arith, small-cut)))
 
-  pub cut-less : SFits w64 (toZ w64 (ofZ w64 cut) -ℤ pos 1)
-  cut-less = less-fits cut small-cut
+  pub cut-fits : (d : ℤ) → natAbs d ≤ 1 → SFits w64 (toZ w64 (ofZ w64 cut) +ℤ d)
+  cut-fits d k = moved-fits cut small-cut d k

@@ -103,22 +103,22 @@ module _ (z first : ℤ) (k : natAbs z ≤ 181) (h : SFits w16 first) where
   pub step-is : toZ w64 (ofZ w64 (toZ w64 (ofZ w64 z) -ℤ toZ w64 (ofZ w64 (toZ w16 (ofZ w16 first))))) ≡ z -ℤ first
   step-is = rw (same-z, wide-step) (toZ-ofZ w64 (z -ℤ first) step-in)
 
--- one less, in 64 bits
+-- at most one more or less, in 64 bits
 module _ (z : ℤ) (k : natAbs z ≤ 180) where
   kept : toZ w64 (ofZ w64 z) ≡ z
   kept = toZ-ofZ w64 z (near w64 z (omega arith))
 
-  less-in : SFits w64 (z -ℤ pos 1)
-  less-in = near w64 _ (omega (arith, minus-abs z (pos 1)))
+  pub moved-small : (d : ℤ) → natAbs d ≤ 1 → natAbs (z +ℤ d) ≤ 181
+  moved-small d h = omega (arith, sum-abs z d)
 
-  pub less-fits : SFits w64 (toZ w64 (ofZ w64 z) -ℤ pos 1)
-  less-fits = rw kept less-in
+  moved-in : (d : ℤ) → natAbs d ≤ 1 → SFits w64 (z +ℤ d)
+  moved-in d h = near w64 _ (omega (arith, moved-small d h))
 
-  pub less-is : toZ w64 (ofZ w64 (toZ w64 (ofZ w64 z) -ℤ pos 1)) ≡ z -ℤ pos 1
-  less-is = rw kept (toZ-ofZ w64 (z -ℤ pos 1) less-in)
+  pub moved-fits : (d : ℤ) → natAbs d ≤ 1 → SFits w64 (toZ w64 (ofZ w64 z) +ℤ d)
+  moved-fits d h = rw kept (moved-in d h)
 
-  pub less-small : natAbs (z -ℤ pos 1) ≤ 181
-  less-small = omega (arith, minus-abs z (pos 1))
+  pub moved-is : (d : ℤ) → natAbs d ≤ 1 → toZ w64 (ofZ w64 (toZ w64 (ofZ w64 z) +ℤ d)) ≡ z +ℤ d
+  moved-is d h = rw kept (toZ-ofZ w64 (z +ℤ d) (moved-in d h))
 
 -- a number not below 0
 pub not-negative : (z : ℤ) → leZ (pos 0) z ≡ true → T (nonNeg z)

@@ -1,5 +1,6 @@
 -- `candidate_at` meets its contract: the place, the read, the zone, in this order.
 -- Assumes nothing.
+use native.Mathlib.Omega.{arith}
 use mathlib.Core.Path.{sym, ap, _∙_}
 use Rattle.fields.specs.Loads.{told16}
 use Rattle.reader_grid.proofs.Asking.{place-past, place-broken, place-read}
@@ -11,7 +12,7 @@ refuse-requires : tie.Need-refuse-requires
 refuse-requires c κs = search needs
 
 returns : tie.Need-returns
-returns c = place-past _ _ _ _ (c .before .if1 .taken) (c .refuse .ensures)
+returns c = place-past _ _ _ _ (omega (arith, c .before .if1 .taken)) (c .refuse .ensures)
 
 candidate-place-requires : tie.Need-candidate-place-requires
 candidate-place-requires c κs = search needs
@@ -31,12 +32,12 @@ enum-known-found-2 c = search needs
 returns-2 : tie.Need-returns-2
 returns-2 c =
     let f = c .before .before .before .before in
-    place-read _ _ _ (f .before .before .before .if1 .left) _ (f .before .candidate-place .ensures) _ _ (sym (ap told16 (c .before .before .found .given .1)) ∙ f .u16-le .ensures) (c .zone-below .ensures)
+    place-read _ _ _ (omega (arith, f .before .before .before .if1 .left)) _ (f .before .candidate-place .ensures) _ _ (sym (ap told16 (c .before .before .found .given .1)) ∙ f .u16-le .ensures) (c .zone-below .ensures)
 
 returns-3 : tie.Need-returns-3
 returns-3 c =
     let f = c .before .before .before in
-    place-broken _ _ _ (f .before .before .before .if1 .left) _ (f .before .candidate-place .ensures) _ (sym (ap told16 (c .before .found2 .given .1)) ∙ f .u16-le .ensures)
+    place-broken _ _ _ (omega (arith, f .before .before .before .if1 .left)) _ (f .before .candidate-place .ensures) _ (sym (ap told16 (c .before .found2 .given .1)) ∙ f .u16-le .ensures)
 
 pub candidate-at-spec : {M : Type 1} → statement M
 candidate-at-spec =

@@ -1,7 +1,8 @@
 -- `floor` meets its contract: the cut, less 1 where it is above the float.
 -- Assumes nothing.
+use native.Mathlib.Omega.{arith}
 use borrow.Author.Needs.{needs}
-use Rattle.reader_grid.proofs.Flooring.{not-below, not-past, floor-taken, floor-left, cut-less}
+use Rattle.reader_grid.proofs.Flooring.{not-below, not-past, floor-taken, floor-left, cut-fits}
 use Rattle.reader_grid.proofs.floor.Statement.{statement}
 use Rattle.reader_grid.proofs.floor.Tie as tie
 
@@ -15,7 +16,7 @@ sub-result : tie.Need-sub-result
 sub-result c =
     let cut = c .before .before .truncating-f64-to-i64 in
     let start = c .before .before .before in
-    cut-less (start .args .x) (cut .result) (c .before .nearest-i64-to-f64 .result) (start .pre) (cut .ensures) (c .before .nearest-i64-to-f64 .ensures)
+    cut-fits (start .args .x) (cut .result) (c .before .nearest-i64-to-f64 .result) (start .pre) (cut .ensures) (c .before .nearest-i64-to-f64 .ensures) _ (omega arith)
 
 returns : tie.Need-returns
 returns c =
