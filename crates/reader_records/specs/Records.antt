@@ -27,8 +27,8 @@ use Rattle.reader_records.specs.declared.ListRecord.{ListRecord}
 use Rattle.reader_records.specs.declared.RingRecord.{RingRecord}
 use Rattle.reader_records.specs.declared.GroupRecord.{GroupRecord}
 use Rattle.reader_records.specs.declared.ChunkRecord.{ChunkRecord}
-use Rattle.reader_records.specs.declared.Place.{Place}
-use Rattle.reader_records.specs.declared.Place.the-variants as P
+use Rattle.reader_records.specs.declared.RecordPlace.{RecordPlace}
+use Rattle.reader_records.specs.declared.RecordPlace.the-variants as P
 use Rattle.reader_records.specs.declared.ListAt.{ListAt}
 use Rattle.reader_records.specs.declared.ListAt.the-variants as L
 use Rattle.reader_records.specs.declared.RingAt.{RingAt}
@@ -41,7 +41,7 @@ use Rattle.reader_records.specs.declared.ChunkAt.{ChunkAt}
 use Rattle.reader_records.specs.declared.ChunkAt.the-variants as C
 
 -- what each enum tells
-abbrev pub toldPlace : Place → Answer ℕ
+abbrev pub toldPlace : RecordPlace → Answer ℕ
 toldPlace (P.At p) = ok p
 toldPlace (P.Refused k) = refused k
 

@@ -2,7 +2,6 @@
 ghost use mathlib.Core.Path.{_≡_};
 ghost use Prim.Native.Nat.{_+_, _≤_, _<_};
 ghost use lib.ListN.{length};
-ghost use Rattle.fields.specs.Le.{le};
 ghost use Rattle.reader_records.specs.Records.{toldPlace, toldList, toldRing, toldOp, toldGroup, toldChunk, recordAt, boxIn, pointIn, within, listIn, listRule, listAt, zoneAt, polyAt, ringIn, ringRule, ringAt, opRule, opAt, groupIn, groupRule, groupAt, chunkIn, chunkRule, chunkAt};
 use answer::Refusal;
 use plane::I32Point;
@@ -40,7 +39,7 @@ pub struct ChunkRecord {
 }
 
 // Where a record stands.
-pub enum Place {
+enum RecordPlace {
     At(usize),
     Refused(Refusal),
 }
@@ -78,18 +77,18 @@ pub fn wide16(x: u16) -> usize
 }
 
 // Where record `index` of `width` bytes stands.
-fn record_at(s: &[u8], d: Directory, width: usize, index: usize) -> Place
+fn record_at(s: &[u8], d: Directory, width: usize, index: usize) -> RecordPlace
     requires { ⌜ width ≤ 64 ⌝ }
     ensures { λ r. ⌜ toldPlace r ≡ recordAt (now (s .entry)) d width index ⌝ }
 {
     if reader_head::wide(d.count) <= index {
-        return Place::Refused(answer::refuse(34));
+        return RecordPlace::Refused(answer::refuse(34));
     }
     let at = reader_head::wide(d.off) + index * width;
     if s.len() < at + width {
-        return Place::Refused(answer::refuse(44));
+        return RecordPlace::Refused(answer::refuse(44));
     }
-    Place::At(at)
+    RecordPlace::At(at)
 }
 
 fn box_in(s: &[u8], at: usize) -> BBox
@@ -144,8 +143,8 @@ fn list_at(s: &[u8], d: Directory, below: u32, index: usize) -> ListAt
 {
     let t = record_at(s, d, 24, index);
     match t {
-        Place::Refused(r) => ListAt::Refused(r),
-        Place::At(at) => {
+        RecordPlace::Refused(r) => ListAt::Refused(r),
+        RecordPlace::At(at) => {
             let v = list_in(s, at);
             if list_rule(below, v) {
                 ListAt::At(v)
@@ -195,8 +194,8 @@ pub fn ring_at(o: Opened, s: &[u8], index: usize) -> RingAt
     let d = o.rings;
     let t = record_at(s, d, 28, index);
     match t {
-        Place::Refused(r) => RingAt::Refused(r),
-        Place::At(at) => {
+        RecordPlace::Refused(r) => RingAt::Refused(r),
+        RecordPlace::At(at) => {
             let v = ring_in(s, at);
             if ring_rule(o.ops.count, v) {
                 RingAt::At(v)
@@ -220,8 +219,8 @@ pub fn op_at(o: Opened, s: &[u8], index: usize) -> OpAt
     let d = o.ops;
     let t = record_at(s, d, 4, index);
     match t {
-        Place::Refused(r) => OpAt::Refused(r),
-        Place::At(at) => {
+        RecordPlace::Refused(r) => OpAt::Refused(r),
+        RecordPlace::At(at) => {
             let word = reader_head::word(s, at);
             if op_rule(o.groups.count, word) {
                 OpAt::At(word)
@@ -263,8 +262,8 @@ pub fn group_at(o: Opened, s: &[u8], index: usize) -> GroupAt
     let d = o.groups;
     let t = record_at(s, d, 44, index);
     match t {
-        Place::Refused(r) => GroupAt::Refused(r),
-        Place::At(at) => {
+        RecordPlace::Refused(r) => GroupAt::Refused(r),
+        RecordPlace::At(at) => {
             let v = group_in(s, at);
             if group_rule(o.chunks.count, v) {
                 GroupAt::At(v)
@@ -300,8 +299,8 @@ pub fn chunk_at(o: Opened, s: &[u8], index: usize) -> ChunkAt
     let d = o.chunks;
     let t = record_at(s, d, 24, index);
     match t {
-        Place::Refused(r) => ChunkAt::Refused(r),
-        Place::At(at) => {
+        RecordPlace::Refused(r) => ChunkAt::Refused(r),
+        RecordPlace::At(at) => {
             let v = chunk_in(s, at);
             if chunk_rule(v) {
                 ChunkAt::At(v)

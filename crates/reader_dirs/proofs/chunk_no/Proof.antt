@@ -1,7 +1,6 @@
 -- `reader_dirs::chunk_no` meets its contract: the record is read where it stands.
 -- Assumes nothing.
 use Prim.Native.Nat.{ℕ, _+_, _*_}
-use native.Mathlib.Omega.{arith}
 use mathlib.Core.Path.{ap, _∙_}
 use Rattle.reader_records.specs.Records.{chunkIn}
 use borrow.Author.Needs.{needs}

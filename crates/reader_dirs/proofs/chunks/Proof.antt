@@ -1,7 +1,6 @@
 -- `reader_dirs::chunks` meets its contract: the chunk directory's checks.
 -- Assumes nothing.
 use Rattle.reader_dirs.specs.Dirs.{chunksCheck}
-use borrow.Author.Needs.{needs}
 use Rattle.reader_dirs.proofs.chunks.Statement.{statement}
 use Rattle.reader_dirs.proofs.chunks.Tie as tie
 

@@ -1,7 +1,6 @@
 -- `reader_dirs::count_at` meets its contract: the count stands four bytes into the record.
 -- Assumes nothing.
 use Prim.Native.Nat.{ℕ, _+_, _*_}
-use native.Mathlib.Omega.{arith}
 use mathlib.Core.Path.{ap, _∙_}
 use Rattle.fields.specs.Le.{le}
 use Rattle.reader_records.specs.Records.{chunkIn}

@@ -1,7 +1,6 @@
 -- `reader_dirs::groups` meets its contract: the group directory's checks.
 -- Assumes nothing.
 use Rattle.reader_dirs.specs.Dirs.{groupsCheck}
-use borrow.Author.Needs.{needs}
 use Rattle.reader_dirs.proofs.groups.Statement.{statement}
 use Rattle.reader_dirs.proofs.groups.Tie as tie
 

@@ -1,6 +1,5 @@
 -- `reader_records::box_in` meets its contract: four coordinates, one after another.
 -- Assumes nothing.
-use native.Mathlib.Omega.{arith}
 use mathlib.Core.Path.{_∙_}
 use mir.Syntax.{w32}
 use mir.ValLaws.{toZ-ofZ}

@@ -1,6 +1,5 @@
 -- `reader_records::group_in` meets its contract: its six fields.
 -- Assumes nothing.
-use native.Mathlib.Omega.{arith}
 use Rattle.reader_records.proofs.Parts.{group-is}
 use borrow.Author.Needs.{needs}
 use Rattle.reader_records.proofs.group_in.Statement.{statement}

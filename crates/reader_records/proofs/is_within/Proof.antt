@@ -1,6 +1,5 @@
 -- `reader_records::is_within` meets its contract: the sum does not wrap.
 -- Assumes nothing.
-use native.Mathlib.Omega.{arith}
 use Rattle.reader_records.specs.Records.{within}
 use borrow.Author.Needs.{needs}
 use Rattle.reader_records.proofs.is_within.Statement.{statement}

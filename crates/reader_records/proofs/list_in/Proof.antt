@@ -1,6 +1,5 @@
 -- `reader_records::list_in` meets its contract: its three fields.
 -- Assumes nothing.
-use native.Mathlib.Omega.{arith}
 use Rattle.reader_records.proofs.Parts.{list-is}
 use borrow.Author.Needs.{needs}
 use Rattle.reader_records.proofs.list_in.Statement.{statement}

@@ -1,6 +1,5 @@
 -- `reader_records::point_in` meets its contract: two coordinates, one after the other.
 -- Assumes nothing.
-use native.Mathlib.Omega.{arith}
 use mathlib.Core.Path.{_∙_}
 use mir.Syntax.{w32}
 use mir.ValLaws.{toZ-ofZ}

@@ -1,6 +1,5 @@
 -- `reader_records::ring_in` meets its contract: its four fields.
 -- Assumes nothing.
-use native.Mathlib.Omega.{arith}
 use Rattle.reader_records.proofs.Parts.{ring-is}
 use borrow.Author.Needs.{needs}
 use Rattle.reader_records.proofs.ring_in.Statement.{statement}
