@@ -118,13 +118,13 @@ pub fn names(s: &[u8], at: usize, len: usize, n: usize) -> Checked
 }
 
 // Where a zone's name stands: from its start up to its end.
-enum Bounds {
+pub enum Bounds {
     At(usize, usize),
     Refused(Refusal),
 }
 
 // The two offsets, and the name's bytes, for any bytes and any zone number.
-fn name_bounds(s: &[u8], names: u32, zones: u32, zone: u32) -> Bounds
+pub fn name_bounds(s: &[u8], names: u32, zones: u32, zone: u32) -> Bounds
     ensures { λ r. ⌜ told r ≡ boundsAt (now (s .entry)) names zones zone ⌝ }
 {
     if zones <= zone {

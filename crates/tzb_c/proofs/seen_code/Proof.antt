@@ -1,6 +1,6 @@
 -- `seen_code` meets its contract: a case of the enum after the other.
 -- Assumes nothing.
-use mathlib.Core.Path.{sym, ap, ap₂, _∙_}
+use mathlib.Core.Path.{sym, ap, _∙_}
 use mathlib.Core.Bool.{Bool}
 use borrow.Author.Needs.{needs}
 use Rattle.plane.specs.declared.Seen.the-variants.{Off}
