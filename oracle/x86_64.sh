@@ -4,6 +4,7 @@
 #   sh oracle/x86_64.sh setup           once for each machine: installs what the build needs (as root, on Debian)
 #   sh oracle/x86_64.sh run WORDS..     builds the oracle and runs it, as 'run compare 60'
 #   sh oracle/x86_64.sh test            the oracle's own tests
+# FEATURES=port_opening puts the port's opening beside the original's; the archive must have its exports.
 set -e
 folder=$(dirname "$0")
 task=$1
@@ -27,7 +28,7 @@ fi
 
 case $task in
   setup) ;;
-  run) exec cargo run --release --quiet --offline --manifest-path "$folder/Cargo.toml" -- "$@" ;;
-  test) exec cargo test --release --quiet --offline --manifest-path "$folder/Cargo.toml" ;;
+  run) exec cargo run --release --quiet --offline --manifest-path "$folder/Cargo.toml" --features "$FEATURES" -- "$@" ;;
+  test) exec cargo test --release --quiet --offline --manifest-path "$folder/Cargo.toml" --features "$FEATURES" ;;
   *) sed -n 's/^#   //p' "$0" >&2; exit 2 ;;
 esac

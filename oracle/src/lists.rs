@@ -1,5 +1,7 @@
 //! The fixed lists of the original's answers, which the gate replays without Rust. README.md has the layout of their records.
 
+pub mod open;
+
 use crate::bytes::{self, OF_NUMBERS};
 use crate::original;
 use crate::random::Random;
