@@ -1,11 +1,13 @@
 //! Builds small `.tzb` files: a draft says what a file has, `lay` gives its bytes.
 
 pub mod damage;
+mod examples;
 mod fields;
 mod grid;
 mod shape;
 pub mod smaller;
 
+pub use examples::{bases, kinds, least, marked};
 pub use grid::Grid;
 pub use shape::{Chunks, Op, Shape};
 
@@ -145,25 +147,6 @@ pub fn names(skipped: &[u8], all: &[Vec<u8>]) -> Vec<u8> {
     out.extend_from_slice(skipped);
     all.iter().for_each(|name| out.extend_from_slice(name));
     out
-}
-
-/// The least file that opens: one record of each kind, the shortest name, one byte of points.
-pub fn least(grid: bool) -> Draft {
-    let mut shape = Shape::default();
-    let group = shape.add_group(Chunks(vec![vec![(0, 0), (0, 0)]]));
-    shape.zones.push(vec![vec![vec![Op { group, turned: false }]]]);
-    let mut parts = shape.parts();
-    let points = parts.iter().position(|part| part.typ == POINTS).unwrap();
-    parts[points].bytes.truncate(1);
-    if grid {
-        let one = Grid { lng: 0, lat: 0, columns: 1, rows: 1, words: vec![1 << 28], candidates: vec![0] };
-        parts.push(Part { typ: GRID, bytes: one.bytes(), gap: 0 });
-    }
-    parts.push(Part { typ: NAMES, bytes: names(&[], &[b"A".to_vec()]), gap: 0 });
-    let mut draft = Draft::new(1, parts);
-    draft.version = Vec::new();
-    draft.chunk_target = 1;
-    draft
 }
 
 /// A valid file, of every kind: 1 to 4 zones, GRID or none, unknown and empty sections, gaps, any order.

@@ -1,6 +1,8 @@
 //! The closed list of places at which the original's opening is known to depart from document 01.
 //! `rules` can judge with any set of them. The original must say what the rules say with all of them, the port what they say with none.
 
+use crate::compare;
+use crate::file::smaller;
 use crate::rules::{self, Departure};
 
 pub struct Known {
@@ -37,12 +39,8 @@ pub const KNOWN: [Known; 4] = [
     },
 ];
 
-pub const ALL: [Departure; 4] = [
-    Departure::Type11,
-    Departure::EmptyInside,
-    Departure::ChunkRecord,
-    Departure::ShortGroup,
-];
+pub const ALL: [Departure; 4] =
+    [Departure::Type11, Departure::EmptyInside, Departure::ChunkRecord, Departure::ShortGroup];
 
 /// The number by the rules, 0 where the file opens.
 pub fn number(file: &[u8], departures: &[Departure]) -> u32 {
@@ -60,4 +58,15 @@ pub fn met(file: &[u8]) -> Vec<usize> {
         number(file, &[d]) != document || number(file, &others) != original
     };
     (0..KNOWN.len()).filter(|&i| tells(KNOWN[i].departure)).collect()
+}
+
+/// Whether the file meets this difference and no other; with `opens`, one side must open it.
+pub fn shows(i: usize, file: &[u8], opens: bool) -> bool {
+    let opened = || number(file, &[]) == 0 || number(file, &ALL) == 0;
+    met(file) == [i] && (!opens || opened())
+}
+
+/// The smallest file that is reached from this one and still shows the difference.
+pub fn small(i: usize, file: Vec<u8>, opens: bool) -> Vec<u8> {
+    compare::smallest(file, |f| smaller::files(f), |f| shows(i, f, opens))
 }

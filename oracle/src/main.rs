@@ -26,12 +26,8 @@ fn main() {
     match words[..] {
         ["compare"] => compare::run(60, random::fresh_seed()),
         ["compare", "files"] => compare::files::run(60, random::fresh_seed()),
-        ["compare", "files", seconds] => {
-            compare::files::run(number(seconds), random::fresh_seed())
-        }
-        ["compare", "files", seconds, seed] => {
-            compare::files::run(number(seconds), number(seed))
-        }
+        ["compare", "files", seconds] => compare::files::run(number(seconds), random::fresh_seed()),
+        ["compare", "files", seconds, seed] => compare::files::run(number(seconds), number(seed)),
         ["compare", "file", file] => compare::files::one(file.as_ref()),
         ["compare", seconds] => compare::run(number(seconds), random::fresh_seed()),
         ["compare", seconds, seed] => compare::run(number(seconds), number(seed)),

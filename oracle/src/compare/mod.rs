@@ -76,7 +76,7 @@ pub fn differs<T: Debug, A: Debug + PartialEq>(
 }
 
 /// Goes from an input to a simpler one that still differs, as long as there is one.
-fn smallest<T>(found: T, simpler: impl Fn(&T) -> Vec<T>, differs: impl Fn(&T) -> bool) -> T {
+pub fn smallest<T>(found: T, simpler: impl Fn(&T) -> Vec<T>, differs: impl Fn(&T) -> bool) -> T {
     let mut now = found;
     while let Some(next) = simpler(&now).into_iter().find(|t| differs(t)) {
         now = next;

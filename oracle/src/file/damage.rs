@@ -56,7 +56,7 @@ fn get(file: &[u8], field: Field) -> u32 {
     u32::from_le_bytes(bytes)
 }
 
-/// What a field may be set to: the telling values and their negatives, its neighbours, and what other entries say.
+/// What a field may be set to: the telling values and their negatives, its neighbours, and what other entries say. The nearest first.
 fn values(file: &[u8], field: Field) -> Vec<u32> {
     let now = get(file, field);
     let size = file.len() as u32;
@@ -73,7 +73,7 @@ fn values(file: &[u8], field: Field) -> Vec<u32> {
     }
     let all = u32::MAX >> (32 - 8 * field.width);
     out.iter_mut().for_each(|n| *n &= all);
-    out.sort_unstable();
+    out.sort_unstable_by_key(|&n| (n.wrapping_sub(now).min(now.wrapping_sub(n)), n));
     out.dedup();
     out.retain(|&n| n != now);
     out

@@ -118,8 +118,7 @@ fn records(out: &mut Vec<Field>, file: &[u8], from: usize, to: usize, record: Re
 
 /// Every field of a file that is at least a header and a sum.
 pub fn all(file: &[u8]) -> Vec<Field> {
-    let mut out: Vec<Field> =
-        HEADER.map(|(what, at, width)| Field { what, at, width }).to_vec();
+    let mut out: Vec<Field> = HEADER.map(|(what, at, width)| Field { what, at, width }).to_vec();
     let entries = entries(file);
     records(&mut out, file, 64, 64 + 16 * entries.len(), ENTRY);
     let zones = word(file, 40) as usize;

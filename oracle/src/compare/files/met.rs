@@ -1,7 +1,6 @@
 //! What a run met: how often each refusal was said, and each known difference with the smallest file for it.
 
 use super::ask::Outcome;
-use crate::file::smaller;
 use crate::known::{self, ALL, KNOWN};
 use std::collections::BTreeMap;
 
@@ -58,7 +57,7 @@ impl Met {
         for (i, of) in self.known.iter_mut().enumerate() {
             for (place, must_open) in [(&mut of.any, false), (&mut of.opens, true)] {
                 if let Some(file) = place.take() {
-                    *place = Some(small(i, file, must_open));
+                    *place = Some(known::small(i, file, must_open));
                 }
             }
         }
@@ -85,15 +84,6 @@ impl Met {
             }
         }
     }
-}
-
-/// The smallest file that is reached from this one and still meets this difference alone.
-pub fn small(i: usize, file: Vec<u8>, must_open: bool) -> Vec<u8> {
-    let shows = |file: &Vec<u8>| {
-        let opens = || known::number(file, &[]) == 0 || known::number(file, &ALL) == 0;
-        known::met(file) == [i] && (!must_open || opens())
-    };
-    crate::compare::smallest(file, |f| smaller::files(f), shows)
 }
 
 pub fn hex(file: &[u8]) -> String {
