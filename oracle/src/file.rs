@@ -1,5 +1,7 @@
 //! Builds small `.tzb` files: a draft says what a file has, `lay` gives its bytes.
 
+#[cfg(test)]
+mod accepted;
 pub mod damage;
 mod examples;
 mod fields;

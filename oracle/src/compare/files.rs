@@ -14,8 +14,8 @@ use std::time::{Duration, Instant};
 
 const DIFFERENCE: &str = "target/difference.tzb";
 
-/// Below this size every byte of a fixed file is set to every value.
-const SMALL: usize = 400;
+/// In so many of the fixed files every byte is set to every value.
+const SWEPT: usize = 5;
 
 struct Run {
     tally: Tally,
@@ -78,7 +78,7 @@ pub fn run(seconds: u64, seed: u64) {
 }
 
 fn fixed(run: &mut Run) {
-    for base in file::bases() {
+    for (i, base) in file::bases().into_iter().enumerate() {
         let mut count = 0;
         let mut each = |file: &[u8]| {
             run.judge(file);
@@ -89,7 +89,7 @@ fn fixed(run: &mut Run) {
         damage::fields(&base, &mut |_, file| each(&file));
         damage::tables(&base, &mut |_, file| each(&file));
         let mut what = "cut, field, entry";
-        if base.len() < SMALL {
+        if i < SWEPT {
             damage::bytes(&base, true, &mut each);
             damage::bytes(&base, false, &mut each);
             what = "byte, cut, field, entry";

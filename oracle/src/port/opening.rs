@@ -1,4 +1,4 @@
-//! The port's opening, names and candidates. Each question opens the file and asks. Without the feature `port_opening` there is no port to ask.
+//! The port's opening, names and candidates. Each question opens the file and asks. The feature `port_opening` says that the archive has their exports.
 
 use crate::rules::{Candidates, Said};
 
@@ -12,26 +12,40 @@ mod exports {
     }
 }
 
+/// Stands in for the exports, so that the harness can be tested without them: document 01's rules, in the exports' numbers.
 #[cfg(not(feature = "port_opening"))]
 mod exports {
-    fn none() -> ! {
-        unreachable!("the archive has no opening")
+    use crate::rules::{self, Candidates, Opened, Said};
+
+    unsafe fn ask(file: *const u8, length: usize, ask: impl Fn(&Opened) -> Said<i64>) -> i64 {
+        let file = unsafe { std::slice::from_raw_parts(file, length) };
+        match rules::open(file, &[]).and_then(|opened| ask(&opened)) {
+            Ok(answer) => answer,
+            Err(n) => -1000 - i64::from(n),
+        }
     }
 
-    pub unsafe fn tzb_try_open(_: *const u8, _: usize) -> i32 {
-        none()
+    pub unsafe fn tzb_try_open(file: *const u8, length: usize) -> i32 {
+        unsafe { ask(file, length, |_| Ok(0)) as i32 }
     }
 
-    pub unsafe fn tzb_try_name(_: *const u8, _: usize, _: u32) -> i64 {
-        none()
+    pub unsafe fn tzb_try_name(file: *const u8, length: usize, zone: u32) -> i64 {
+        let place = |(start, length): (u64, u64)| (start << 32 | length) as i64;
+        unsafe { ask(file, length, |opened| opened.name(zone.into()).map(place)) }
     }
 
-    pub unsafe fn tzb_try_candidates(_: *const u8, _: usize, _: f64, _: f64) -> i64 {
-        none()
+    pub unsafe fn tzb_try_candidates(file: *const u8, length: usize, lng: f64, lat: f64) -> i64 {
+        let told = |opened: &Opened| match opened.candidates(lng, lat) {
+            Candidates::Nothing => -1,
+            Candidates::EveryZone => -2,
+            Candidates::Cell { count, offset } => (count << 32 | offset) as i64,
+        };
+        unsafe { ask(file, length, |opened| Ok(told(opened))) }
     }
 
-    pub unsafe fn tzb_try_candidate(_: *const u8, _: usize, _: u32) -> i64 {
-        none()
+    pub unsafe fn tzb_try_candidate(file: *const u8, length: usize, place: u32) -> i64 {
+        let zone = |zone: u64| zone as i64;
+        unsafe { ask(file, length, |opened| opened.candidate(place.into()).map(zone)) }
     }
 }
 

@@ -171,3 +171,20 @@ fn position(random: &mut Random) -> (f64, f64) {
         _ => (lng, lat),
     }
 }
+
+#[cfg(test)]
+mod tests {
+    use super::{everything, of_port};
+    use crate::file::{bases, damage};
+    use crate::rules;
+
+    #[test]
+    fn answers_of_the_port_are_read_rightly() {
+        for base in bases() {
+            assert!(everything(&base).is_ok());
+            damage::tables(&base, &mut |_, file| {
+                assert!(of_port(&file, &rules::open(&file, &[])).is_ok());
+            });
+        }
+    }
+}
