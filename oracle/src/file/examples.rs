@@ -9,11 +9,21 @@ pub fn least(grid: bool) -> Draft {
 
 /// Its one group has this many points. With one alone the original refuses it.
 fn least_of(points: usize, grid: bool) -> Draft {
+    one_zone(Chunks(vec![vec![(0, 0); points]]), 1, grid)
+}
+
+/// One group of eight chunks: the original sorts them into two stripes.
+fn long_group() -> Draft {
+    one_zone(Chunks((0..8).map(|i| vec![(i, i % 2)]).collect()), usize::MAX, false)
+}
+
+/// A zone of one ring of one group. Of the bytes of its points so many are kept.
+fn one_zone(chunks: Chunks, kept: usize, grid: bool) -> Draft {
     let mut shape = Shape::default();
-    let group = shape.add_group(Chunks(vec![vec![(0, 0); points]]));
+    let group = shape.add_group(chunks);
     shape.zones.push(vec![vec![vec![Op { group, turned: false }]]]);
     let mut parts = shape.parts();
-    parts.iter_mut().filter(|part| part.typ == POINTS).for_each(|part| part.bytes.truncate(1));
+    parts.iter_mut().filter(|part| part.typ == POINTS).for_each(|part| part.bytes.truncate(kept));
     if grid {
         let (words, candidates) = (vec![1 << 28], vec![0]);
         let one = Grid { lng: 0, lat: 0, columns: 1, rows: 1, words, candidates };
@@ -46,6 +56,7 @@ pub fn kinds() -> Vec<Vec<u8>> {
     out.extend(laid_otherwise());
     out.push(marked(5).lay());
     out.push(least_of(1, false).lay());
+    out.push(long_group().lay());
     out.extend(by_chance());
     out
 }
