@@ -2,6 +2,7 @@
 
 #[cfg(test)]
 mod accepted;
+mod cases;
 pub mod damage;
 mod examples;
 mod fields;
@@ -9,6 +10,7 @@ mod grid;
 mod shape;
 pub mod smaller;
 
+pub use cases::cases;
 pub use examples::{bases, kinds, least, marked};
 pub use grid::Grid;
 pub use shape::{Chunks, Op, Shape};

@@ -17,8 +17,20 @@ fn long_group() -> Draft {
     one_zone(Chunks((0..8).map(|i| vec![(i, i % 2)]).collect()), usize::MAX, false)
 }
 
+/// Without GRID, but with so many zones, of these names.
+pub fn least_with(zones: usize, all: &[&[u8]]) -> Draft {
+    let mut draft = least(false);
+    let part = |typ| move |part: &&mut Part| part.typ == typ;
+    let tzdir = draft.parts.iter_mut().find(part(TZDIR)).unwrap();
+    tzdir.bytes = tzdir.bytes.repeat(zones);
+    let all: Vec<Vec<u8>> = all.iter().map(|name| name.to_vec()).collect();
+    draft.parts.iter_mut().find(part(NAMES)).unwrap().bytes = names(&[], &all);
+    draft.zones = zones as u32;
+    draft
+}
+
 /// A zone of one ring of one group. Of the bytes of its points so many are kept.
-fn one_zone(chunks: Chunks, kept: usize, grid: bool) -> Draft {
+pub fn one_zone(chunks: Chunks, kept: usize, grid: bool) -> Draft {
     let mut shape = Shape::default();
     let group = shape.add_group(chunks);
     shape.zones.push(vec![vec![vec![Op { group, turned: false }]]]);
@@ -36,10 +48,14 @@ fn one_zone(chunks: Chunks, kept: usize, grid: bool) -> Draft {
     draft
 }
 
+/// One zone, version "a", and these sections.
+pub fn plain(parts: Vec<Part>) -> Vec<u8> {
+    Draft { version: vec![b'a'], ..Draft::new(1, parts) }.lay()
+}
+
 /// Small files whose every damage is looked at: without sections, with one and two, and the valid kinds.
 pub fn bases() -> Vec<Vec<u8>> {
     let unknown = |bytes: &[u8]| Part { typ: 0, bytes: bytes.to_vec(), gap: 0 };
-    let plain = |parts| Draft { version: vec![b'a'], ..Draft::new(1, parts) }.lay();
     let mut out = vec![
         plain(Vec::new()),
         plain(vec![unknown(&[])]),
@@ -55,6 +71,8 @@ pub fn kinds() -> Vec<Vec<u8>> {
     out.extend(with_sections());
     out.extend(laid_otherwise());
     out.push(marked(5).lay());
+    out.extend(at_the_bounds());
+    out.push(empty_inside());
     out.push(least_of(1, false).lay());
     out.push(long_group().lay());
     out.extend(by_chance());
@@ -113,12 +131,44 @@ pub fn marked(total: usize) -> Draft {
     draft
 }
 
+/// An empty section strictly inside another: the original refuses it.
+fn empty_inside() -> Vec<u8> {
+    let mut draft = least(false);
+    draft.order.push(draft.parts.len());
+    draft.parts.push(Part { typ: 0, bytes: Vec::new(), gap: 0 });
+    let mut file = draft.lay();
+    let entry = 64 + 16 * (draft.parts.len() - 1);
+    let inside = word(&file, 68) + 4;
+    put(&mut file, entry + 4, inside);
+    repair(&mut file);
+    file
+}
+
+/// The greatest boxes, and grids as far out as they may be. One has a candidate that no cell names.
+fn at_the_bounds() -> Vec<Vec<u8>> {
+    let grid = |lng, lat, columns, rows, words: &[u32], candidates: &[u16]| {
+        let mut draft = least(true);
+        let part = draft.parts.iter_mut().find(|part| part.typ == GRID).unwrap();
+        let (words, candidates) = (words.to_vec(), candidates.to_vec());
+        part.bytes = Grid { lng, lat, columns, rows, words, candidates }.bytes();
+        draft.lay()
+    };
+    let (west, south) = (-18_000_000, -9_000_000);
+    let world = Chunks(vec![vec![(west, south), (-west, -south)]]);
+    vec![
+        grid(-181, -91, 1, 1, &[0x1000_0000], &[0, 0xffff]),
+        grid(180, 90, 2, 2, &[0, 1, 0, 1], &[0]),
+        grid(180, 90, 1, 1, &[0], &[]),
+        one_zone(world, usize::MAX, false).lay(),
+    ]
+}
+
 /// Small ones of many made at random: several zones, rings of several groups, some turned round.
 fn by_chance() -> Vec<Vec<u8>> {
     let mut random = Random::new(20);
     let mut all: Vec<Vec<u8>> = (0..200).map(|_| some(&mut random).lay()).collect();
     all.retain(|file| word(file, 40) > 1);
     all.sort_by_key(Vec::len);
-    all.truncate(4);
+    all.truncate(2);
     all
 }

@@ -1,66 +1,33 @@
 //! open.bin: small files with document 01's number for each. README.md has the layout of its records.
 
-use crate::file::{self, damage};
+use crate::file;
 use crate::known::{self, KNOWN};
-use std::collections::BTreeMap;
 
-/// How many files of a number are kept: those of the head and the table are shorter, and 34 has many fields.
-fn room(number: u32) -> usize {
-    if number <= 17 || number == 34 { 12 } else { 5 }
-}
-
-/// A number's files, each with what was damaged in it.
-type Kept = BTreeMap<u32, Vec<(&'static str, Vec<u8>)>>;
-
+/// The number that is written is document 01's as read by hand; the rules must say the same.
 pub fn records() -> Vec<(u32, Vec<u8>)> {
-    let mut kept = Kept::new();
-    let mut known: Vec<[Option<Vec<u8>>; 2]> = vec![[None, None]; KNOWN.len()];
-    each_damage(&mut |what, file| {
-        let number = known::number(&file, &[]);
-        let files = kept.entry(number).or_default();
-        let kind_is_new = files.iter().all(|(other, _)| *other != what);
-        let wanted = files.len() < 2 || kind_is_new && files.len() < room(number);
-        if number > 0 && wanted {
-            files.push((what, file.clone()));
-        }
-        for i in known::met(&file) {
-            for (place, opens) in known[i].iter_mut().zip([false, true]) {
-                if place.is_none() && known::shows(i, &file, opens) {
-                    *place = Some(file.clone());
-                }
-            }
-        }
-    });
     let mut out: Vec<(u32, Vec<u8>)> = file::kinds().into_iter().map(|file| (0, file)).collect();
-    for (number, files) in kept {
-        out.extend(files.into_iter().map(|(_, file)| (number, file)));
-    }
-    for (i, places) in known.into_iter().enumerate() {
-        for (file, opens) in places.into_iter().zip([false, true]) {
-            let Some(file) = file else { continue };
-            let file = known::small(i, file, opens);
-            out.push((known::number(&file, &[]), file));
-        }
+    out.extend(file::cases());
+    let differences = smallest(&out);
+    out.extend(differences);
+    for (i, (number, file)) in out.iter().enumerate() {
+        assert_eq!(known::number(file, &[]), *number, "record {i}");
     }
     out
 }
 
-/// Every damage to the fixed small files, the smallest of them first.
-fn each_damage(each: &mut impl FnMut(&'static str, Vec<u8>)) {
-    let bases = file::bases();
-    each("no byte", Vec::new());
-    each("a byte too few", bases[0][..67].to_vec());
-    each("M16", file::marked(4).lay());
-    for base in bases {
-        for (what, at) in [("the sum", base.len() - 1), ("a byte under the sum", 63)] {
-            let mut with = base.clone();
-            with[at] ^= 128;
-            each(what, with);
+/// The smallest file for each known difference, and the smallest that a side opens, made from these.
+fn smallest(files: &[(u32, Vec<u8>)]) -> Vec<(u32, Vec<u8>)> {
+    let mut out = Vec::new();
+    for i in 0..KNOWN.len() {
+        for opens in [false, true] {
+            let shows = files.iter().find(|(_, file)| known::shows(i, file, opens));
+            if let Some((_, file)) = shows {
+                let file = known::small(i, file.clone(), opens);
+                out.push((known::number(&file, &[]), file));
+            }
         }
-        damage::fields(&base, each);
-        damage::tables(&base, each);
-        damage::cuts(&base, &mut |file| each("cut", file.to_vec()));
     }
+    out
 }
 
 pub fn bytes(records: &[(u32, Vec<u8>)]) -> Vec<u8> {
