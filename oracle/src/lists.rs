@@ -1,5 +1,7 @@
 //! The fixed lists of the original's answers, which the gate replays without Rust. README.md has the layout of their records.
 
+mod open;
+
 use crate::bytes::{self, OF_NUMBERS};
 use crate::original;
 use crate::random::Random;
@@ -14,6 +16,15 @@ pub fn write(folder: &Path) {
         fs::create_dir_all(folder).expect("the folder for the lists");
         fs::write(folder.join(name), &list).expect("a list");
         println!("{name}: {} records", list.len() / width);
+    }
+    let files = open::records();
+    let list = open::bytes(&files);
+    fs::write(folder.join("open.bin"), &list).expect("a list");
+    println!("open.bin: {} records, {} bytes", files.len(), list.len());
+    for number in 0..=34 {
+        let count = files.iter().filter(|(n, _)| *n == number).count();
+        println!("  {count} with {number}");
+        assert!(count >= 2, "a number with fewer than two files");
     }
 }
 

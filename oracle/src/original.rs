@@ -1,5 +1,7 @@
 //! The original, in the shapes of the port's exports.
 
+pub mod opening;
+
 use crate::bytes::{Reading, refused};
 use crate::scene::{self, Scene};
 use crate::tzb::{self, BBox, Error};

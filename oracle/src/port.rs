@@ -1,5 +1,7 @@
 //! The port, through its archive's C exports. A `&[u8]` passes as pointer, then length.
 
+pub mod opening;
+
 use crate::bytes::Reading;
 use crate::scene::Scene;
 

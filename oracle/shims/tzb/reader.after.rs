@@ -4,3 +4,13 @@
 pub(crate) fn parity(a: I32Point, b: I32Point, py: f64) -> bool {
     endpoint_parity(a, b, py)
 }
+
+impl Reader<'_> {
+    pub(crate) fn ask_candidates(&self, lng: f64, lat: f64) -> Result<(u32, u32, bool), Error> {
+        self.candidates(lng, lat)
+    }
+
+    pub(crate) fn ask_candidate(&self, place: u32) -> Result<u32, Error> {
+        self.candidate_at(place)
+    }
+}

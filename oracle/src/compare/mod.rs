@@ -1,6 +1,7 @@
 //! Puts the same inputs to the port and to the original, and stops at the first difference.
 
 mod checksum;
+pub mod files;
 mod geometry;
 mod utf8;
 mod varint;
@@ -22,6 +23,12 @@ impl Tally {
             None => self.kinds.push((kind.to_string(), count)),
         }
     }
+
+    fn print(&self) {
+        for (kind, count) in &self.kinds {
+            println!("{count:>12}  {kind}");
+        }
+    }
 }
 
 /// First every input of the fixed kinds, then random ones in turns until the time is over.
@@ -40,9 +47,7 @@ pub fn run(seconds: u64, seed: u64) {
         varint::some(&mut tally, &mut random);
         geometry::some(&mut tally, &mut random);
     }
-    for (kind, count) in &tally.kinds {
-        println!("{count:>12}  {kind}");
-    }
+    tally.print();
     let total: u64 = tally.kinds.iter().map(|(_, count)| count).sum();
     println!("{total:>12}  in all, 0 differences");
 }
@@ -71,7 +76,7 @@ pub fn differs<T: Debug, A: Debug + PartialEq>(
 }
 
 /// Goes from an input to a simpler one that still differs, as long as there is one.
-fn smallest<T>(found: T, simpler: impl Fn(&T) -> Vec<T>, differs: impl Fn(&T) -> bool) -> T {
+pub fn smallest<T>(found: T, simpler: impl Fn(&T) -> Vec<T>, differs: impl Fn(&T) -> bool) -> T {
     let mut now = found;
     while let Some(next) = simpler(&now).into_iter().find(|t| differs(t)) {
         now = next;

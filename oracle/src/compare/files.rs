@@ -1,0 +1,135 @@
+//! Opening, names and candidates: the original against the rules with every known departure, the port against document 01's rules.
+
+mod ask;
+mod met;
+
+use super::Tally;
+use crate::file::damage::{self, Aim};
+use crate::file::{self, smaller};
+use crate::random::Random;
+use met::Met;
+use std::path::Path;
+use std::time::{Duration, Instant};
+
+const DIFFERENCE: &str = "target/difference.tzb";
+
+/// In so many of the fixed files every byte is set to every value.
+const SWEPT: usize = 5;
+
+struct Run {
+    tally: Tally,
+    met: Met,
+}
+
+impl Run {
+    fn new() -> Self {
+        Self { tally: Tally::default(), met: Met::default() }
+    }
+
+    /// Puts one file to all sides.
+    fn judge(&mut self, file: &[u8]) {
+        match ask::everything(file) {
+            Ok(outcome) => self.met.add(file, &outcome),
+            Err(why) => stop(file, &why),
+        }
+    }
+
+    fn end(self) {
+        self.tally.print();
+        self.met.print();
+        println!("no difference but the known ones");
+    }
+}
+
+/// Prints a difference that is not on the list, made small, and ends the run.
+fn stop(file: &[u8], why: &str) -> ! {
+    println!("found: {why}, in a file of {} bytes", file.len());
+    let small = match file.len() {
+        0..5000 => {
+            super::smallest(file.to_vec(), |f| smaller::files(f), |f| ask::everything(f).is_err())
+        }
+        _ => file.to_vec(),
+    };
+    if let Err(why) = ask::everything(&small) {
+        println!("made small: {why}, in a file of {} bytes", small.len());
+    }
+    std::fs::write(DIFFERENCE, &small).expect("a place for the file");
+    println!("written to {DIFFERENCE}");
+    if small.len() < 5000 {
+        println!("{}", met::hex(&small));
+    }
+    std::process::exit(1)
+}
+
+/// Fixed files first: all damage to small ones. Then random files, with random damage.
+pub fn run(seconds: u64, seed: u64) {
+    println!("seed {seed}, random files for {seconds} s");
+    let mut run = Run::new();
+    fixed(&mut run);
+    let mut random = Random::new(seed);
+    let start = Instant::now();
+    while start.elapsed() < Duration::from_secs(seconds) {
+        some(&mut run, &mut random);
+    }
+    run.met.make_small();
+    run.end();
+}
+
+fn fixed(run: &mut Run) {
+    for (i, base) in file::bases().into_iter().enumerate() {
+        let mut count = 0;
+        let mut each = |file: &[u8]| {
+            run.judge(file);
+            count += 1;
+        };
+        each(&base);
+        damage::cuts(&base, &mut each);
+        damage::fields(&base, &mut |_, file| each(&file));
+        damage::tables(&base, &mut |_, file| each(&file));
+        let mut what = "cut, field, entry";
+        if i < SWEPT {
+            damage::bytes(&base, true, &mut each);
+            damage::bytes(&base, false, &mut each);
+            what = "byte, cut, field, entry";
+        }
+        run.tally.add(&format!("a fixed file of {} bytes: every {what}", base.len()), count);
+    }
+}
+
+fn some(run: &mut Run, random: &mut Random) {
+    for _ in 0..20 {
+        let file = file::some(random).lay();
+        let aim = Aim::at(&file);
+        run.judge(&file);
+        run.tally.add("valid files", 1);
+        for (what, damages, count) in [
+            ("one damage at random", 1, 60),
+            ("two damages at random", 2, 100),
+            ("three damages at random", 3, 20),
+        ] {
+            for _ in 0..count {
+                run.judge(&aim.damage(random, &file, damages));
+            }
+            run.tally.add(what, count);
+        }
+    }
+    let file = file::some(random).lay();
+    let mut count = 0;
+    let mut each = |file: &[u8]| {
+        run.judge(file);
+        count += 1;
+    };
+    damage::cuts(&file, &mut each);
+    damage::tables(&file, &mut |_, file| each(&file));
+    run.tally.add("every cut and every pair of entries of a random file", count);
+}
+
+/// One file: opening, every name, candidates at many positions, every place of the candidates.
+pub fn one(path: &Path) {
+    let file = std::fs::read(path).expect("the file");
+    let mut run = Run::new();
+    run.judge(&file);
+    run.tally.add("file", 1);
+    ask::all_of(&file, &mut run.tally).unwrap_or_else(|why| stop(&file, &why));
+    run.end();
+}

@@ -1,0 +1,199 @@
+//! Damage to a file's bytes: single bytes, cuts, fields set to telling values, sections moved onto each other.
+
+use super::fields::{self, Field};
+use super::*;
+
+/// Values that tell, whatever the field.
+const TELLING: [u32; 37] = [
+    0,
+    1,
+    2,
+    3,
+    4,
+    7,
+    8,
+    9,
+    10,
+    11,
+    12,
+    14,
+    15,
+    90,
+    91,
+    180,
+    181,
+    255,
+    9_000_000,
+    9_000_001,
+    18_000_000,
+    18_000_001,
+    32_767,
+    32_768,
+    65_535,
+    65_536,
+    0x0fff_ffff,
+    0x1000_0000,
+    0x1000_0001,
+    0x2000_0003,
+    0xf000_0000,
+    0x7fff_ffff,
+    0x8000_0000,
+    0x8000_0001,
+    0x8fff_ffff,
+    0xffff_fffe,
+    0xffff_ffff,
+];
+
+fn set(file: &[u8], field: Field, value: u32) -> Vec<u8> {
+    let mut out = file.to_vec();
+    out[field.at..field.at + field.width].copy_from_slice(&value.to_le_bytes()[..field.width]);
+    out
+}
+
+fn get(file: &[u8], field: Field) -> u32 {
+    let mut bytes = [0; 4];
+    bytes[..field.width].copy_from_slice(&file[field.at..field.at + field.width]);
+    u32::from_le_bytes(bytes)
+}
+
+/// What a field may be set to: the telling values and their negatives, its neighbours, and what other entries say. The nearest first.
+fn values(file: &[u8], field: Field) -> Vec<u32> {
+    let now = get(file, field);
+    let size = file.len() as u32;
+    let mut out = TELLING.to_vec();
+    out.extend(TELLING.map(u32::wrapping_neg));
+    out.extend([1, 2, 4, 24, 28, 44].map(|n| now.wrapping_add(n)));
+    out.extend([1, 2, 4, 24, 28, 44].map(|n| now.wrapping_sub(n)));
+    out.extend((0..32).step_by(4).map(|bit| now ^ 1 << bit));
+    out.extend([size, size - 1, size - 3, size - 4, size - 8, size + 1]);
+    for [_, off, len] in entries(file) {
+        let end = off.wrapping_add(len);
+        out.extend([off, off.wrapping_sub(4), off.wrapping_add(4), end, len]);
+        out.extend([end & !3, (end & !3).wrapping_add(4), end.wrapping_sub(now)]);
+    }
+    let all = u32::MAX >> (32 - 8 * field.width);
+    out.iter_mut().for_each(|n| *n &= all);
+    out.sort_unstable_by_key(|&n| (n.wrapping_sub(now).min(now.wrapping_sub(n)), n));
+    out.dedup();
+    out.retain(|&n| n != now);
+    out
+}
+
+/// Every field set to every value that tells, with the sum repaired.
+pub fn fields(file: &[u8], each: &mut impl FnMut(&'static str, Vec<u8>)) {
+    for field in fields::all(file) {
+        for value in values(file, field) {
+            let mut with = set(file, field, value);
+            repair(&mut with);
+            each(field.what, with);
+        }
+    }
+}
+
+/// Every byte set to every other value; with the sum repaired or not.
+pub fn bytes(file: &[u8], repaired: bool, each: &mut impl FnMut(&[u8])) {
+    let mut with = file.to_vec();
+    for at in 0..file.len() {
+        for change in 1..=255 {
+            with[at] = file[at] ^ change;
+            if repaired {
+                repair(&mut with);
+            }
+            each(&with);
+        }
+        with.copy_from_slice(file);
+    }
+}
+
+/// The first bytes of the file, of every number; as they are, and with size and sum repaired.
+pub fn cuts(file: &[u8], each: &mut impl FnMut(&[u8])) {
+    for length in 0..file.len() {
+        each(&file[..length]);
+        let mut with = file[..length].to_vec();
+        seal(&mut with);
+        each(&with);
+    }
+}
+
+/// Two entries swapped, whole or in part; one entry's place given to another.
+pub fn tables(file: &[u8], each: &mut impl FnMut(&'static str, Vec<u8>)) {
+    let count = entries(file).len();
+    let entry = |i: usize, field: usize| 64 + 16 * i + 4 * field;
+    for i in 0..count {
+        for j in (0..count).filter(|&j| j != i) {
+            for (what, fields) in [
+                ("entry doubled", &[0, 1, 2][..]),
+                ("place doubled", &[1, 2]),
+                ("offset doubled", &[1]),
+                ("type doubled", &[0]),
+                ("length doubled", &[2]),
+            ] {
+                let mut with = file.to_vec();
+                fields.iter().for_each(|&f| put(&mut with, entry(j, f), word(file, entry(i, f))));
+                repair(&mut with);
+                each(what, with);
+            }
+            let mut with = file.to_vec();
+            put(&mut with, entry(i, 0), word(file, entry(j, 0)));
+            put(&mut with, entry(j, 0), word(file, entry(i, 0)));
+            repair(&mut with);
+            each("types swapped", with);
+        }
+    }
+}
+
+/// The fields of a file by kind, so that the many bytes of text and points do not crowd out the others.
+pub struct Aim {
+    kinds: Vec<Vec<Field>>,
+}
+
+impl Aim {
+    pub fn at(file: &[u8]) -> Self {
+        let mut kinds: Vec<Vec<Field>> = Vec::new();
+        for field in fields::all(file) {
+            match kinds.iter_mut().find(|kind| kind[0].what == field.what) {
+                Some(kind) => kind.push(field),
+                None => kinds.push(vec![field]),
+            }
+        }
+        Self { kinds }
+    }
+
+    fn field(&self, random: &mut Random) -> Field {
+        let kind = &self.kinds[random.below(self.kinds.len())];
+        random.pick(kind)
+    }
+
+    /// `count` random damages, one on top of the other. The sum is repaired but for one time in 50.
+    pub fn damage(&self, random: &mut Random, file: &[u8], count: usize) -> Vec<u8> {
+        let mut out = file.to_vec();
+        for _ in 0..count {
+            match random.below(100) {
+                0 if !out.is_empty() => {
+                    out.truncate(random.below(out.len()));
+                    seal(&mut out);
+                }
+                1..8 if !out.is_empty() => {
+                    let at = random.below(out.len());
+                    out[at] = random.byte();
+                }
+                _ => self.set_field(random, &mut out),
+            }
+        }
+        if random.below(50) > 0 {
+            repair(&mut out);
+        }
+        out
+    }
+
+    fn set_field(&self, random: &mut Random, file: &mut Vec<u8>) {
+        let field = self.field(random);
+        if file.len() < 68 || field.at + field.width > file.len() {
+            return;
+        }
+        let all = values(file, field);
+        let any = random.bits() as u32;
+        let value = if random.below(8) == 0 || all.is_empty() { any } else { random.pick(&all) };
+        *file = set(file, field, value);
+    }
+}

@@ -1,0 +1,279 @@
+//! Zones of polygons of rings of groups of chunks of points, and the records that say so. Each box is the least that covers what it must.
+
+use super::*;
+
+type Point = (i32, i32);
+
+/// A group's points, chunk by chunk.
+#[derive(Clone)]
+pub struct Chunks(pub Vec<Vec<Point>>);
+
+/// A ring's step: a group, turned round or not.
+#[derive(Clone, Copy)]
+pub struct Op {
+    pub group: usize,
+    pub turned: bool,
+}
+
+type Ring = Vec<Op>;
+type Polygon = Vec<Ring>;
+
+#[derive(Clone, Default)]
+pub struct Shape {
+    pub zones: Vec<Vec<Polygon>>,
+    groups: Vec<Chunks>,
+    /// Unread bytes before the first chunk.
+    lead: usize,
+}
+
+#[derive(Clone, Copy)]
+struct Bounds([i32; 4]);
+
+impl Bounds {
+    const NONE: Self = Self([i32::MAX, i32::MAX, i32::MIN, i32::MIN]);
+
+    fn with(self, (x, y): Point) -> Self {
+        self.and(Self([x, y, x, y]))
+    }
+
+    fn and(self, other: Self) -> Self {
+        let ([a, b, c, d], [e, f, g, h]) = (self.0, other.0);
+        Self([a.min(e), b.min(f), c.max(g), d.max(h)])
+    }
+
+    fn of(points: &[Point]) -> Self {
+        points.iter().fold(Self::NONE, |b, &p| b.with(p))
+    }
+}
+
+/// The fields of a record, one after another.
+#[derive(Default)]
+struct Records(Vec<u8>);
+
+impl Records {
+    fn word(&mut self, n: usize) {
+        self.0.extend_from_slice(&(n as u32).to_le_bytes());
+    }
+
+    /// A count of two bytes and the two unread ones after it.
+    fn count(&mut self, n: usize) {
+        self.0.extend_from_slice(&(n as u16).to_le_bytes());
+        self.0.extend_from_slice(&[0, 0]);
+    }
+
+    fn point(&mut self, (x, y): Point) {
+        [x, y].iter().for_each(|n| self.0.extend_from_slice(&n.to_le_bytes()));
+    }
+
+    fn bounds(&mut self, b: Bounds) {
+        b.0.iter().for_each(|n| self.0.extend_from_slice(&n.to_le_bytes()));
+    }
+}
+
+impl Chunks {
+    fn points(&self) -> Vec<Point> {
+        self.0.concat()
+    }
+
+    /// A chunk's box covers its points and the next chunk's first.
+    fn bounds(&self, i: usize) -> Bounds {
+        let own = Bounds::of(&self.0[i]);
+        self.0.get(i + 1).map_or(own, |next| own.with(next[0]))
+    }
+}
+
+/// Zigzag LEB128: the first point whole, then deltas.
+fn encode(points: &[Point]) -> Vec<u8> {
+    let mut out = Vec::new();
+    let mut before = (0, 0);
+    for &(x, y) in points {
+        for delta in [x - before.0, y - before.1] {
+            let mut n = (delta << 1 ^ delta >> 31) as u32;
+            while n >= 128 {
+                out.push(n as u8 | 128);
+                n >>= 7;
+            }
+            out.push(n as u8);
+        }
+        before = (x, y);
+    }
+    out
+}
+
+impl Shape {
+    pub fn add_group(&mut self, chunks: Chunks) -> usize {
+        self.groups.push(chunks);
+        self.groups.len() - 1
+    }
+
+    fn ring_bounds(&self, ring: &Ring) -> Bounds {
+        let of = |op: &Op| Bounds::of(&self.groups[op.group].points());
+        ring.iter().map(of).fold(Bounds::NONE, Bounds::and)
+    }
+
+    fn polygon_bounds(&self, polygon: &Polygon) -> Bounds {
+        polygon.iter().map(|r| self.ring_bounds(r)).fold(Bounds::NONE, Bounds::and)
+    }
+
+    pub fn parts(&self) -> Vec<Part> {
+        let [tzdir, polydir, ringdir, ringops] = self.upper();
+        let [groupdir, chunkdir, points] = self.lower();
+        let part = |(typ, bytes)| Part { typ, bytes, gap: 0 };
+        [
+            (TZDIR, tzdir),
+            (POLYDIR, polydir),
+            (RINGDIR, ringdir),
+            (RINGOPS, ringops),
+            (GROUPDIR, groupdir),
+            (CHUNKDIR, chunkdir),
+            (POINTS, points),
+        ]
+        .map(part)
+        .to_vec()
+    }
+
+    fn upper(&self) -> [Vec<u8>; 4] {
+        let [mut zones, mut polygons, mut rings, mut ops] = [(); 4].map(|()| Records::default());
+        let [mut polygon_count, mut ring_count, mut op_count] = [0; 3];
+        for zone in &self.zones {
+            zones.word(polygon_count);
+            zones.count(zone.len());
+            let all = zone.iter().map(|p| self.polygon_bounds(p));
+            zones.bounds(all.fold(Bounds::NONE, Bounds::and));
+            polygon_count += zone.len();
+            for polygon in zone {
+                polygons.word(ring_count);
+                polygons.count(polygon.len());
+                polygons.bounds(self.polygon_bounds(polygon));
+                ring_count += polygon.len();
+                for ring in polygon {
+                    let stored = ring.iter().map(|op| self.groups[op.group].points().len());
+                    rings.word(op_count);
+                    rings.word(stored.sum::<usize>() - ring.len());
+                    rings.count(ring.len());
+                    rings.bounds(self.ring_bounds(ring));
+                    op_count += ring.len();
+                    for op in ring {
+                        ops.word(op.group | usize::from(op.turned) << 31);
+                    }
+                }
+            }
+        }
+        [zones.0, polygons.0, rings.0, ops.0]
+    }
+
+    fn lower(&self) -> [Vec<u8>; 3] {
+        let [mut groups, mut chunks] = [(); 2].map(|()| Records::default());
+        let mut points = vec![0xff; self.lead];
+        let mut chunk_count = 0;
+        for group in &self.groups {
+            let all = group.points();
+            groups.word(chunk_count);
+            groups.word(all.len());
+            groups.count(group.0.len());
+            groups.point(all[0]);
+            groups.point(all[all.len() - 1]);
+            groups.bounds(Bounds::of(&all));
+            chunk_count += group.0.len();
+            for (i, chunk) in group.0.iter().enumerate() {
+                chunks.word(points.len());
+                chunks.count(chunk.len());
+                chunks.bounds(group.bounds(i));
+                points.extend(encode(chunk));
+            }
+        }
+        [groups.0, chunks.0, points]
+    }
+}
+
+/// Sixteen directions in turn, roughly round.
+const ROUND: [Point; 16] = [
+    (8, 0),
+    (7, 3),
+    (6, 6),
+    (3, 7),
+    (0, 8),
+    (-3, 7),
+    (-6, 6),
+    (-7, 3),
+    (-8, 0),
+    (-7, -3),
+    (-6, -6),
+    (-3, -7),
+    (0, -8),
+    (3, -7),
+    (6, -6),
+    (7, -3),
+];
+
+/// The corners of a ring round a centre, three or more, inside what a file may store.
+fn corners(random: &mut Random) -> Vec<Point> {
+    let (scale, reach) = random.pick(&[(1, 4), (1000, 40), (12_500, 100), (100_000, 100)]);
+    let centre = match random.below(8) {
+        0 => (18_000_000, 9_000_000),
+        1 => (-18_000_000, -9_000_000),
+        _ => (random.from_to(-200_000, 200_000), random.from_to(-200_000, 200_000)),
+    };
+    let skip = random.pick(&[1, 2, 3, 4, 5, 6]);
+    let corner = |(x, y): Point, random: &mut Random| {
+        let far = scale * random.from_to(1, reach).min(20);
+        let x = (centre.0 + x * far).clamp(-18_000_000, 18_000_000);
+        (x, (centre.1 + y * far).clamp(-9_000_000, 9_000_000))
+    };
+    ROUND.iter().step_by(skip).map(|&d| corner(d, random)).collect()
+}
+
+/// Cuts a list into `count` runs, none empty.
+fn cut<T: Clone>(random: &mut Random, all: &[T], count: usize) -> Vec<Vec<T>> {
+    let mut rest = all;
+    let mut out = Vec::new();
+    for left in (1..count).rev() {
+        let take = 1 + random.below(rest.len() - left);
+        out.push(rest[..take].to_vec());
+        rest = &rest[take..];
+    }
+    out.push(rest.to_vec());
+    out
+}
+
+impl Shape {
+    pub fn some(random: &mut Random) -> Self {
+        let mut shape = Self { lead: random.pick(&[0, 0, 0, 3]), ..Self::default() };
+        for _ in 0..1 + random.below(4) {
+            let polygons = random.pick(&[1, 1, 1, 2]);
+            let zone = (0..polygons).map(|_| shape.polygon(random)).collect();
+            shape.zones.push(zone);
+        }
+        shape
+    }
+
+    fn polygon(&mut self, random: &mut Random) -> Polygon {
+        let rings = random.pick(&[1, 1, 1, 2]);
+        (0..rings).map(|_| self.ring(random)).collect()
+    }
+
+    /// A new ring, or an earlier one the other way round: then the two share their groups.
+    fn ring(&mut self, random: &mut Random) -> Ring {
+        if let Some(earlier) = self.zones.last().map(|zone| zone[0][0].clone())
+            && random.below(4) == 0
+        {
+            return earlier.iter().rev().map(|op| Op { turned: !op.turned, ..*op }).collect();
+        }
+        let points = corners(random);
+        let groups = 1 + random.below(3);
+        let runs = cut(random, &points, groups);
+        let mut ring = Vec::new();
+        for i in 0..groups {
+            let mut run = runs[i].clone();
+            run.push(runs[(i + 1) % groups][0]);
+            let turned = random.below(3) == 0;
+            if turned {
+                run.reverse();
+            }
+            let chunks = 1 + random.below(run.len().min(4));
+            let group = self.add_group(Chunks(cut(random, &run, chunks)));
+            ring.push(Op { group, turned });
+        }
+        ring
+    }
+}

@@ -1,0 +1,71 @@
+//! Names and candidates of an opened file, by document 01.
+
+use super::bytes::{u16_at, u32_at};
+use super::{Grid, Opened, Said, need};
+
+/// Which zones may hold a position. A cell without candidates counts as none.
+#[derive(Debug, Clone, Copy, PartialEq, Eq)]
+pub enum Candidates {
+    Nothing,
+    EveryZone,
+    Cell { count: u64, offset: u64 },
+}
+
+impl Opened<'_> {
+    /// A name as a part of the file: where it starts, and how many bytes it has.
+    pub fn name(&self, zone: u64) -> Said<(u64, u64)> {
+        need(45, zone < self.zones)?;
+        let (start, end) = self.name_place(zone);
+        Ok((start, end - start))
+    }
+
+    pub fn candidates(&self, lng: f64, lat: f64) -> Candidates {
+        if !(lng.abs() <= 180.0 && lat.abs() <= 90.0) {
+            return Candidates::Nothing;
+        }
+        let Some(g) = self.grid else { return Candidates::EveryZone };
+        let (column, row) = (floor(lng) - g.lng, floor(lat) - g.lat);
+        if !(0..g.columns as i64).contains(&column) || !(0..g.rows as i64).contains(&row) {
+            return Candidates::Nothing;
+        }
+        match self.word(g, row as u64 * g.columns + column as u64) {
+            (0, _) => Candidates::Nothing,
+            (count, offset) => Candidates::Cell { count, offset },
+        }
+    }
+
+    /// The zone at a place of the candidates. Without a GRID their total is 0.
+    pub fn candidate(&self, place: u64) -> Said<u64> {
+        need(30, place < self.candidate_total())?;
+        let g = self.grid.unwrap();
+        let zone = u16_at(self.file, g.candidates() + 2 * place);
+        need(31, zone < self.zones)?;
+        Ok(zone)
+    }
+
+    pub fn candidate_total(&self) -> u64 {
+        self.grid.map_or(0, |g| g.total)
+    }
+
+    /// A cell's word: the top 4 bits are the count, the low 28 the offset.
+    pub(super) fn word(&self, g: Grid, cell: u64) -> (u64, u64) {
+        let word = u32_at(self.file, g.words + 4 * cell);
+        (word >> 28, word & 0x0fff_ffff)
+    }
+}
+
+/// The greatest whole number that is not above. Of a number within ±180.
+fn floor(x: f64) -> i64 {
+    let cut = x as i64;
+    if cut as f64 > x { cut - 1 } else { cut }
+}
+
+#[cfg(test)]
+mod tests {
+    use super::floor;
+
+    #[test]
+    fn half_below_zero_belongs_to_the_cell_below() {
+        assert_eq!([-1.0, -0.5, -0.0, 0.5, 1.0].map(floor), [-1, -1, 0, 0, 1]);
+    }
+}
