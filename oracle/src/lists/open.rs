@@ -30,13 +30,17 @@ fn smallest(files: &[(u32, Vec<u8>)]) -> Vec<(u32, Vec<u8>)> {
     out
 }
 
+/// How long a record is: the file's length, the number, and room for the file.
+const RECORD: usize = 1024;
+
 pub fn bytes(records: &[(u32, Vec<u8>)]) -> Vec<u8> {
     let mut out = Vec::new();
-    for (number, file) in records {
+    for (i, (number, file)) in records.iter().enumerate() {
         out.extend_from_slice(&(file.len() as u32).to_le_bytes());
         out.extend_from_slice(&number.to_le_bytes());
         out.extend_from_slice(file);
-        out.resize(out.len().next_multiple_of(4), 0);
+        assert!(out.len() <= (i + 1) * RECORD, "record {i} is too long");
+        out.resize((i + 1) * RECORD, 0);
     }
     out
 }
