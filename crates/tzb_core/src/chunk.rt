@@ -1,0 +1,173 @@
+// Chunk code: the points of one chunk's bytes, and the scan of its segments. The bytes s are that chunk's own.
+ghost use mathlib.Core.Path.{_≡_};
+ghost use Rattle.tzb_core.specs.Points.{spotted, moved, movedBy, numbersAt, inside, firstOf, nextAt};
+ghost use Rattle.tzb_core.specs.Scan.{scanned, stepped, stepAt, onward, scanOf};
+use crate::bbox;
+use crate::bbox::Sum;
+use crate::raycast;
+use crate::varint::Place;
+use crate::varint::Read;
+use answer::Refusal;
+use plane::I32Point;
+use plane::Point;
+use plane::Seen;
+
+// A point, and the place after it.
+pub enum Spotted {
+    At(I32Point, Place),
+    Refused(Refusal),
+}
+
+enum Moved {
+    To(I32Point),
+    Refused(Refusal),
+}
+
+// Past one segment: its parity, the point it ends at and the place after that.
+enum Step {
+    Refused(Refusal),
+    On,
+    Off(bool, I32Point, Place),
+}
+
+// Past a chunk: the parity of its segments, and its last point.
+pub enum Scan {
+    Refused(Refusal),
+    On,
+    Off(bool, I32Point),
+}
+
+// Two numbers, x and y.
+fn numbers(s: &[u8], at: Place) -> Spotted
+    ensures { λ r. ⌜ spotted r ≡ numbersAt (now (s .entry)) (at .at) ⌝ }
+{
+    let a = at.varint(s);
+    match a {
+        Read::Refused(k) => Spotted::Refused(k),
+        Read::Number(x, n) => {
+            let b = n.varint(s);
+            match b {
+                Read::Refused(k) => Spotted::Refused(k),
+                Read::Number(y, m) => Spotted::At(I32Point { x, y }, m),
+            }
+        }
+    }
+}
+
+// A delta added to the point before it.
+fn shifted(q: I32Point, d: I32Point) -> Moved
+    ensures { λ r. ⌜ moved r ≡ movedBy q d ⌝ }
+{
+    let a = bbox::add_delta(q.x, d.x);
+    match a {
+        Sum::Refused(k) => Moved::Refused(k),
+        Sum::Of(x) => {
+            let b = bbox::add_delta(q.y, d.y);
+            match b {
+                Sum::Refused(k) => Moved::Refused(k),
+                Sum::Of(y) => Moved::To(I32Point { x, y }),
+            }
+        }
+    }
+}
+
+// A point that must lie in the domain.
+fn inside_at(q: I32Point, n: Place) -> Spotted
+    ensures { λ r. ⌜ spotted r ≡ inside q (n .at) ⌝ }
+{
+    if bbox::point_in_domain(q) {
+        Spotted::At(q, n)
+    } else {
+        Spotted::Refused(answer::refuse(42))
+    }
+}
+
+// The first point of a chunk, read alone.
+pub fn first_point(s: &[u8]) -> Spotted
+    ensures { λ r. ⌜ spotted r ≡ firstOf (now (s .entry)) ⌝ }
+{
+    let t = numbers(s, Place { at: 0 });
+    match t {
+        Spotted::Refused(k) => Spotted::Refused(k),
+        Spotted::At(q, n) => inside_at(q, n),
+    }
+}
+
+// The point after q, whose bytes stand at the place.
+pub fn next_point(s: &[u8], q: I32Point, at: Place) -> Spotted
+    ensures { λ r. ⌜ spotted r ≡ nextAt (now (s .entry)) q (at .at) ⌝ }
+{
+    let t = numbers(s, at);
+    match t {
+        Spotted::Refused(k) => Spotted::Refused(k),
+        Spotted::At(d, n) => {
+            let m = shifted(q, d);
+            match m {
+                Moved::Refused(k) => Spotted::Refused(k),
+                Moved::To(t) => inside_at(t, n),
+            }
+        }
+    }
+}
+
+// From q past the segment to the point after it.
+fn one_step(s: &[u8], p: Point, q: I32Point, at: Place) -> Step
+    ensures { λ r. ⌜ stepped r ≡ stepAt (now (s .entry)) p q (at .at) ⌝ }
+{
+    let t = next_point(s, q, at);
+    match t {
+        Spotted::Refused(k) => Step::Refused(k),
+        Spotted::At(n, m) => {
+            let e = raycast::raycast_seg(q, n, p);
+            match e {
+                Seen::On => Step::On,
+                Seen::Off(b) => Step::Off(b, n, m),
+            }
+        }
+    }
+}
+
+// From the first point on, over that many points more.
+fn scan_from(s: &[u8], p: Point, count: u16, first: I32Point, from: Place) -> Scan
+    ensures { λ r. ⌜ scanned r ≡ onward (now (s .entry)) p count first (from .at) ⌝ }
+{
+    let mut q = first;
+    let mut at = from;
+    let mut odd = false;
+    let mut left = count;
+    while 0 < left {
+        let t = one_step(s, p, q, at);
+        match t {
+            Step::Refused(k) => {
+                return Scan::Refused(k);
+            }
+            Step::On => {
+                return Scan::On;
+            }
+            Step::Off(b, n, m) => {
+                odd = answer::plus(odd, b);
+                q = n;
+                at = m;
+            }
+        }
+        left -= 1;
+    }
+    if at.at_end(s) {
+        return Scan::Off(odd, q);
+    }
+    Scan::Refused(answer::refuse(43))
+}
+
+// Every segment of a chunk, in stored order as its points are read: an on-edge hit ends the walk, leftover bytes are tested last.
+pub fn scan_chunk(s: &[u8], count: u16, p: Point) -> Scan
+    ensures { λ r. ⌜ scanned r ≡ scanOf (now (s .entry)) count p ⌝ }
+{
+    if count == 0 {
+        return Scan::Refused(answer::refuse(32));
+    }
+    let f = first_point(s);
+    match f {
+        Spotted::Refused(k) => Scan::Refused(k),
+        Spotted::At(q, n) => scan_from(s, p, count - 1, q, n),
+    }
+}
