@@ -7,6 +7,7 @@ pub mod Digits
 pub mod Shortest
 pub mod Places
 pub mod Unreadable
+pub mod Decoded
 pub mod Determined
 -- the ray test
 pub mod Steps

@@ -4,3 +4,4 @@ pub mod Box
 pub mod Ray
 pub mod Points
 pub mod Scan
+pub mod Decode

@@ -1,5 +1,7 @@
 // Chunk code: the points of one chunk's bytes, and the scan of its segments. The bytes s are that chunk's own.
 ghost use mathlib.Core.Path.{_≡_};
+ghost use Prim.Native.Nat.{_+_, _*_, _≤_, _<_};
+ghost use lib.ListN.{length, set};
 ghost use Rattle.tzb_core.specs.Points.{spotted, moved, movedBy, numbersAt, inside, firstOf, nextAt};
 ghost use Rattle.tzb_core.specs.Scan.{scanned, stepped, stepAt, onward, scanOf};
 use crate::bbox;
@@ -7,6 +9,8 @@ use crate::bbox::Sum;
 use crate::raycast;
 use crate::varint::Place;
 use crate::varint::Read;
+ghost use Rattle.tzb_core.specs.Decode.{outcome, pointsFrom, led, filled, decodeOf, decoded, put, readFrom};
+use answer::Checked;
 use answer::Refusal;
 use plane::I32Point;
 use plane::Point;
@@ -169,5 +173,97 @@ pub fn scan_chunk(s: &[u8], count: u16, p: Point) -> Scan
     match f {
         Spotted::Refused(k) => Scan::Refused(k),
         Spotted::At(q, n) => scan_from(s, p, count - 1, q, n),
+    }
+}
+
+// From the first point on, over that many points more: whether all can be read, and no bytes are left over.
+fn check_from(s: &[u8], count: u16, first: I32Point, from: Place) -> Checked
+    ensures { λ r. ⌜ r ≡ outcome (pointsFrom (now (s .entry)) count first (from .at)) ⌝ }
+{
+    let mut q = first;
+    let mut at = from;
+    let mut left = count;
+    while 0 < left {
+        let t = next_point(s, q, at);
+        match t {
+            Spotted::Refused(k) => {
+                return Checked::Refused(k);
+            }
+            Spotted::At(n, m) => {
+                q = n;
+                at = m;
+            }
+        }
+        left -= 1;
+    }
+    answer::claim(43, at.at_end(s))
+}
+
+// The two numbers of a point, from that place of the lent memory on.
+fn put_point(out: &mut [i32], i: usize, q: I32Point)
+    requires { ⌜ i + 1 < length (now out) ⌝ }
+    ensures { λ _. ⌜ now (out .exit) ≡ set (set (now (out .entry)) i (q .x)) (i + 1) (q .y) ⌝ }
+{
+    let x = q.x;
+    let y = q.y;
+    out[i] = x;
+    out[i + 1] = y;
+}
+
+// From the first point on, over that many points more, as far as they can be read: their numbers, from the third place of the lent memory on.
+fn write_from(s: &[u8], count: u16, first: I32Point, from: Place, out: &mut [i32])
+    requires { ⌜ 2 + 2 * count ≤ length (now out) ⌝ }
+    ensures { λ _. ⌜ now (out .exit) ≡ put (now (out .entry)) 2 (readFrom (now (s .entry)) count first (from .at)) ⌝ }
+{
+    let mut q = first;
+    let mut at = from;
+    let mut left = count;
+    let mut i: usize = 2;
+    while 0 < left {
+        let t = next_point(s, q, at);
+        match t {
+            Spotted::Refused(k) => {
+                return;
+            }
+            Spotted::At(n, m) => {
+                q = n;
+                at = m;
+            }
+        }
+        put_point(out, i, q);
+        i += 2;
+        left -= 1;
+    }
+}
+
+// The first point, and that many more: all are read before the first number is written.
+fn decode_from(s: &[u8], count: u16, first: I32Point, from: Place, out: &mut [i32]) -> Checked
+    requires { ⌜ 2 + 2 * count ≤ length (now out) ⌝ }
+    ensures { λ r. ⌜ (r ≡ outcome (led first (pointsFrom (now (s .entry)) count first (from .at)))) × (now (out .exit) ≡ filled (now (out .entry)) (led first (pointsFrom (now (s .entry)) count first (from .at)))) ⌝ }
+{
+    let c = check_from(s, count, first, from);
+    if let Checked::Refused(k) = c {
+        return Checked::Refused(k);
+    }
+    put_point(out, 0, first);
+    write_from(s, count, first, from, out);
+    Checked::Fine
+}
+
+// The points of a chunk into lent numbers, two a point. A refusal leaves the lent memory as it was, and what lies behind the points is never touched.
+pub fn decode_points(s: &[u8], count: u16, out: &mut [i32]) -> Checked
+    ensures { λ r. ⌜ r ≡ decodeOf (now (s .entry)) count (now (out .entry)) ⌝ }
+    ensures memory { λ r. ⌜ now (out .exit) ≡ decoded (now (s .entry)) count (now (out .entry)) ⌝ }
+{
+    if count == 0 {
+        return answer::fail(32);
+    }
+    if out.len() < 2 * (count as usize) {
+        return answer::fail(46);
+    }
+    let f = first_point(s);
+    match f {
+        Spotted::Refused(k) => Checked::Refused(k),
+        Spotted::At(q, n) => decode_from(s, count - 1, q, n, out),
     }
 }
