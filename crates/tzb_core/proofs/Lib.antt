@@ -7,7 +7,6 @@ pub mod Digits
 pub mod Shortest
 pub mod Places
 pub mod Unreadable
-pub mod Decoded
 pub mod Determined
 -- the ray test
 pub mod Steps
@@ -20,3 +19,7 @@ pub mod Order
 pub mod Loop
 pub mod Warnings
 pub mod DeterminedRay
+-- chunks
+pub mod Decoded
+pub mod Neighbours
+pub mod DeterminedChunk
