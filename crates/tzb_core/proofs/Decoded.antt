@@ -19,7 +19,7 @@ use Rattle.tzb_core.specs.Points.{firstOf, nextAt}
 use Rattle.tzb_core.specs.Decode.{led, pointsFrom, outcome, flat, filled, readFrom, put}
 
 -- ---- what an answer of several steps was made of
-zero-one : _≡_ {A = ℕ} 0 1 → ⊥
+pub zero-one : _≡_ {A = ℕ} 0 1 → ⊥
 zero-one z = omega arith
 
 pub then-inv : {A B : Type 0} (x : Answer A) (k : A → Answer B) (b : B) → ok b ≡ (x then k) → (a : A) × (ok a ≡ x) × (ok b ≡ k a)

@@ -20,6 +20,7 @@ pub mod Loop
 pub mod Warnings
 pub mod DeterminedRay
 -- chunks
+pub mod Skips
 pub mod Decoded
 pub mod Neighbours
 pub mod DeterminedChunk

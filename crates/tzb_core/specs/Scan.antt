@@ -1,11 +1,14 @@
 -- Document 01, "Asking": a chunk's segments are tested in stored order as points are read, an on-edge hit ends the walk, leftover bytes are tested last. A chunk scanned whole with count 0 is 32.
 -- Assumes nothing.
-use Prim.Native.Nat.{ℕ, zero, suc, _-_, _<_}
+use Prim.Native.Nat.{ℕ, zero, suc, _-_, _≤_, _<_}
 use native.Mathlib.Omega.{arith}
 use mathlib.Core.Path.{_≡_, ap}
-use mathlib.Core.Bool.{Bool, true, false}
+use mathlib.Core.Bool.{Bool, true, false, _&&_, _||_}
 use mathlib.Core.List.{List}
 use lib.Dec.{ltb}
+use lib.IntN.{ℤ, natAbs}
+use lib.Signed.{ltZ}
+use lib.Ieee.{Float, lt}
 use borrow.Author.Tests.{lt-ltb}
 use Rattle.answer.specs.declared.Refusal.{Refusal}
 use Rattle.answer.specs.Refusals.{refusal}
@@ -15,9 +18,11 @@ use Rattle.plane.specs.declared.Point.{Point}
 use Rattle.plane.specs.declared.I32Point.{I32Point}
 use Rattle.plane.specs.declared.Seen.{Seen}
 use Rattle.plane.specs.declared.Seen.the-variants.{On, Off}
+use Rattle.tzb_core.specs.Box.{float}
 use Rattle.tzb_core.specs.Ray.{rayOf}
 use Rattle.tzb_core.specs.Varint.{atEnd}
 use Rattle.tzb_core.specs.Points.{firstOf, nextAt}
+use Rattle.tzb_core.specs.declared.chunk.Band.{Band}
 use Rattle.tzb_core.specs.declared.chunk.Scan.{Scan}
 use Rattle.tzb_core.specs.declared.chunk.Scan.the-variants as S
 use Rattle.tzb_core.specs.declared.chunk.Step.{Step}
@@ -96,3 +101,16 @@ module _ (s : List ℕ) (n : ℕ) (p : Point) where
   pub scan-from : 0 < n → (q : I32Point) (k : ℕ) → ok (q, k) ≡ firstOf s → onward s p (n - 1) q k ≡ scanOf s n p
   unfolding scanOf
   scan-from h q k e = rw (lt-ltb 0 n h, ← e)
+
+-- ---- what the code's steps answer
+-- of the heights of the domain, one below `lo` is below y, and one above `hi` is above it
+abbrev pub Around : Band → Float → Type 0
+Around b y =
+    (z : ℤ) → natAbs z ≤ 9_000_000
+    → (ltZ z (b .lo) ≡ true → lt (float z) y ≡ true) × (ltZ (b .hi) z ≡ true → lt y (float z) ≡ true)
+
+-- the ends differ in height, and both are below `lo` or both above `hi`: the ray test sees nothing of such a segment (`skips`, in proofs/Skips)
+unfoldable pub aside : Band → I32Point → I32Point → Bool
+aside b u v =
+    (ltZ (u .y) (v .y) || ltZ (v .y) (u .y))
+    && ((ltZ (u .y) (b .lo) && ltZ (v .y) (b .lo)) || (ltZ (b .hi) (u .y) && ltZ (b .hi) (v .y)))

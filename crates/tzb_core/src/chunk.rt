@@ -1,9 +1,11 @@
 // Chunk code: the points of one chunk's bytes, and the scan of its segments. The bytes s are that chunk's own.
 ghost use mathlib.Core.Path.{_≡_};
+ghost use mathlib.Core.Bool.{true};
 ghost use Prim.Native.Nat.{_+_, _*_, _≤_, _<_};
 ghost use lib.ListN.{length, set};
+ghost use Rattle.plane.specs.Domain.{inDomain};
 ghost use Rattle.tzb_core.specs.Points.{spotted, moved, movedBy, numbersAt, inside, firstOf, nextAt};
-ghost use Rattle.tzb_core.specs.Scan.{scanned, stepped, stepAt, onward, scanOf};
+ghost use Rattle.tzb_core.specs.Scan.{scanned, stepped, stepAt, onward, scanOf, Around, aside};
 use crate::bbox;
 use crate::bbox::Sum;
 use crate::raycast;
@@ -39,6 +41,12 @@ pub enum Scan {
     Refused(Refusal),
     On,
     Off(bool, I32Point),
+}
+
+// Heights around a point: one below lo is below the point, and one above hi is above it.
+struct Band {
+    lo: i32,
+    hi: i32,
 }
 
 // Two numbers, x and y.
@@ -114,14 +122,45 @@ pub fn next_point(s: &[u8], q: I32Point, at: Place) -> Spotted
     }
 }
 
+// The height without its fraction; where it is none of the domain's, heights that nothing in the domain is beyond.
+fn band_at(y: f64) -> Band
+    ensures { λ r. ⌜ Around r y ⌝ }
+{
+    if y >= -9223372036854775808.0 {
+        if y < 9223372036854775808.0 {
+            let t = std::num::truncating_f64_to_i64(y);
+            if (-9_000_000 <= t) & (t <= 9_000_000) {
+                let h = t as i32;
+                return Band { lo: h, hi: h };
+            }
+        }
+    }
+    Band {
+        lo: -9_000_000,
+        hi: 9_000_000,
+    }
+}
+
+// The segment is not level, and lies below the point or above it: the ray test sees nothing of it.
+fn is_aside(b: Band, u: I32Point, v: I32Point) -> bool
+    ensures { λ r. ⌜ r ≡ aside b u v ⌝ }
+{
+    ((u.y < v.y) | (v.y < u.y)) & (((u.y < b.lo) & (v.y < b.lo)) | ((b.hi < u.y) & (b.hi < v.y)))
+}
+
 // From q past the segment to the point after it.
-fn one_step(s: &[u8], p: Point, q: I32Point, at: Place) -> Step
+fn one_step(s: &[u8], p: Point, b: Band, q: I32Point, at: Place) -> Step
+    requires { ⌜ Around b (p .y) ⌝ }
+    requires { ⌜ inDomain q ≡ true ⌝ }
     ensures { λ r. ⌜ stepped r ≡ stepAt (now (s .entry)) p q (at .at) ⌝ }
 {
     let t = next_point(s, q, at);
     match t {
         Spotted::Refused(k) => Step::Refused(k),
         Spotted::At(n, m) => {
+            if is_aside(b, q, n) {
+                return Step::Off(false, n, m);
+            }
             let e = raycast::raycast_seg(q, n, p);
             match e {
                 Seen::On => Step::On,
@@ -133,14 +172,16 @@ fn one_step(s: &[u8], p: Point, q: I32Point, at: Place) -> Step
 
 // From the first point on, over that many points more.
 fn scan_from(s: &[u8], p: Point, count: u16, first: I32Point, from: Place) -> Scan
+    requires { ⌜ inDomain first ≡ true ⌝ }
     ensures { λ r. ⌜ scanned r ≡ onward (now (s .entry)) p count first (from .at) ⌝ }
 {
+    let b = band_at(p.y);
     let mut q = first;
     let mut at = from;
     let mut odd = false;
     let mut left = count;
     while 0 < left {
-        let t = one_step(s, p, q, at);
+        let t = one_step(s, p, b, q, at);
         match t {
             Step::Refused(k) => {
                 return Scan::Refused(k);
@@ -148,8 +189,8 @@ fn scan_from(s: &[u8], p: Point, count: u16, first: I32Point, from: Place) -> Sc
             Step::On => {
                 return Scan::On;
             }
-            Step::Off(b, n, m) => {
-                odd = answer::plus(odd, b);
+            Step::Off(c, n, m) => {
+                odd = answer::plus(odd, c);
                 q = n;
                 at = m;
             }

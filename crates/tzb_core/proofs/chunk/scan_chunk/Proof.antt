@@ -6,6 +6,7 @@ use mathlib.Core.Path.{sym, ap, _∙_}
 use Rattle.answer.specs.Walks.{broken}
 use Rattle.tzb_core.specs.Points.{spotted}
 use Rattle.tzb_core.specs.Scan.{scan-none, scan-no, scan-from}
+use Rattle.tzb_core.proofs.Neighbours.{first-in}
 use Rattle.tzb_core.proofs.chunk.scan_chunk.Statement.{statement}
 use Rattle.tzb_core.proofs.chunk.scan_chunk.Tie as tie
 
@@ -28,7 +29,9 @@ sub-scan-from : tie.Need-sub-scan-from
 sub-scan-from c = search needs
 
 scan-from-requires : tie.Need-scan-from-requires
-scan-from-requires c κs = search needs
+scan-from-requires c κs =
+    let t = c .before in
+    first-in _ _ (sym (ap spotted (t .f2 .given .1)) ∙ t .before .before .first-point .ensures)
 
 returns-2 : tie.Need-returns-2
 returns-2 c = scan-no _ _ _ (omega arith) _ (sym (ap spotted (c .before .f .given .1)) ∙ c .before .before .before .first-point .ensures)
