@@ -223,8 +223,8 @@ fn check_from(s: &[u8], count: u16, first: I32Point, from: Place) -> Checked
 {
     let mut q = first;
     let mut at = from;
-    let mut left = count;
-    while 0 < left {
+    let mut rest = count;
+    while 0 < rest {
         let t = next_point(s, q, at);
         match t {
             Spotted::Refused(k) => {
@@ -235,7 +235,7 @@ fn check_from(s: &[u8], count: u16, first: I32Point, from: Place) -> Checked
                 at = m;
             }
         }
-        left -= 1;
+        rest -= 1;
     }
     answer::claim(43, at.at_end(s))
 }

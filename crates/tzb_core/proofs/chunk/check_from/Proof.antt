@@ -10,11 +10,11 @@ use Rattle.tzb_core.proofs.chunk.check_from.Statement.{statement}
 use Rattle.tzb_core.proofs.chunk.check_from.Tie as tie
 
 abbrev Inv-loop : tie.InvT-loop
-Inv-loop s count q₀ at₀ left₀ q at left =
-    outcome (pointsFrom s left q (at .at)) ≡ outcome (pointsFrom s count q₀ (at₀ .at))
+Inv-loop s count q₀ at₀ rest₀ q at rest =
+    outcome (pointsFrom s rest q (at .at)) ≡ outcome (pointsFrom s count q₀ (at₀ .at))
 
 abbrev μ-loop : tie.MeasureT-loop
-μ-loop s count q₀ at₀ left₀ q at left = left
+μ-loop s count q₀ at₀ rest₀ q at rest = rest
 
 loop-holds : tie.Need-loop-holds Inv-loop μ-loop
 loop-holds c = refl
@@ -35,8 +35,8 @@ returns c =
 enum-known-t-2 : tie.Need-enum-known-t-2 Inv-loop μ-loop
 enum-known-t-2 c = search needs
 
-sub-left : tie.Need-sub-left Inv-loop μ-loop
-sub-left c = search needs
+sub-rest : tie.Need-sub-rest Inv-loop μ-loop
+sub-rest c = search needs
 
 loop-less : tie.Need-loop-less Inv-loop μ-loop
 loop-less c = search needs
@@ -71,7 +71,7 @@ check-from-spec =
     enum-known-t
     returns
     enum-known-t-2
-    sub-left
+    sub-rest
     loop-less
     loop-again
     at-end-requires
