@@ -10,7 +10,7 @@ use lib.Dec.{ltb}
 use borrow.Author.Tests.{ltb-true}
 use Rattle.basics.specs.Truth.{and-i}
 use Rattle.answer.specs.Answers.{Answer, ok, refused, no, _then_, need}
-use Rattle.answer.specs.Walks.{Walk, off, add, _go_, _yields_}
+use Rattle.answer.specs.Walks.{Walk, add, _go_}
 use Rattle.plane.specs.declared.Point.{Point}
 use Rattle.plane.specs.declared.I32Point.{I32Point}
 use Rattle.plane.specs.declared.Seen.{Seen}
@@ -23,7 +23,7 @@ use Rattle.tzb_core.specs.Varint.{atEnd}
 use Rattle.tzb_core.specs.Points.{numbersAt, movedBy, inside, firstOf, nextAt}
 use Rattle.tzb_core.specs.Scan.{past, stepAt, onward, scanOf}
 use Rattle.tzb_core.specs.Decode.{led, pointsFrom, pointsOf}
-use Rattle.tzb_core.proofs.Decoded.{zero-one, then-inv, need-inv, ok-inv, read-all}
+use Rattle.tzb_core.proofs.Decoded.{then-inv, need-inv, ok-inv, read-all}
 
 -- ---- a point that was read lies in the domain
 inside-in : (q : I32Point) (p : ℕ) (t : I32Point × ℕ) → ok t ≡ inside q p → inDomain (t .0) ≡ true
@@ -44,18 +44,6 @@ next-in s q k t e =
     let h = then-inv (numbersAt s k) (λ d. movedBy q (d .0) then λ u. inside u (d .1)) t e in
     let g = then-inv (movedBy q (h .0 .0)) (λ u. inside u (h .0 .1)) t (h .2) in
     inside-in (g .0) (h .0 .1) t (g .2)
-
-pub step-in : (s : List ℕ) (p : Point) (q : I32Point) (k : ℕ) (b : Bool) (t : I32Point) (m : ℕ) → off b (t, m) ≡ stepAt s p q k → inDomain t ≡ true
-unfolding stepAt
-step-in s p q k b t m e = read (nextAt s q k) refl e
-  where
-    seen : (u : I32Point × ℕ) (r : Seen) → off b (t, m) ≡ past r u → u .0 ≡ t
-    seen u On e = let z : _≡_ {A = ℕ} 0 1 = cc in absurd (zero-one z)
-    seen u (Off c) e = let z : (t, m) ≡ u = cc in ap (λ (w : I32Point × ℕ). w .0) (sym z)
-
-    read : (x : Answer (I32Point × ℕ)) → nextAt s q k ≡ x → off b (t, m) ≡ (x yields λ u. past (rayOf q (u .0) p) u) → inDomain t ≡ true
-    read (ok u) i e = ap inDomain (sym (seen u (rayOf q (u .0) p) e)) ∙ next-in s q k u (sym i)
-    read (refused r) i e = let z : _≡_ {A = ℕ} 0 1 = cc in absurd (zero-one z)
 
 -- ---- from a point on
 -- a segment, then what its tally is added to

@@ -25,8 +25,6 @@ use Rattle.tzb_core.specs.Points.{firstOf, nextAt}
 use Rattle.tzb_core.specs.declared.chunk.Band.{Band}
 use Rattle.tzb_core.specs.declared.chunk.Scan.{Scan}
 use Rattle.tzb_core.specs.declared.chunk.Scan.the-variants as S
-use Rattle.tzb_core.specs.declared.chunk.Step.{Step}
-use Rattle.tzb_core.specs.declared.chunk.Step.the-variants as T
 
 -- what is seen of a segment, as a walk that hands on a
 abbrev pub past : {A : Type 0} → Seen → A → Walk A
@@ -46,16 +44,11 @@ onward s p (suc n) q k = stepAt s p q k go λ t. onward s p n (t .0) (t .1)
 unfoldable pub scanOf : List ℕ → ℕ → Point → Walk I32Point
 scanOf s n p = must 32 (ltb 0 n) (firstOf s yields λ t. onward s p (n - 1) (t .0) (t .1))
 
--- what the enums of the code say
+-- what the enum of the code says
 abbrev pub scanned : Scan → Walk I32Point
 scanned (S.Refused r) = broken r
 scanned S.On = on
 scanned (S.Off b q) = off b q
-
-abbrev pub stepped : Step → Walk (I32Point × ℕ)
-stepped (T.Refused r) = broken r
-stepped T.On = on
-stepped (T.Off b q n) = off b (q, n .at)
 
 -- ---- laws: the cases of the code
 module _ (s : List ℕ) (p : Point) (q : I32Point) (k : ℕ) where

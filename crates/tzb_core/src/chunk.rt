@@ -5,7 +5,8 @@ ghost use Prim.Native.Nat.{_+_, _*_, _≤_, _<_};
 ghost use lib.ListN.{length, set};
 ghost use Rattle.plane.specs.Domain.{inDomain};
 ghost use Rattle.tzb_core.specs.Points.{spotted, moved, movedBy, numbersAt, inside, firstOf, nextAt};
-ghost use Rattle.tzb_core.specs.Scan.{scanned, stepped, stepAt, onward, scanOf, Around, aside};
+ghost use Rattle.tzb_core.specs.Scan.{scanned, onward, scanOf, Around, aside};
+ghost use Rattle.tzb_core.specs.Ray.{rayOf};
 use crate::bbox;
 use crate::bbox::Sum;
 use crate::raycast;
@@ -27,13 +28,6 @@ pub enum Spotted {
 enum Moved {
     To(I32Point),
     Refused(Refusal),
-}
-
-// Past one segment: its parity, the point it ends at and the place after that.
-enum Step {
-    Refused(Refusal),
-    On,
-    Off(bool, I32Point, Place),
 }
 
 // Past a chunk: the parity of its segments, and its last point.
@@ -145,29 +139,24 @@ fn band_at(y: f64) -> Band
 fn is_aside(b: Band, u: I32Point, v: I32Point) -> bool
     ensures { λ r. ⌜ r ≡ aside b u v ⌝ }
 {
-    ((u.y < v.y) | (v.y < u.y)) & (((u.y < b.lo) & (v.y < b.lo)) | ((b.hi < u.y) & (b.hi < v.y)))
+    let uy = u.y;
+    let vy = v.y;
+    let lo = b.lo;
+    let hi = b.hi;
+    ((uy < vy) | (vy < uy)) & (((uy < lo) & (vy < lo)) | ((hi < uy) & (hi < vy)))
 }
 
-// From q past the segment to the point after it.
-fn one_step(s: &[u8], p: Point, b: Band, q: I32Point, at: Place) -> Step
+// What the point sees of the segment from u to v.
+fn segment_seen(b: Band, u: I32Point, v: I32Point, p: Point) -> Seen
     requires { ⌜ Around b (p .y) ⌝ }
-    requires { ⌜ inDomain q ≡ true ⌝ }
-    ensures { λ r. ⌜ stepped r ≡ stepAt (now (s .entry)) p q (at .at) ⌝ }
+    requires { ⌜ inDomain u ≡ true ⌝ }
+    requires { ⌜ inDomain v ≡ true ⌝ }
+    ensures { λ r. ⌜ r ≡ rayOf u v p ⌝ }
 {
-    let t = next_point(s, q, at);
-    match t {
-        Spotted::Refused(k) => Step::Refused(k),
-        Spotted::At(n, m) => {
-            if is_aside(b, q, n) {
-                return Step::Off(false, n, m);
-            }
-            let e = raycast::raycast_seg(q, n, p);
-            match e {
-                Seen::On => Step::On,
-                Seen::Off(b) => Step::Off(b, n, m),
-            }
-        }
+    if is_aside(b, u, v) {
+        return Seen::Off(false);
     }
+    raycast::raycast_seg(u, v, p)
 }
 
 // From the first point on, over that many points more.
@@ -181,16 +170,21 @@ fn scan_from(s: &[u8], p: Point, count: u16, first: I32Point, from: Place) -> Sc
     let mut odd = false;
     let mut left = count;
     while 0 < left {
-        let t = one_step(s, p, b, q, at);
+        let t = next_point(s, q, at);
         match t {
-            Step::Refused(k) => {
+            Spotted::Refused(k) => {
                 return Scan::Refused(k);
             }
-            Step::On => {
-                return Scan::On;
-            }
-            Step::Off(c, n, m) => {
-                odd = answer::plus(odd, c);
+            Spotted::At(n, m) => {
+                let e = segment_seen(b, q, n, p);
+                match e {
+                    Seen::On => {
+                        return Scan::On;
+                    }
+                    Seen::Off(c) => {
+                        odd = answer::plus(odd, c);
+                    }
+                }
                 q = n;
                 at = m;
             }

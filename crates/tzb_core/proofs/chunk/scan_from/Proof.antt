@@ -3,10 +3,14 @@
 use native.Mathlib.Omega.{arith}
 use mathlib.Core.Path.{_≡_, sym, ap, _∙_}
 use mathlib.Core.Bool.{true}
-use Rattle.answer.specs.Walks.{broken, off, add, add-none, breaks, hits, ends, keeps}
+use Rattle.answer.specs.Answers.{ok}
+use Rattle.answer.specs.Walks.{broken, add, add-none, breaks, hits, ends, keeps}
 use Rattle.plane.specs.Domain.{inDomain}
-use Rattle.tzb_core.specs.Scan.{onward, stepped, onward-no, onward-on, onward-off, onward-left, onward-end}
-use Rattle.tzb_core.proofs.Neighbours.{step-in}
+use Rattle.plane.specs.declared.Seen.{Seen}
+use Rattle.tzb_core.specs.Ray.{rayOf}
+use Rattle.tzb_core.specs.Points.{spotted, nextAt}
+use Rattle.tzb_core.specs.Scan.{past, stepAt, onward, step-no, step-at, onward-no, onward-on, onward-off, onward-left, onward-end}
+use Rattle.tzb_core.proofs.Neighbours.{next-in}
 use borrow.Author.Needs.{needs}
 use Rattle.tzb_core.proofs.chunk.scan_from.Statement.{statement}
 use Rattle.tzb_core.proofs.chunk.scan_from.Tie as tie
@@ -18,34 +22,52 @@ Inv-loop s p count b q₀ at₀ odd₀ left₀ q at odd left =
 abbrev μ-loop : tie.MeasureT-loop
 μ-loop s p count b q₀ at₀ odd₀ left₀ q at odd left = left
 
+-- the next point
+read : (c : tie.After-known-told2 Inv-loop μ-loop) → ok (c .before .t2 .given .0 .0, c .before .t2 .given .0 .1 .0 .at) ≡ nextAt (c .before .before .before .before .before .before .before .before .args .s .now) (c .before .before .before .before .before .loop .q) (c .before .before .before .before .before .loop .at .at)
+read c = let t = c .before in sym (ap spotted (t .t2 .given .1)) ∙ t .before .before .next-point .ensures
+
+-- and what is seen of the segment to it
+seen : (c : tie.After-segment-seen Inv-loop μ-loop) (e : Seen) → e ≡ rayOf (c .before .before .before .before .before .before .loop .q) (c .before .before .t2 .given .0 .0) (c .before .before .before .before .before .before .before .before .before .args .p)
+    → past e (c .before .before .t2 .given .0 .0, c .before .before .t2 .given .0 .1 .0 .at) ≡ stepAt (c .before .before .before .before .before .before .before .before .before .args .s .now) (c .before .before .before .before .before .before .before .before .before .args .p) (c .before .before .before .before .before .before .loop .q) (c .before .before .before .before .before .before .loop .at .at)
+seen c e f = step-at _ _ _ _ _ _ (read (c .before)) e f
+
 band-at-requires : tie.Need-band-at-requires Inv-loop μ-loop
 band-at-requires c κs = search needs
 
 loop-holds : tie.Need-loop-holds Inv-loop μ-loop
 loop-holds c = (c .before .before .pre, add-none _)
 
-one-step-requires : tie.Need-one-step-requires Inv-loop μ-loop
-one-step-requires c κs = (c .before .before .band-at .ensures, c .before .loop .inv .0)
+next-point-requires : tie.Need-next-point-requires Inv-loop μ-loop
+next-point-requires c κs = search needs
 
 enum-known-t : tie.Need-enum-known-t Inv-loop μ-loop
 enum-known-t c = search needs
 
 returns : tie.Need-returns Inv-loop μ-loop
 returns c =
-    let t = c .before in
-    let l = t .before .before .before .before in
-    breaks _ _ _ (l .loop .inv .1) _ (onward-no _ _ _ _ _ (t .before .before .before .loop-test .taken) _ (sym (ap stepped (t .t .given .1)) ∙ t .before .before .one-step .ensures))
+    let n = c .before .before .before in
+    let l = n .before .before in
+    breaks _ _ _ (l .loop .inv .1) _ (onward-no _ _ _ _ _ (n .before .loop-test .taken) _ (step-no _ _ _ _ _ (sym (ap spotted (c .before .t .given .1)) ∙ n .next-point .ensures)))
+
+enum-known-t-2 : tie.Need-enum-known-t-2 Inv-loop μ-loop
+enum-known-t-2 c = search needs
+
+segment-seen-requires : tie.Need-segment-seen-requires Inv-loop μ-loop
+segment-seen-requires c κs =
+    let l = c .before .before .before .before .before in
+    (l .before .band-at .ensures, (l .loop .inv .0, next-in _ _ _ _ (read c)))
 
 enum-told : tie.Need-enum-told Inv-loop μ-loop
 enum-told c = search needs
 
 returns-2 : tie.Need-returns-2 Inv-loop μ-loop
 returns-2 c =
-    let l = c .before .before .before .before in
-    hits _ _ _ (l .loop .inv .1) (onward-on _ _ _ _ _ (c .before .before .before .loop-test .taken) (sym (ap stepped (c .enum-told .given .1)) ∙ c .before .before .one-step .ensures))
+    let g = c .before .before in
+    let n = g .before .before .before .before in
+    hits _ _ _ (n .before .before .loop .inv .1) (onward-on _ _ _ _ _ (n .before .loop-test .taken) (seen g _ (sym (c .enum-told .given .1) ∙ g .segment-seen .ensures)))
 
-enum-known-t-2 : tie.Need-enum-known-t-2 Inv-loop μ-loop
-enum-known-t-2 c = search needs
+enum-known-e : tie.Need-enum-known-e Inv-loop μ-loop
+enum-known-e c = search needs
 
 plus-requires : tie.Need-plus-requires Inv-loop μ-loop
 plus-requires c κs = search needs
@@ -58,11 +80,10 @@ loop-less c = search needs
 
 loop-again : tie.Need-loop-again Inv-loop μ-loop
 loop-again c =
-    let t = c .before .before in
-    let l = t .before .before .before .before in
-    let e = sym (ap stepped (t .t2 .given .1)) ∙ t .before .before .one-step .ensures in (
-      step-in _ _ _ _ _ _ _ e,
-      keeps _ _ _ (l .loop .inv .1) _ _ _ (c .plus .ensures) (onward-off _ _ _ _ _ (t .before .before .before .loop-test .taken) _ _ _ e),
+    let g = c .before .before .before .before in
+    let n = g .before .before .before .before in (
+      next-in _ _ _ _ (read (g .before)),
+      keeps _ _ _ (n .before .before .loop .inv .1) _ _ _ (c .plus .ensures) (onward-off _ _ _ _ _ (n .before .loop-test .taken) _ _ _ (seen g _ (sym (c .before .before .e .given .1) ∙ g .segment-seen .ensures))),
     )
 
 at-end-requires : tie.Need-at-end-requires Inv-loop μ-loop
@@ -90,12 +111,14 @@ scan-from-spec =
     μ-loop
     band-at-requires
     loop-holds
-    one-step-requires
+    next-point-requires
     enum-known-t
     returns
+    enum-known-t-2
+    segment-seen-requires
     enum-told
     returns-2
-    enum-known-t-2
+    enum-known-e
     plus-requires
     sub-left
     loop-less
