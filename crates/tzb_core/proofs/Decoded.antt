@@ -2,20 +2,19 @@
 -- Assumes nothing.
 use Prim.Native.Nat.{ℕ, zero, suc, _+_, _-_, _*_, _≤_, _<_}
 use native.Mathlib.Omega.{arith}
-use mathlib.Core.Path.{_≡_, refl, sym, ap, ap₂, _∙_}
+use mathlib.Core.Path.{_≡_, refl, sym, ap, _∙_}
 use mathlib.Core.Bool.{Bool, true, false}
 use mathlib.Core.List.{List, [], _∷_, _++_, append-assoc}
 use lib.ListN.{length, length-append, length-set, set, drop}
 use lib.Seq.{set-at}
 use lib.IntN.{ℤ}
 use Rattle.answer.specs.declared.Refusal.{Refusal}
-use Rattle.answer.specs.declared.Checked.{Checked}
 use Rattle.answer.specs.declared.Checked.the-variants.{Fine, Refused}
 use Rattle.answer.specs.Checks.{claim}
-use Rattle.answer.specs.Answers.{Answer, ok, refused, no, _then_, need}
+use Rattle.answer.specs.Answers.{Answer, ok, refused, _then_, need}
 use Rattle.plane.specs.declared.I32Point.{I32Point}
 use Rattle.tzb_core.specs.Varint.{atEnd}
-use Rattle.tzb_core.specs.Points.{firstOf, nextAt}
+use Rattle.tzb_core.specs.Points.{nextAt}
 use Rattle.tzb_core.specs.Decode.{led, pointsFrom, outcome, flat, filled, readFrom, put}
 
 -- ---- what an answer of several steps was made of

@@ -1,11 +1,10 @@
 -- Any two answers that a promise of the chunk code allows are equal, and so is the lent memory: stated over the contracts themselves. Two values of an enum that tell the same are the same.
 -- Assumes nothing.
 use mathlib.Core.Path.{_≡_, sym, ap, ap₂, _∙_}
-use mathlib.Core.Bool.{Bool}
 use Prim.Native.Nat.{ℕ}
 use Rattle.basics.specs.Determined.{Determined, DeterminedMemory}
 use Rattle.answer.specs.Answers.{Answer, ok}
-use Rattle.answer.specs.Walks.{Walk, off}
+use Rattle.answer.specs.Walks.{Walk}
 use Rattle.plane.specs.declared.I32Point.{I32Point}
 use Rattle.tzb_core.specs.Points.{spotted}
 use Rattle.tzb_core.specs.Scan.{scanned}

@@ -1,27 +1,26 @@
 -- A segment that lies above the point, or below it, and is not level: the ray test sees nothing of it. Which heights are above and below is told by whole numbers, from the point's height without its fraction.
 -- Assumes nothing.
-use mathlib.Core.Path.{_≡_, refl, sym, ap, ap₂, _∙_, subst}
-use Prim.Native.Nat.{ℕ, zero, suc, _+_, _-_, _*_, _/_, _%_, _^_, _≤_, _<_, min}
+use mathlib.Core.Path.{_≡_, refl, sym, ap, ap₂, _∙_}
+use Prim.Native.Nat.{ℕ, _+_, _-_, _*_, _/_, _%_, _^_, _≤_, _<_, min}
 use native.Mathlib.Nat.{le-trans, mul-le-mul-right, div-mul-le-self, div-add-mod', mod-lt}
 use native.Mathlib.Omega.{arith}
-use mathlib.Core.Bool.{Bool, true, false, not, _&&_, _||_, cond, false≢true}
-use borrow.Author.Tests.{lt-ltb, leb-true}
+use mathlib.Core.Bool.{Bool, true, false, _&&_, _||_, cond, false≢true}
+use borrow.Author.Tests.{lt-ltb, ltb-true, leb-true}
 use lib.Dec.{T, lit≤}
 use lib.IntN.{ℤ, pos, negsuc, natAbs, negℤ}
-use lib.Signed.{mag, ltZ, leZ, natAbs-le}
-use lib.Ieee.{Float, nan, inf, fin, binary64, up, down, lt, le, eq, ofInt, toSigned}
+use lib.Signed.{ltZ, leZ}
+use lib.Ieee.{Float, nan, inf, fin, up, down, lt, le, eq, toSigned}
 use mir.Syntax.{w32}
 use mir.Val.{SFits}
 use Rattle.basics.specs.Truth.{and-l, and-r}
 use Rattle.basics.specs.Whole.{Is, is-move, is-neg, shift-is, lt-is}
-use Rattle.rounding.specs.Ints.{dist, diff, Fine}
-use Rattle.rounding.specs.Free.{Frac, frac-of, frac-lt, lt-frac}
+use Rattle.rounding.specs.Free.{frac-of, frac-lt, lt-frac}
 use Rattle.plane.specs.declared.Point.{Point}
 use Rattle.plane.specs.declared.I32Point.{I32Point}
 use Rattle.plane.specs.declared.Seen.the-variants.{Off}
 use Rattle.plane.specs.Domain.{inDomain, within, domain-y}
 use Rattle.tzb_core.specs.Box.{float}
-use Rattle.tzb_core.specs.Ray.{away, rayAt, rayOf}
+use Rattle.tzb_core.specs.Ray.{rayAt, rayOf}
 use Rattle.tzb_core.specs.Scan.{Around, aside}
 use Rattle.tzb_core.specs.declared.chunk.Band.{Band}
 use Rattle.tzb_core.proofs.Floats.{at, In, fine}
@@ -48,9 +47,6 @@ most n c N M C e h = step (n / c) (n % c) (kept N (n / c) M e h) (div-add-mod' n
 module _ (m : ℕ) (e : ℤ) (z : ℤ) (small : natAbs z ≤ 9_000_000) where
   near : natAbs z ≤ 18_000_000
   near = le-trans small (lit≤ tt)
-
-  Z : ℕ
-  Z = nat z
 
   in-z : In (nat z)
   in-z = nat-in z near
@@ -136,8 +132,8 @@ around-cut (fin true m e) t l r i z h =
 
 -- no height of the domain is outside the domain
 pub around-all : (y : Float) → Around (record { lo = negsuc 8_999_999; hi = pos 9_000_000 }) y
-around-all y (pos n) h = (λ k. absurd (false≢true k), λ k. absurd (omega (arith, borrow.Author.Tests.ltb-true 9_000_000 n k)))
-around-all y (negsuc n) h = (λ k. absurd (omega (arith, borrow.Author.Tests.ltb-true 8_999_999 n k)), λ k. absurd (false≢true k))
+around-all y (pos n) h = (λ k. absurd (false≢true k), λ k. absurd (omega (arith, ltb-true 9_000_000 n k)))
+around-all y (negsuc n) h = (λ k. absurd (omega (arith, ltb-true 8_999_999 n k)), λ k. absurd (false≢true k))
 
 -- a number of the domain's heights is an i32
 pub within-fits : (z : ℤ) → within 8_999_999 z ≡ true → SFits w32 z
@@ -156,22 +152,18 @@ apart false true true false false by h = absurd (false≢true h)
 apart false true false false false by h = absurd (false≢true h)
 apart false false ya yb ay by h = absurd (false≢true h)
 
+or-true : (x : Bool) → x || true ≡ true
+or-true true = refl
+or-true false = refl
+
 -- tests that pass in whole numbers pass in floats
 lift : (d d' : Bool) (a b c e a' b' c' e' : Bool) → d ≡ d' → (a ≡ true → a' ≡ true) → (b ≡ true → b' ≡ true) → (c ≡ true → c' ≡ true) → (e ≡ true → e' ≡ true)
     → d && ((a && b) || (c && e)) ≡ true → d' && ((a' && b') || (c' && e')) ≡ true
 lift true true true true c e a' b' c' e' p f g h k q = ap₂ (λ (x y : Bool). (x && y) || (c' && e')) (f refl) (g refl)
 lift true true true false true true a' b' c' e' p f g h k q = ap₂ (λ (x y : Bool). (a' && b') || (x && y)) (h refl) (k refl) ∙ or-true (a' && b')
-  where
-    or-true : (x : Bool) → x || true ≡ true
-    or-true true = refl
-    or-true false = refl
 lift true true true false true false a' b' c' e' p f g h k q = absurd (false≢true q)
 lift true true true false false e a' b' c' e' p f g h k q = absurd (false≢true q)
 lift true true false b true true a' b' c' e' p f g h k q = ap₂ (λ (x y : Bool). (a' && b') || (x && y)) (h refl) (k refl) ∙ or-true (a' && b')
-  where
-    or-true : (x : Bool) → x || true ≡ true
-    or-true true = refl
-    or-true false = refl
 lift true true false b true false a' b' c' e' p f g h k q = absurd (false≢true q)
 lift true true false b false e a' b' c' e' p f g h k q = absurd (false≢true q)
 lift true false a b c e a' b' c' e' p f g h k q = absurd (false≢true (sym p))

@@ -1,9 +1,7 @@
 -- Document 01, "Chunk bytes": a chunk decodes into lent i32s, two a point: 32 for a count of 0, 46 for room, then the rest; what lies behind is unchanged. On a refusal all lent memory stays unchanged.
 -- Assumes nothing.
 use Prim.Native.Nat.{ℕ, zero, suc, _+_, _-_, _*_, _≤_, _<_}
-use native.Mathlib.Omega.{arith}
-use mathlib.Core.Path.{_≡_, refl, sym, ap, _∙_}
-use mathlib.Core.Bool.{true, false}
+use mathlib.Core.Path.{_≡_}
 use mathlib.Core.List.{List, [], _∷_, _++_}
 use lib.ListN.{length, set, drop}
 use lib.Dec.{ltb, leb}

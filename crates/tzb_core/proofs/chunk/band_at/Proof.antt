@@ -1,16 +1,14 @@
 -- `chunk::band_at` meets its contract: a height without its fraction, or the domain's own bounds.
 -- Assumes nothing.
-use mathlib.Core.Path.{_≡_, sym, ap, ap₂, subst, _∙_}
+use mathlib.Core.Path.{sym, subst, _∙_}
 use lib.Dec.{T}
 use lib.IntN.{ℤ}
 use lib.Ieee.{ofBits, neg}
 use mir.Syntax.{w32, w64}
 use mir.ValLaws.{toZ-ofZ}
 use Rattle.tzb_core.specs.Scan.{Around}
-use Rattle.tzb_core.specs.declared.chunk.Band.{Band}
 use Rattle.tzb_core.proofs.Sums.{back}
 use Rattle.tzb_core.proofs.Skips.{around-cut, around-all, within-fits}
-use borrow.Author.Needs.{needs}
 use Rattle.tzb_core.proofs.chunk.band_at.Statement.{statement}
 use Rattle.tzb_core.proofs.chunk.band_at.Tie as tie
 

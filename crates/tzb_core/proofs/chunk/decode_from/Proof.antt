@@ -1,10 +1,8 @@
 -- `chunk::decode_from` meets its contract: nothing is written where the check refuses, and all points where it is fine.
 -- Assumes nothing.
-use Prim.Native.Nat.{ℕ}
-use mathlib.Core.Path.{_≡_, sym, ap, _∙_}
+use mathlib.Core.Path.{sym, ap, _∙_}
 use mathlib.Core.List.{List}
 use lib.IntN.{ℤ}
-use lib.ListN.{length}
 use Rattle.tzb_core.specs.Decode.{outcome, pointsFrom, filled, put, readFrom}
 use Rattle.tzb_core.proofs.Decoded.{wrote, led-fine, led-no, kept}
 use native.Mathlib.Omega.{arith}

@@ -1,7 +1,6 @@
 -- `chunk::decode_points` meets its contract: the count, the room, the first point, then the rest.
 -- Assumes nothing.
-use Prim.Native.Nat.{ℕ}
-use mathlib.Core.Path.{_≡_, sym, ap, _∙_}
+use mathlib.Core.Path.{sym, ap, _∙_}
 use Rattle.tzb_core.specs.Points.{spotted}
 use Rattle.tzb_core.specs.Decode.{outcome, filled, into-none, into-short, into-no, into-at}
 use native.Mathlib.Omega.{arith}
