@@ -6,3 +6,4 @@ pub mod Quotients
 pub mod Upward
 pub mod Next
 pub mod Nudge
+pub mod Free

@@ -19,3 +19,8 @@ pub mod Order
 pub mod Loop
 pub mod Warnings
 pub mod DeterminedRay
+-- chunks
+pub mod Skips
+pub mod Decoded
+pub mod Neighbours
+pub mod DeterminedChunk

@@ -3,7 +3,7 @@
 use mathlib.Core.Path.{_≡_, refl}
 use mathlib.Core.Bool.{true, false}
 use lib.IntN.{ℤ, pos, negsuc}
-use lib.Ieee.{fin, ofInt, lt, eq, sub, div}
+use lib.Ieee.{fin, inf, ofInt, lt, eq, sub, div}
 use Rattle.plane.specs.declared.Point.{Point}
 use Rattle.plane.specs.declared.I32Point.{I32Point}
 use Rattle.plane.specs.declared.Seen.the-variants.{On, Off}
@@ -38,3 +38,8 @@ outside-is-on = refl
 pub outside-is-off : seg near least most ≡ Off false
 unfolding seg onZ countsZ amidZ cross
 outside-is-off = refl
+
+-- an infinite x: level segment (0, 0) to (10, 0) and point (∞, 5), which is above it: on, by floats, since both ratios are infinite. So a filter that leaves out what lies below the point must not leave out a level segment.
+pub level-below-is-on : rayOf (spot (pos 0) (pos 0)) (spot (pos 10) (pos 0)) (record { x = inf false; y = fin false 5 (pos 0) }) ≡ On
+unfolding rayOf rayAt touches lt ofInt eq div sub
+level-below-is-on = refl

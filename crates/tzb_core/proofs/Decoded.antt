@@ -1,0 +1,162 @@
+-- Points read, checked and written: one point more, and the whole. What is written in two passes is what the definition says.
+-- Assumes nothing.
+use Prim.Native.Nat.{ℕ, zero, suc, _+_, _-_, _*_, _≤_, _<_}
+use native.Mathlib.Omega.{arith}
+use mathlib.Core.Path.{_≡_, refl, sym, ap, _∙_}
+use mathlib.Core.Bool.{Bool, true, false}
+use mathlib.Core.List.{List, [], _∷_, _++_, append-assoc}
+use lib.ListN.{length, length-append, length-set, set, drop}
+use lib.Seq.{set-at}
+use lib.IntN.{ℤ}
+use Rattle.answer.specs.declared.Refusal.{Refusal}
+use Rattle.answer.specs.declared.Checked.the-variants.{Fine, Refused}
+use Rattle.answer.specs.Checks.{claim}
+use Rattle.answer.specs.Answers.{Answer, ok, refused, _then_, need}
+use Rattle.plane.specs.declared.I32Point.{I32Point}
+use Rattle.tzb_core.specs.Varint.{atEnd}
+use Rattle.tzb_core.specs.Points.{nextAt}
+use Rattle.tzb_core.specs.Decode.{led, pointsFrom, outcome, flat, filled, readFrom, put}
+
+-- ---- what an answer of several steps was made of
+pub zero-one : _≡_ {A = ℕ} 0 1 → ⊥
+zero-one z = omega arith
+
+pub then-inv : {A B : Type 0} (x : Answer A) (k : A → Answer B) (b : B) → ok b ≡ (x then k) → (a : A) × (ok a ≡ x) × (ok b ≡ k a)
+then-inv (ok a) k b e = (a, refl, e)
+then-inv (refused r) k b e = let z : _≡_ {A = ℕ} 0 1 = cc in absurd (zero-one z)
+
+pub need-inv : {A : Type 0} (n : ℕ) (c : Bool) (x : Answer A) (a : A) → ok a ≡ need n c x → (c ≡ true) × (ok a ≡ x)
+need-inv n true x a e = (refl, e)
+need-inv n false x a e = let z : _≡_ {A = ℕ} 0 1 = cc in absurd (zero-one z)
+
+pub ok-inv : {A : Type 0} (a b : A) → ok a ≡ ok b → a ≡ b
+ok-inv a b e = cc
+
+pub outcome-fine : {A : Type 0} (x : Answer A) → Fine ≡ outcome x → (a : A) × (ok a ≡ x)
+outcome-fine (ok a) e = (a, refl)
+outcome-fine (refused r) e = let z : _≡_ {A = ℕ} 0 1 = cc in absurd (zero-one z)
+
+pub outcome-no : {A : Type 0} (x : Answer A) (r : Refusal) → Refused r ≡ outcome x → refused r ≡ x
+outcome-no (ok a) r e = let z : _≡_ {A = ℕ} 0 1 = cc in absurd (zero-one z)
+outcome-no (refused k) r e = let z : r ≡ k = cc in ap refused z
+
+-- what leads changes no outcome
+outcome-led : (q : I32Point) (x : Answer (List I32Point)) → outcome (led q x) ≡ outcome x
+outcome-led q (ok l) = refl
+outcome-led q (refused r) = refl
+
+-- ---- one point more
+module _ (s : List ℕ) (n : ℕ) (q : I32Point) (k : ℕ) (h : 0 < n) where
+  more : n ≡ suc (n - 1)
+  more = omega arith
+
+  points-one : pointsFrom s n q k ≡ (nextAt s q k then λ t. led (t .0) (pointsFrom s (n - 1) (t .0) (t .1)))
+  unfolding pointsFrom
+  points-one = ap (λ (j : ℕ). pointsFrom s j q k) more
+
+  pub check-no : (r : Refusal) → refused r ≡ nextAt s q k → Refused r ≡ outcome (pointsFrom s n q k)
+  check-no r e = rw (points-one, ← e)
+
+  pub check-on : (t : I32Point) (m : ℕ) → ok (t, m) ≡ nextAt s q k → outcome (pointsFrom s (n - 1) t m) ≡ outcome (pointsFrom s n q k)
+  check-on t m e = sym (outcome-led t (pointsFrom s (n - 1) t m)) ∙ ap outcome (rest ∙ sym points-one)
+    where
+      rest : led t (pointsFrom s (n - 1) t m) ≡ (nextAt s q k then λ t. led (t .0) (pointsFrom s (n - 1) (t .0) (t .1)))
+      rest = rw (← e)
+
+  pub read-no : (r : Refusal) → refused r ≡ nextAt s q k → [] ≡ readFrom s n q k
+  unfolding readFrom
+  read-no r e = rw (more, ← e)
+
+  pub read-on : (t : I32Point) (m : ℕ) → ok (t, m) ≡ nextAt s q k → t ∷ readFrom s (n - 1) t m ≡ readFrom s n q k
+  unfolding readFrom
+  read-on t m e = go (n - 1) more
+    where
+      go : (j : ℕ) → n ≡ suc j → t ∷ readFrom s j t m ≡ readFrom s n q k
+      go j z = rw (z, ← e)
+
+-- ---- none left
+module _ (s : List ℕ) (n : ℕ) (q : I32Point) (k : ℕ) (z : n ≡ 0) where
+  pub check-end : (b : Bool) → b ≡ atEnd s k → claim 43 b ≡ outcome (pointsFrom s n q k)
+  unfolding pointsFrom claim
+  check-end b e = rw (z, e) (go (atEnd s k))
+    where
+      go : (b : Bool) → claim 43 b ≡ outcome {A = List I32Point} (need 43 b (ok []))
+      go true = refl
+      go false = refl
+
+  pub read-end : [] ≡ readFrom s n q k
+  unfolding readFrom
+  read-end = rw z
+
+-- ---- what was read
+-- where all points can be read, they are read
+pub read-all : (s : List ℕ) (n : ℕ) (q : I32Point) (k : ℕ) (l : List I32Point) → ok l ≡ pointsFrom s n q k → (readFrom s n q k ≡ l) × (length l ≡ n)
+unfolding pointsFrom readFrom
+read-all s zero q k l e =
+    let z : l ≡ [] = ok-inv _ _ (need-inv 43 (atEnd s k) (ok []) l e .1) in
+    (sym z, ap length z)
+read-all s (suc n) q k l e =
+    let h = then-inv (nextAt s q k) (λ t. led (t .0) (pointsFrom s n (t .0) (t .1))) l e in
+    let g = then-inv (pointsFrom s n (h .0 .0) (h .0 .1)) (λ m. ok (h .0 .0 ∷ m)) l (h .2) in
+    let z : l ≡ h .0 .0 ∷ g .0 = ok-inv _ _ (g .2) in
+    let i = read-all s n (h .0 .0) (h .0 .1) (g .0) (g .1) in
+    (step (h .0) (h .1) (g .0) (i .0) ∙ sym z, ap length z ∙ ap suc (i .1))
+  where
+    step : (t : I32Point × ℕ) → ok t ≡ nextAt s q k → (m : List I32Point) → readFrom s n (t .0) (t .1) ≡ m → readFrom s (suc n) q k ≡ t .0 ∷ m
+    step t e m i = rw (← e) (ap (λ (r : List I32Point). t .0 ∷ r) i)
+
+-- ---- what was written
+flat-length : (l : List I32Point) → length (flat l) ≡ 2 * length l
+flat-length [] = refl
+flat-length (q ∷ l) = let h = flat-length l in omega arith
+
+-- points written behind what stands in front
+put-behind : (front rest : List ℤ) (i : ℕ) (l : List I32Point) → length front ≡ i → length (flat l) ≤ length rest → put (front ++ rest) i l ≡ front ++ (flat l ++ drop (length (flat l)) rest)
+unfolding put
+put-behind front rest i [] e h = refl
+put-behind front [] i (q ∷ l) e h = absurd (omega arith)
+put-behind front (a ∷ []) i (q ∷ l) e h = absurd (omega arith)
+put-behind front (a ∷ b ∷ rest) i (q ∷ l) e h =
+    ap (λ (o : List ℤ). put o (i + 2) l) (two ∙ sym (join (q .x ∷ q .y ∷ []) rest))
+    ∙ put-behind (front ++ (q .x ∷ q .y ∷ [])) rest (i + 2) l (length-append front (q .x ∷ q .y ∷ []) ∙ ap (λ (j : ℕ). j + 2) e) (omega arith)
+    ∙ join (q .x ∷ q .y ∷ []) (flat l ++ drop (length (flat l)) rest)
+  where
+    join : (m r : List ℤ) → front ++ m ++ r ≡ front ++ (m ++ r)
+    join m r = append-assoc front m r
+
+    two : set (set (front ++ (a ∷ b ∷ rest)) i (q .x)) (i + 1) (q .y) ≡ front ++ (q .x ∷ q .y ∷ rest)
+    two =
+        ap (λ (o : List ℤ). set o (i + 1) (q .y)) (set-at front a (b ∷ rest) (q .x) i e ∙ sym (append-assoc front (q .x ∷ []) (b ∷ rest)))
+        ∙ set-at (front ++ (q .x ∷ [])) b rest (q .y) (i + 1) (length-append front (q .x ∷ []) ∙ ap (λ (j : ℕ). j + 1) e)
+        ∙ append-assoc front (q .x ∷ []) (q .y ∷ rest)
+
+-- a check that was fine, then the first point, then all that can be read
+pub wrote : (s : List ℕ) (n : ℕ) (q : I32Point) (k : ℕ) (out : List ℤ) → Fine ≡ outcome (pointsFrom s n q k) → 2 + 2 * n ≤ length out
+    → put (set (set out 0 (q .x)) 1 (q .y)) 2 (readFrom s n q k) ≡ filled out (led q (pointsFrom s n q k))
+unfolding put
+wrote s n q k out e room =
+    let f = outcome-fine (pointsFrom s n q k) e in
+    let g = read-all s n q k (f .0) (f .1) in
+    ap (put (set (set out 0 (q .x)) 1 (q .y)) 2) (g .0)
+    ∙ put-behind [] out 0 (q ∷ f .0) refl (omega (arith, flat-length (q ∷ f .0), g .1))
+    ∙ ap (λ (x : Answer (List I32Point)). filled out (led q x)) (f .1)
+
+pub led-fine : (q : I32Point) (x : Answer (List I32Point)) → Fine ≡ outcome x → Fine ≡ outcome (led q x)
+led-fine q x e = e ∙ sym (outcome-led q x)
+
+pub led-no : (q : I32Point) (x : Answer (List I32Point)) (r : Refusal) → Refused r ≡ outcome x → refused r ≡ led q x
+led-no q x r e = ap (led q) (outcome-no x r e)
+
+-- ---- one point more is written
+module _ (out : List ℤ) (i : ℕ) where
+  pub put-end : (l : List I32Point) → [] ≡ l → out ≡ put out i l
+  unfolding put
+  put-end l e = rw (← e)
+
+  pub put-on : (t : I32Point) (l m : List I32Point) (next : List ℤ) → t ∷ l ≡ m → next ≡ set (set out i (t .x)) (i + 1) (t .y) → put next (i + 2) l ≡ put out i m
+  unfolding put
+  put-on t l m next e f = ap (λ (o : List ℤ). put o (i + 2) l) f ∙ ap (put out i) e
+
+  -- the length stays
+  pub kept : (q : I32Point) (next : List ℤ) → next ≡ set (set out i (q .x)) (i + 1) (q .y) → length next ≡ length out
+  kept q next e = ap length e ∙ length-set (set out i (q .x)) (i + 1) (q .y) ∙ length-set out i (q .x)

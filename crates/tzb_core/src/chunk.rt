@@ -1,0 +1,304 @@
+// Chunk code: the points of one chunk's bytes, and the scan of its segments. The bytes s are that chunk's own.
+ghost use mathlib.Core.Path.{_≡_};
+ghost use mathlib.Core.Bool.{true};
+ghost use Prim.Native.Nat.{_+_, _*_, _≤_, _<_};
+ghost use lib.ListN.{length, set};
+ghost use Rattle.plane.specs.Domain.{inDomain};
+ghost use Rattle.tzb_core.specs.Points.{spotted, moved, movedBy, numbersAt, inside, firstOf, nextAt};
+ghost use Rattle.tzb_core.specs.Ray.{rayOf};
+ghost use Rattle.tzb_core.specs.Scan.{scanned, onward, scanOf, Around, aside};
+ghost use Rattle.tzb_core.specs.Decode.{outcome, pointsFrom, led, filled, decodeOf, decoded, put, readFrom};
+use crate::bbox;
+use crate::bbox::Sum;
+use crate::raycast;
+use crate::varint::Place;
+use crate::varint::Read;
+use answer::Checked;
+use answer::Refusal;
+use plane::I32Point;
+use plane::Point;
+use plane::Seen;
+
+// A point, and the place after it.
+pub enum Spotted {
+    At(I32Point, Place),
+    Refused(Refusal),
+}
+
+enum Moved {
+    To(I32Point),
+    Refused(Refusal),
+}
+
+// Past a chunk: the parity of its segments, and its last point.
+pub enum Scan {
+    Refused(Refusal),
+    On,
+    Off(bool, I32Point),
+}
+
+// Heights around a point: one below lo is below the point, and one above hi is above it.
+struct Band {
+    lo: i32,
+    hi: i32,
+}
+
+// Two numbers, x and y.
+fn numbers(s: &[u8], at: Place) -> Spotted
+    ensures { λ r. ⌜ spotted r ≡ numbersAt (now (s .entry)) (at .at) ⌝ }
+{
+    let a = at.varint(s);
+    match a {
+        Read::Refused(k) => Spotted::Refused(k),
+        Read::Number(x, n) => {
+            let b = n.varint(s);
+            match b {
+                Read::Refused(k) => Spotted::Refused(k),
+                Read::Number(y, m) => Spotted::At(I32Point { x, y }, m),
+            }
+        }
+    }
+}
+
+// A delta added to the point before it.
+fn shifted(q: I32Point, d: I32Point) -> Moved
+    ensures { λ r. ⌜ moved r ≡ movedBy q d ⌝ }
+{
+    let a = bbox::add_delta(q.x, d.x);
+    match a {
+        Sum::Refused(k) => Moved::Refused(k),
+        Sum::Of(x) => {
+            let b = bbox::add_delta(q.y, d.y);
+            match b {
+                Sum::Refused(k) => Moved::Refused(k),
+                Sum::Of(y) => Moved::To(I32Point { x, y }),
+            }
+        }
+    }
+}
+
+// A point that must lie in the domain.
+fn inside_at(q: I32Point, n: Place) -> Spotted
+    ensures { λ r. ⌜ spotted r ≡ inside q (n .at) ⌝ }
+{
+    if bbox::point_in_domain(q) {
+        Spotted::At(q, n)
+    } else {
+        Spotted::Refused(answer::refuse(42))
+    }
+}
+
+// The first point of a chunk, read alone.
+pub fn first_point(s: &[u8]) -> Spotted
+    ensures { λ r. ⌜ spotted r ≡ firstOf (now (s .entry)) ⌝ }
+{
+    let t = numbers(s, Place { at: 0 });
+    match t {
+        Spotted::Refused(k) => Spotted::Refused(k),
+        Spotted::At(q, n) => inside_at(q, n),
+    }
+}
+
+// The point after q, whose bytes stand at the place.
+pub fn next_point(s: &[u8], q: I32Point, at: Place) -> Spotted
+    ensures { λ r. ⌜ spotted r ≡ nextAt (now (s .entry)) q (at .at) ⌝ }
+{
+    let t = numbers(s, at);
+    match t {
+        Spotted::Refused(k) => Spotted::Refused(k),
+        Spotted::At(d, n) => {
+            let m = shifted(q, d);
+            match m {
+                Moved::Refused(k) => Spotted::Refused(k),
+                Moved::To(t) => inside_at(t, n),
+            }
+        }
+    }
+}
+
+// The height without its fraction; where it is none of the domain's, heights that nothing in the domain is beyond.
+fn band_at(y: f64) -> Band
+    ensures { λ r. ⌜ Around r y ⌝ }
+{
+    if y >= -9223372036854775808.0 {
+        if y < 9223372036854775808.0 {
+            let t = std::num::truncating_f64_to_i64(y);
+            if (-9_000_000 <= t) & (t <= 9_000_000) {
+                let h = t as i32;
+                return Band { lo: h, hi: h };
+            }
+        }
+    }
+    Band {
+        lo: -9_000_000,
+        hi: 9_000_000,
+    }
+}
+
+// The segment is not level, and lies below the point or above it: the ray test sees nothing of it.
+fn is_aside(b: Band, u: I32Point, v: I32Point) -> bool
+    ensures { λ r. ⌜ r ≡ aside b u v ⌝ }
+{
+    let uy = u.y;
+    let vy = v.y;
+    let lo = b.lo;
+    let hi = b.hi;
+    ((uy < vy) | (vy < uy)) & (((uy < lo) & (vy < lo)) | ((hi < uy) & (hi < vy)))
+}
+
+// What the point sees of the segment from u to v.
+fn segment_seen(b: Band, u: I32Point, v: I32Point, p: Point) -> Seen
+    requires { ⌜ Around b (p .y) ⌝ }
+    requires { ⌜ inDomain u ≡ true ⌝ }
+    requires { ⌜ inDomain v ≡ true ⌝ }
+    ensures { λ r. ⌜ r ≡ rayOf u v p ⌝ }
+{
+    if is_aside(b, u, v) {
+        return Seen::Off(false);
+    }
+    raycast::raycast_seg(u, v, p)
+}
+
+// From the first point on, over that many points more.
+fn scan_from(s: &[u8], p: Point, count: u16, first: I32Point, from: Place) -> Scan
+    requires { ⌜ inDomain first ≡ true ⌝ }
+    ensures { λ r. ⌜ scanned r ≡ onward (now (s .entry)) p count first (from .at) ⌝ }
+{
+    let b = band_at(p.y);
+    let mut q = first;
+    let mut at = from;
+    let mut odd = false;
+    let mut left = count;
+    while 0 < left {
+        let t = next_point(s, q, at);
+        match t {
+            Spotted::Refused(k) => {
+                return Scan::Refused(k);
+            }
+            Spotted::At(n, m) => {
+                let e = segment_seen(b, q, n, p);
+                match e {
+                    Seen::On => {
+                        return Scan::On;
+                    }
+                    Seen::Off(c) => {
+                        odd = answer::plus(odd, c);
+                    }
+                }
+                q = n;
+                at = m;
+            }
+        }
+        left -= 1;
+    }
+    if at.at_end(s) {
+        return Scan::Off(odd, q);
+    }
+    Scan::Refused(answer::refuse(43))
+}
+
+// Every segment of a chunk, in stored order as its points are read: an on-edge hit ends the walk, leftover bytes are tested last.
+pub fn scan_chunk(s: &[u8], count: u16, p: Point) -> Scan
+    ensures { λ r. ⌜ scanned r ≡ scanOf (now (s .entry)) count p ⌝ }
+{
+    if count == 0 {
+        return Scan::Refused(answer::refuse(32));
+    }
+    let f = first_point(s);
+    match f {
+        Spotted::Refused(k) => Scan::Refused(k),
+        Spotted::At(q, n) => scan_from(s, p, count - 1, q, n),
+    }
+}
+
+// From the first point on, over that many points more: whether all can be read, and no bytes are left over.
+fn check_from(s: &[u8], count: u16, first: I32Point, from: Place) -> Checked
+    ensures { λ r. ⌜ r ≡ outcome (pointsFrom (now (s .entry)) count first (from .at)) ⌝ }
+{
+    let mut q = first;
+    let mut at = from;
+    let mut rest = count;
+    while 0 < rest {
+        let t = next_point(s, q, at);
+        match t {
+            Spotted::Refused(k) => {
+                return Checked::Refused(k);
+            }
+            Spotted::At(n, m) => {
+                q = n;
+                at = m;
+            }
+        }
+        rest -= 1;
+    }
+    answer::claim(43, at.at_end(s))
+}
+
+// The two numbers of a point, from that place of the lent memory on.
+fn put_point(out: &mut [i32], i: usize, q: I32Point)
+    requires { ⌜ i + 1 < length (now out) ⌝ }
+    ensures { λ _. ⌜ now (out .exit) ≡ set (set (now (out .entry)) i (q .x)) (i + 1) (q .y) ⌝ }
+{
+    let x = q.x;
+    let y = q.y;
+    out[i] = x;
+    out[i + 1] = y;
+}
+
+// From the first point on, over that many points more, as far as they can be read: their numbers, from the third place of the lent memory on.
+fn write_from(s: &[u8], count: u16, first: I32Point, from: Place, out: &mut [i32])
+    requires { ⌜ 2 + 2 * count ≤ length (now out) ⌝ }
+    ensures { λ _. ⌜ now (out .exit) ≡ put (now (out .entry)) 2 (readFrom (now (s .entry)) count first (from .at)) ⌝ }
+{
+    let mut q = first;
+    let mut at = from;
+    let mut left = count;
+    let mut i: usize = 2;
+    while 0 < left {
+        let t = next_point(s, q, at);
+        match t {
+            Spotted::Refused(k) => {
+                return;
+            }
+            Spotted::At(n, m) => {
+                q = n;
+                at = m;
+            }
+        }
+        put_point(out, i, q);
+        i += 2;
+        left -= 1;
+    }
+}
+
+// The first point, and that many more: all are read before the first number is written.
+fn decode_from(s: &[u8], count: u16, first: I32Point, from: Place, out: &mut [i32]) -> Checked
+    requires { ⌜ 2 + 2 * count ≤ length (now out) ⌝ }
+    ensures { λ r. ⌜ (r ≡ outcome (led first (pointsFrom (now (s .entry)) count first (from .at)))) × (now (out .exit) ≡ filled (now (out .entry)) (led first (pointsFrom (now (s .entry)) count first (from .at)))) ⌝ }
+{
+    let c = check_from(s, count, first, from);
+    if let Checked::Refused(k) = c {
+        return Checked::Refused(k);
+    }
+    put_point(out, 0, first);
+    write_from(s, count, first, from, out);
+    Checked::Fine
+}
+
+// The points of a chunk into lent numbers, two a point. A refusal leaves the lent memory as it was, and what lies behind the points is never touched.
+pub fn decode_points(s: &[u8], count: u16, out: &mut [i32]) -> Checked
+    ensures { λ r. ⌜ r ≡ decodeOf (now (s .entry)) count (now (out .entry)) ⌝ }
+    ensures memory { λ r. ⌜ now (out .exit) ≡ decoded (now (s .entry)) count (now (out .entry)) ⌝ }
+{
+    if count == 0 {
+        return answer::fail(32);
+    }
+    if out.len() < 2 * (count as usize) {
+        return answer::fail(46);
+    }
+    let f = first_point(s);
+    match f {
+        Spotted::Refused(k) => Checked::Refused(k),
+        Spotted::At(q, n) => decode_from(s, count - 1, q, n, out),
+    }
+}
