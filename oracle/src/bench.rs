@@ -3,6 +3,7 @@
 use crate::bytes;
 use crate::original;
 use crate::port::exports::*;
+use crate::port::opening::exports::tzb_try_open;
 use crate::random::Random;
 use crate::scene::{KINDS, Scene};
 use std::hint::black_box;
@@ -16,6 +17,11 @@ const ROUNDS: usize = 40;
 #[inline(never)]
 unsafe extern "C" fn original_crc32(data: *const u8, length: usize) -> u32 {
     original::crc32(unsafe { std::slice::from_raw_parts(data, length) })
+}
+
+#[inline(never)]
+unsafe extern "C" fn original_open(data: *const u8, length: usize) -> u32 {
+    original::opening::open(unsafe { std::slice::from_raw_parts(data, length) }).err().unwrap_or(0)
 }
 
 #[inline(never)]
@@ -56,6 +62,9 @@ pub fn run(file: Option<&Path>) {
         (0..20_000).map(|i| ascii[i * 20..i * 20 + 8 + i % 20].to_vec()).collect();
 
     println!("{:<46}{:>12}{:>12}{:>8}", "item", "port", "original", "ratio");
+    if let Some(file) = file {
+        of_bytes("opening", &[file], tzb_try_open, original_open);
+    }
     of_bytes("CRC-32", &[whole], tzb_crc32, original_crc32);
     of_bytes("UTF-8, ASCII", &[ascii], tzb_utf8, original_utf8);
     of_bytes("UTF-8, mixed text", &[mixed], tzb_utf8, original_utf8);

@@ -2,7 +2,7 @@
 
 use crate::rules::{Candidates, Said};
 
-mod exports {
+pub mod exports {
     unsafe extern "C" {
         pub fn tzb_try_open(file: *const u8, length: usize) -> u32;
         pub fn tzb_try_name(file: *const u8, length: usize, zone: u32) -> u32;
