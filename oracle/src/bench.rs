@@ -66,6 +66,7 @@ pub fn run(file: Option<&Path>) {
         of_bytes("opening", &[file], tzb_try_open, original_open);
     }
     of_bytes("CRC-32", &[whole], tzb_crc32, original_crc32);
+    of_bytes("CRC-32, messages of one byte", &vec![vec![0]; 2_000], tzb_crc32, original_crc32);
     of_bytes("UTF-8, ASCII", &[ascii], tzb_utf8, original_utf8);
     of_bytes("UTF-8, mixed text", &[mixed], tzb_utf8, original_utf8);
     of_bytes("UTF-8, names of 8 to 27 letters", &names, tzb_utf8, original_utf8);
