@@ -46,3 +46,11 @@ row t k x f h l =
     let q : 8 * ((256 * k + x) / 256 + 1) ≡ 8 * (k + 1) = omega arith in
     let r : (256 * k + x) % 256 ≡ x = omega arith in
     f .at (256 * k + x) (omega arith) ∙ ap₂ steps q r
+
+-- the rule at fewer entries
+pub fewer : (t : List ℕ) (m n : ℕ) → m ≤ n → Filled t n → Filled t m
+fewer t m n h f = record { size = f .size; at = λ j l. f .at j (omega arith) }
+
+-- an entry of the first table
+pub front : (t : List ℕ) (x : ℕ) → x < 256 → Filled t 256 → getD t x 0 ≡ steps 8 x
+front t x h f = f .at x h ∙ sym (first x h)

@@ -83,6 +83,14 @@ fn slot(t: &[u32; 4096], k: usize, v: u64) -> u32
     t[256 * k + low(v)]
 }
 
+// The same of the first table, which may be the only one.
+fn first_slot(t: &[u32; 4096], v: u64) -> u32
+    requires { ⌜ Filled (now t) 256 ⌝ }
+    ensures { λ r. ⌜ r ≡ steps 8 (v % 256) ⌝ }
+{
+    t[low(v)]
+}
+
 // What the eight bytes of v0 leave with k more bytes to come.
 fn word(t: &[u32; 4096], k: usize, v0: u64) -> u32
     requires { ⌜ (k ≤ 8) × Filled (now t) 4096 ⌝ }
@@ -113,15 +121,15 @@ fn sixteen(t: &[u32; 4096], c: u32, s: &[u8], i: usize) -> u32
     word(t, 8, lo) ^ word(t, 0, hi)
 }
 
-// The register after the bytes from `from` on, one at a time.
+// The register after the bytes from `from` on, one at a time, by the first table.
 fn tail(t: &[u32; 4096], c0: u32, s: &[u8], from: usize) -> u32
-    requires { ⌜ (from ≤ length (now s)) × Filled (now t) 4096 ⌝ }
+    requires { ⌜ (from ≤ length (now s)) × Filled (now t) 256 ⌝ }
     ensures { λ r. ⌜ r ≡ bytes c0 (drop from (now (s .entry))) ⌝ }
 {
     let mut c = c0;
     let mut i = from;
     while i < s.len() {
-        c = (c / 256) ^ slot(t, 0, wide64(c ^ wide(s[i])));
+        c = (c / 256) ^ first_slot(t, wide64(c ^ wide(s[i])));
         i += 1;
     }
     c
@@ -142,10 +150,21 @@ pub fn crc32_with(t: &[u32; 4096], s: &[u8]) -> u32
     tail(t, c, s, i) ^ 0xffff_ffff
 }
 
+// CRC-32 byte by byte: for a short message one table is quicker than sixteen.
+fn crc32_short(s: &[u8]) -> u32
+    ensures { λ r. ⌜ r ≡ crc32 (now (s .entry)) ⌝ }
+{
+    let t = first_row();
+    tail(&t, 0xffff_ffff, s, 0) ^ 0xffff_ffff
+}
+
 // CRC-32 of any bytes.
 pub fn crc32_ieee(s: &[u8]) -> u32
     ensures { λ r. ⌜ r ≡ crc32 (now (s .entry)) ⌝ }
 {
+    if s.len() < 0x4000 {
+        return crc32_short(s);
+    }
     let t = tables();
     crc32_with(&t, s)
 }
