@@ -1,6 +1,9 @@
 // Opens the small files of standard input, each of which stands in a record with the number that document 01 gives it (0: it opens),
-// and writes how many are answered so before the first difference or the list's end.
+// and writes how many are answered so before the first difference or the list's end. A file that opens is then asked for its first
+// name, for one past its last zone (45), and for a name and a chunk of which the bytes are not lent (44).
 use fields::Loaded32;
+use reader_opened::Opened;
+use reader_records::ChunkAt;
 use tzb::Opening;
 
 fn number(h: &[u8], at: usize) -> u32 {
@@ -14,9 +17,36 @@ fn size(n: u32) -> usize {
     n as usize
 }
 
-fn is_same(opening: Opening, expected: u32) -> bool {
-    match opening {
-        Opening::Done(_) => expected == 0,
+// The number by which chunk 0 is refused, or 0.
+fn first_chunk(o: Opened, file: &[u8]) -> u32 {
+    match tzb::chunk_at(o, file, 0) {
+        ChunkAt::At(_) => 0,
+        ChunkAt::Refused(why) => why.number,
+    }
+}
+
+// With the file's own bytes, and with its first 64 alone.
+fn is_answered(o: Opened, file: &[u8]) -> bool {
+    if file.len() < 64 {
+        return false;
+    }
+    let few = &file[..64];
+    (tzb::name_refusal(o, file, 0) == 0)
+        & (tzb::name_refusal(o, file, o.zones.count) == 45)
+        & (tzb::name_refusal(o, few, 0) == 44)
+        & (first_chunk(o, file) == 0)
+        & (first_chunk(o, few) == 44)
+}
+
+fn is_same(file: &[u8], expected: u32) -> bool {
+    match tzb::open(file) {
+        Opening::Done(o) => {
+            if expected == 0 {
+                is_answered(o, file)
+            } else {
+                false
+            }
+        }
         Opening::Refused(why) => why.number == expected,
     }
 }
@@ -28,7 +58,7 @@ fn replay(r: &[u8; 1024]) -> bool {
     if 1016 < n {
         return false;
     }
-    is_same(tzb::open(&all[8..8 + n]), number(all, 4))
+    is_same(&all[8..8 + n], number(all, 4))
 }
 
 // Whether there is one more record, and the port says what it expects.
