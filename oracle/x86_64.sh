@@ -4,6 +4,7 @@
 #   sh oracle/x86_64.sh setup           once for each machine: installs what the build needs (as root, on Debian)
 #   sh oracle/x86_64.sh run WORDS..     builds the oracle and runs it, as 'run compare 60'
 #   sh oracle/x86_64.sh test            the oracle's own tests
+#   sh oracle/x86_64.sh align           target/aligned: the port's archive with each function at the start of a page
 set -e
 folder=$(dirname "$0")
 task=$1
@@ -27,6 +28,14 @@ fi
 
 case $task in
   setup) ;;
+  align)
+    cd "$folder/.."
+    mkdir -p target/aligned
+    cp target/staticlib/libtzb_c.a target/aligned/
+    names=$(x86_64-linux-gnu-objdump -h target/aligned/libtzb_c.a | grep -o '\.text\.[^ ]*' | sort -u)
+    for name in $names; do
+      x86_64-linux-gnu-objcopy --set-section-alignment "$name=4096" target/aligned/libtzb_c.a
+    done ;;
   run) exec cargo run --release --quiet --offline --manifest-path "$folder/Cargo.toml" -- "$@" ;;
   test) exec cargo test --release --quiet --offline --manifest-path "$folder/Cargo.toml" ;;
   *) sed -n 's/^#   //p' "$0" >&2; exit 2 ;;
