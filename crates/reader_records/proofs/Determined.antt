@@ -30,6 +30,7 @@ use Rattle.reader_records.proofs.group_in.Reads as group-in-reads
 use Rattle.reader_records.proofs.chunk_in.Reads as chunk-in-reads
 use Rattle.reader_records.proofs.group_rule.Reads as group-rule-reads
 use Rattle.reader_records.proofs.chunk_rule.Reads as chunk-rule-reads
+use Rattle.reader_records.proofs.count_rule.Reads as count-rule-reads
 
 one-list : (a b : ListAt) (x : Answer ListRecord) → toldList a ≡ x → toldList b ≡ x → a ≡ b
 one-list (L.At v) (L.At w) x e f = cc
@@ -93,3 +94,6 @@ chunk-rule κ a r r' e e' p q = p ∙ sym q
 
 pub wide16 : Determined wide16-reads.Learnt
 wide16 κ a r r' e e' p q = p .0 ∙ sym (q .0)
+
+pub count-rule : Determined count-rule-reads.Learnt
+count-rule κ a r r' e e' p q = p ∙ sym q

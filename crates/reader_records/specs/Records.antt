@@ -7,7 +7,7 @@ use mathlib.Core.Path.{_≡_, refl, sym, ap, _∙_}
 use mathlib.Core.Bool.{Bool, true, false, _&&_}
 use mathlib.Core.List.{List}
 use lib.ListN.{length}
-use lib.Dec.{ltb, leb}
+use lib.Dec.{ltb, leb, eqb}
 use lib.IntN.{ℤ}
 use mir.Syntax.{w32}
 use mir.Val.{toZ}
@@ -116,6 +116,10 @@ ringRule below v = boxInDomain (v .bbox) && within (v .first) (v .count) below
 
 unfoldable pub ringAt : Opened → List ℕ → ℕ → Answer RingRecord
 ringAt o s i = ruled (recordAt s (o .rings) 28 i) (ringIn s) (ringRule (o .ops .count)) 34
+
+-- its groups' point counts, less the number of groups, add to its point count
+unfoldable pub countRule : RingRecord → ℕ → Bool
+countRule v sum = eqb sum (v .points + v .count)
 
 -- an op is a word: its group's index, and in the top bit whether that is turned round
 unfoldable pub opRule : ℕ → ℕ → Bool

@@ -2,7 +2,7 @@
 ghost use mathlib.Core.Path.{_≡_};
 ghost use Prim.Native.Nat.{_+_, _≤_, _<_};
 ghost use lib.ListN.{length};
-ghost use Rattle.reader_records.specs.Records.{toldPlace, toldList, toldRing, toldOp, toldGroup, toldChunk, recordAt, boxIn, pointIn, within, listIn, listRule, listAt, zoneAt, polyAt, ringIn, ringRule, ringAt, opRule, opAt, groupIn, groupRule, groupAt, chunkIn, chunkRule, chunkAt};
+ghost use Rattle.reader_records.specs.Records.{toldPlace, toldList, toldRing, toldOp, toldGroup, toldChunk, recordAt, boxIn, pointIn, within, listIn, listRule, listAt, zoneAt, polyAt, ringIn, ringRule, ringAt, countRule, opRule, opAt, groupIn, groupRule, groupAt, chunkIn, chunkRule, chunkAt};
 use answer::Refusal;
 use plane::I32Point;
 use reader_opened::Directory;
@@ -204,6 +204,13 @@ pub fn ring_at(o: Opened, s: &[u8], index: usize) -> RingAt
             }
         }
     }
+}
+
+// The points of a ring's groups, less the number of groups, are its own.
+pub fn count_rule(v: RingRecord, sum: usize) -> bool
+    ensures { λ r. ⌜ r ≡ countRule v sum ⌝ }
+{
+    sum == reader_head::wide(v.points) + wide16(v.count)
 }
 
 // The group is one of the directory.

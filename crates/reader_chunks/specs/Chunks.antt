@@ -1,0 +1,123 @@
+-- Document 01, "Chunk bytes" and "Refusal numbers": where a chunk's bytes stand in the file, and what is read there. For any opened record and any bytes.
+-- Assumes nothing.
+use Prim.Native.Nat.{ℕ, _+_, _-_, _*_, _≤_, _<_}
+use mathlib.Core.Path.{_≡_}
+use mathlib.Core.Bool.{Bool, true, false, cond}
+use mathlib.Core.List.{List}
+use lib.ListN.{length}
+use lib.Dec.{ltb, leb}
+use lib.IntN.{ℤ}
+use borrow.Author.Tests.{lt-leb, le-leb, lt-ltb, le-ltb}
+use Rattle.plane.specs.declared.Point.{Point}
+use Rattle.plane.specs.declared.I32Point.{I32Point}
+use Rattle.answer.specs.declared.Refusal.{Refusal}
+use Rattle.answer.specs.declared.Checked.{Checked}
+use Rattle.answer.specs.Answers.{Answer, ok, refused, no, _then_, need}
+use Rattle.answer.specs.Walks.{Walk, broken, _yields_}
+use Rattle.fields.specs.Part.{part}
+use Rattle.tzb_core.specs.Points.{firstOf}
+use Rattle.tzb_core.specs.Scan.{scanOf}
+use Rattle.tzb_core.specs.Decode.{pointsOf, outcome, filled}
+use Rattle.reader_opened.specs.declared.Opened.{Opened}
+use Rattle.reader_records.specs.declared.ChunkRecord.{ChunkRecord}
+use Rattle.reader_records.specs.Records.{chunkAt}
+
+-- where a chunk's first byte stands
+unfoldable pub startOf : Opened → ChunkRecord → ℕ
+startOf o v = o .points .off + v .off
+
+-- where chunk i ends: where the next of the file starts, or with the points
+unfoldable pub endOf : Opened → List ℕ → ℕ → Answer ℕ
+endOf o s i =
+    cond (ltb (i + 1) (o .chunks .count))
+    (chunkAt o s (i + 1) then λ v. ok (startOf o v))
+    (ok (o .points .off + o .points .len))
+
+-- the bytes from a to e: a range that is empty or turned round is 37; past the end, as a whole, 44
+unfoldable pub span : List ℕ → ℕ → ℕ → Answer (List ℕ)
+span s a e = need 37 (ltb a e) (need 44 (leb e (length s)) (ok (part s a e)))
+
+-- the bytes of chunk i, whose record is v
+unfoldable pub bytesOf : Opened → List ℕ → ℕ → ChunkRecord → Answer (List ℕ)
+bytesOf o s i v = endOf o s i then λ e. span s (startOf o v) e
+
+-- the first point alone, of the bytes from a to e
+unfoldable pub firstIn : List ℕ → ℕ → ℕ → Answer I32Point
+firstIn s a e = span s a e then λ b. firstOf b then λ t. ok (t .0)
+
+-- through all segments of the n points in the bytes from a to e
+unfoldable pub scanIn : List ℕ → ℕ → Point → ℕ → ℕ → Walk I32Point
+scanIn s n p a e = span s a e yields λ b. scanOf b n p
+
+-- ---- a chunk by its number
+-- its first point alone
+unfoldable pub firstAt : Opened → List ℕ → ℕ → Answer I32Point
+firstAt o s i = chunkAt o s i then λ v. endOf o s i then λ e. firstIn s (startOf o v) e
+
+-- all its points: 34, 32 for a count of 0, then 37 and the rest
+unfoldable pub chunkPoints : Opened → List ℕ → ℕ → Answer (List I32Point)
+chunkPoints o s i = chunkAt o s i then λ v. need 32 (ltb 0 (v .count)) (bytesOf o s i v then λ b. pointsOf b (v .count))
+
+-- the same into lent i32s, two a point: 34, 32 for a count of 0, 46 for room, then 37 and the rest
+unfoldable pub decodeIn : Opened → List ℕ → ℕ → List ℤ → Answer (List I32Point)
+decodeIn o s i out =
+    chunkAt o s i then λ v.
+    need 32 (ltb 0 (v .count))
+    (need 46 (leb (2 * v .count) (length out))
+    (bytesOf o s i v then λ b. pointsOf b (v .count)))
+
+-- what is told, and the lent memory afterwards: the numbers of the points, then the rest as it was; after a refusal all as it was
+abbrev pub decodeAt : Opened → List ℕ → ℕ → List ℤ → Checked
+decodeAt o s i out = outcome (decodeIn o s i out)
+
+abbrev pub decodedAt : Opened → List ℕ → ℕ → List ℤ → List ℤ
+decodedAt o s i out = filled out (decodeIn o s i out)
+
+-- ---- laws
+module _ (o : Opened) (s : List ℕ) (i : ℕ) where
+  pub end-last : o .chunks .count ≤ i + 1 → ok (o .points .off + o .points .len) ≡ endOf o s i
+  unfolding endOf
+  end-last h = rw (le-ltb (i + 1) (o .chunks .count) h)
+
+  pub end-no : i + 1 < o .chunks .count → (r : Refusal) → refused r ≡ chunkAt o s (i + 1) → refused r ≡ endOf o s i
+  unfolding endOf
+  end-no h r k = rw (lt-ltb (i + 1) (o .chunks .count) h, ← k)
+
+  pub end-is : i + 1 < o .chunks .count → (v : ChunkRecord) → ok v ≡ chunkAt o s (i + 1) → ok (startOf o v) ≡ endOf o s i
+  unfolding endOf
+  end-is h v k = rw (lt-ltb (i + 1) (o .chunks .count) h, ← k)
+
+module _ (s : List ℕ) (a e : ℕ) where
+  pub span-none : e ≤ a → no 37 ≡ span s a e
+  unfolding span
+  span-none h = rw (le-ltb a e h)
+
+  pub span-short : a < e → length s < e → no 44 ≡ span s a e
+  unfolding span
+  span-short h k = rw (lt-ltb a e h, lt-leb e (length s) k)
+
+  pub span-is : a < e → e ≤ length s → ok (part s a e) ≡ span s a e
+  unfolding span
+  span-is h k = rw (lt-ltb a e h, le-leb e (length s) k)
+
+  pub first-no : (r : Refusal) → refused r ≡ span s a e → refused r ≡ firstIn s a e
+  unfolding firstIn
+  first-no r h = rw (← h)
+
+  module _ (b : List ℕ) (h : ok b ≡ span s a e) where
+    pub first-bad : (r : Refusal) → refused r ≡ firstOf b → refused r ≡ firstIn s a e
+    unfolding firstIn
+    first-bad r k = rw (← h, ← k)
+
+    pub first-is : (q : I32Point) (m : ℕ) → ok (q, m) ≡ firstOf b → ok q ≡ firstIn s a e
+    unfolding firstIn
+    first-is q m k = rw (← h, ← k)
+
+  module _ (n : ℕ) (p : Point) where
+    pub scan-no : (r : Refusal) → refused r ≡ span s a e → broken r ≡ scanIn s n p a e
+    unfolding scanIn
+    scan-no r h = rw (← h)
+
+    pub scan-is : (b : List ℕ) → ok b ≡ span s a e → scanOf b n p ≡ scanIn s n p a e
+    unfolding scanIn
+    scan-is b h = rw (← h)

@@ -1,0 +1,2 @@
+-- Document 01, "Chunk bytes": where a chunk's bytes stand, and what is read there.
+pub mod Chunks
