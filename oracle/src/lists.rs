@@ -1,5 +1,6 @@
 //! The fixed lists of the original's answers, which the gate replays without Rust. README.md has the layout of their records.
 
+mod asked;
 mod open;
 
 use crate::bytes::{self, OF_NUMBERS};
@@ -25,6 +26,21 @@ pub fn write(folder: &Path) {
         let count = files.iter().filter(|(n, _)| *n == number).count();
         println!("  {count} with {number}");
         assert!(count >= 2, "a number with fewer than two files");
+    }
+    let (list, counts) = asked::list();
+    fs::write(folder.join("asked.bin"), &list).expect("a list");
+    println!("asked.bin: {} questions, {} bytes", counts.values().sum::<u64>(), list.len());
+    counts.iter().for_each(|((kind, n), count)| println!("  {count} of a {kind} with {n}"));
+    for met in [
+        ("name", 23),
+        ("name", 44),
+        ("name", 45),
+        ("candidates", 44),
+        ("candidate", 30),
+        ("candidate", 31),
+        ("candidate", 44),
+    ] {
+        assert!(counts.get(&met).is_some_and(|&count| count >= 2), "{met:?} is not met");
     }
 }
 

@@ -80,6 +80,13 @@ pub fn open(file: &[u8]) -> Said<Opened<'_>> {
     Ok(Opened { file, reader })
 }
 
+impl<'a> Opened<'a> {
+    /// The same record, asked with other bytes.
+    pub fn asked_with(self, lent: &'a [u8]) -> Self {
+        Self { file: lent, reader: self.reader.with_bytes(lent) }
+    }
+}
+
 impl Opened<'_> {
     /// The part of the file that the original lends: where it starts, and its length.
     pub fn name(&self, zone: u32) -> Said<(u64, u64)> {
