@@ -1,6 +1,7 @@
 -- What is proved of the shapes: the walk that skips is exact.
 pub mod Sound
 pub mod Whole
+pub mod Elsewhere
 pub mod Agree
 pub mod Floats
 pub mod File

@@ -1,4 +1,4 @@
--- A file's directories, by index; the zone that a zone number names; and what the record rule and the full check say of every entry.
+-- A file's directories, by index; the zone that a zone number names; and what the record rule and the rules of the full check say of every entry.
 -- Assumes nothing.
 use Prim.Native.Nat.{ℕ, _+_, _-_, _≤_, _<_}
 use mathlib.Core.Path.{_≡_}
@@ -73,15 +73,16 @@ module _ (d : Directories) where
   unfoldable pub zoneAt : ℕ → Zone
   zoneAt i = record { box = d .zoneSpan i .box; polygons = run polygonAt (d .zoneSpan i .count) (d .zoneSpan i .first) }
 
-  -- ---- what the full check demands of every entry
-  pub record Checked : Type 0 where
-    -- the record rule of groups, which opening asks
-    pub group-names : (i : ℕ) → i < d .groups → Names (d .groupSpan i) (d .chunks)
-    -- F2
+  -- ---- what the record rule and F2 say of every entry: what it names is there
+  pub record Named : Type 0 where
     pub zone-names : (i : ℕ) → i < d .zones → Names (d .zoneSpan i) (d .polygons)
     pub polygon-names : (i : ℕ) → i < d .polygons → Names (d .polygonSpan i) (d .rings)
     pub ring-names : (i : ℕ) → i < d .rings → Names (d .ringSpan i) (d .ops)
     pub op-names : (i : ℕ) → i < d .ops → d .opGroup i < d .groups
+    pub group-names : (i : ℕ) → i < d .groups → Names (d .groupSpan i) (d .chunks)
+
+  -- ---- F4 to F6, of every entry
+  pub record Covered : Type 0 where
     -- F4
     pub chunks-fit : (i : ℕ) → i < d .groups → chunksFit (groupChunks (groupAt i)) ≡ true
     -- F5
@@ -91,7 +92,7 @@ module _ (d : Directories) where
     pub polygon-covers : (i j : ℕ) → i < d .polygons → Among (d .polygonSpan i) j → covers (d .polygonSpan i .box) (d .ringSpan j .box) ≡ true
     pub zone-covers : (i j : ℕ) → i < d .zones → Among (d .zoneSpan i) j → covers (d .zoneSpan i .box) (d .polygonSpan j .box) ≡ true
 
-  -- ---- the domain, which the record rule asks of boxes, entries and exits, and decoding (F3) of points
+  -- ---- the domain: the record rule asks it of boxes, entries and exits, and decoding (F3) of points
   pub record Domain : Type 0 where
     pub chunk-in : (i : ℕ) → i < d .chunks → chunkInDomain (d .chunkAt i) ≡ true
     pub group-in : (i : ℕ) → i < d .groups → boxInDomain (d .groupSpan i .box) ≡ true
