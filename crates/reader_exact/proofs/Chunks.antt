@@ -26,7 +26,7 @@ use Rattle.shapes.specs.Walk.{floatTests, chunkWalk}
 use Rattle.reader_opened.specs.declared.Opened.{Opened}
 use Rattle.reader_records.specs.declared.ChunkRecord.{ChunkRecord}
 use Rattle.reader_records.specs.Records.{recordAt, chunkIn, chunkRule, chunkAt}
-use Rattle.reader_chunks.specs.Chunks.{startOf, endOf, span, bytesOf, firstIn, scanIn, chunkPoints, end-is, first-is, scan-is}
+use Rattle.reader_chunks.specs.Chunks.{startOf, endOf, span, bytesOf, firstIn, scanIn, firstAt, chunkPoints, end-is, first-is, scan-is}
 use Rattle.reader_groups.specs.Groups.{nextFirst, skipTo, scanTo, joinedTo, lastIn, lastAt}
 use Rattle.reader_exact.specs.Directories.{chunkOf, chunkShape}
 use Rattle.reader_exact.specs.Sound.{Given}
@@ -44,7 +44,8 @@ pub record Holds (o : Opened) (s : List ℕ) (i : ℕ) : Type 0 where
   pub spans : ok bytes ≡ span s (startOf o found) end
   pub decodes : ok (chunkShape o s i .first ∷ chunkShape o s i .rest) ≡ pointsOf bytes (found .count)
 
-shape-is : (o : Opened) (s : List ℕ) (i : ℕ) (l : List I32Point) (v : ChunkRecord) → ok l ≡ chunkPoints o s i → ok v ≡ chunkAt o s i → chunkShape o s i ≡ chunkOf (v .bbox) l
+-- the shape is made of the record and the points
+pub shape-is : (o : Opened) (s : List ℕ) (i : ℕ) (l : List I32Point) (v : ChunkRecord) → ok l ≡ chunkPoints o s i → ok v ≡ chunkAt o s i → chunkShape o s i ≡ chunkOf (v .bbox) l
 unfolding chunkShape
 shape-is o s i l v p t = rw (← t, ← p)
 
@@ -96,6 +97,11 @@ module _ (o : Opened) (s : List ℕ) (i : ℕ) (h : Holds o s i) where
       let c = chunkShape o s i in
       let k = first-list (h .bytes) (h .found .count) (c .first) (c .rest) (h .decodes) in
       first-is s (startOf o (h .found)) (h .end) (h .bytes) (h .spans) (c .first) (k .0) (k .1)
+
+  -- and asked for by the chunk's number
+  pub first-given : ok (chunkShape o s i .first) ≡ firstAt o s i
+  unfolding firstAt
+  first-given = rw (← h .there, ← h .ends) held-first
 
 module _ (o : Opened) (s : List ℕ) (i : ℕ) (h : Holds o s i) where
   abbrev c : Chunk

@@ -53,16 +53,18 @@ module _ (o : Opened) (s : List ℕ) (k : Sound o s) where
     unfolding directories
     there = h
 
-    inside : inDomain q ≡ true → zoneOf o s (pointOf q) i ≡ ok (zoneIn (seg q) (zoneAt (directories o s) i))
-    inside e = zone-walk o s k (pointOf q) i h ∙ ap ok (float-file-exact (directories o s) sound-named c sound-domain q e i there)
+    -- the walk itself, at a point of the domain made floats
+    pub walk-exact : inDomain q ≡ true → zoneOf o s (pointOf q) i ≡ ok (zoneIn (seg q) (zoneAt (directories o s) i))
+    walk-exact e = zone-walk o s k (pointOf q) i h ∙ ap ok (float-file-exact (directories o s) sound-named c sound-domain q e i there)
 
     elsewhere : inDomain q ≡ false → ok false ≡ ok (zoneIn (seg q) (zoneAt (directories o s) i))
     elsewhere e = ap ok (sym (file-elsewhere (directories o s) sound-named c sound-domain q e i there))
 
+    -- and the question of scanners, at any point
     pub contains-exact : containsAt o s i q ≡ ok (zoneIn (seg q) (zoneAt (directories o s) i))
     unfolding containsAt
     contains-exact = rw (lt-ltb i (o .zones .count) h) (either (inDomain q) refl)
       where
         either : (b : Bool) → inDomain q ≡ b → cond b (zoneOf o s (pointOf q) i) (ok false) ≡ ok (zoneIn (seg q) (zoneAt (directories o s) i))
-        either true e = inside e
+        either true e = walk-exact e
         either false e = elsewhere e
