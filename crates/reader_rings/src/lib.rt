@@ -4,12 +4,15 @@ ghost use mathlib.Core.Bool.{true, false};
 ghost use Prim.Native.Nat.{_+_, _-_, _≤_, _<_};
 ghost use Rattle.answer.specs.Walks.{verdict};
 ghost use Rattle.tzb_core.specs.Points.{point};
+ghost use Rattle.tzb_core.specs.Ray.{rayOf};
+ghost use Rattle.tzb_core.specs.Scan.{past};
 ghost use Rattle.reader_groups.specs.Groups.{went};
 ghost use Rattle.reader_rings.specs.Rings.{turned, rounds, sumAfter, judged, turnOf, turnedAt, jointOf, groupWalk, turnWalk, opStep, opsFrom, ringEnd, ringRest, ringOf, ringContains};
 ghost use Rattle.reader_rings.specs.Zones.{seek, holesOut, polyOf, zoneOf, containsAt};
 use answer::Refusal;
 use plane::I32Point;
 use plane::Point;
+use plane::Seen;
 use reader_groups::Went;
 use reader_opened::Opened;
 use reader_records::GroupAt;
@@ -86,6 +89,17 @@ fn turned_by(o: Opened, s: &[u8], i: usize) -> TurnedAt
     }
 }
 
+// Past the segment from a to b.
+fn past_segment(a: I32Point, b: I32Point, p: Point) -> Went
+    ensures { λ r. ⌜ went r ≡ past (rayOf a b p) tt ⌝ }
+{
+    let e = tzb_core::raycast::raycast_seg(a, b, p);
+    match e {
+        Seen::On => Went::On,
+        Seen::Off(b) => Went::Off(b),
+    }
+}
+
 // Past the segment that joins two ends, where they differ.
 fn joint(p: Point, a: I32Point, b: I32Point) -> Went
     ensures { λ r. ⌜ went r ≡ jointOf p a b ⌝ }
@@ -93,7 +107,7 @@ fn joint(p: Point, a: I32Point, b: I32Point) -> Went
     if tzb_core::bbox::same_point(a, b) {
         Went::Off(false)
     } else {
-        reader_groups::past_segment(a, b, p)
+        past_segment(a, b, p)
     }
 }
 

@@ -1,11 +1,11 @@
--- `reader_groups::past_segment` meets its contract: what the ray test sees, as a walk.
+-- `reader_rings::past_segment` meets its contract: what the ray test sees, as a walk.
 -- Assumes nothing.
 use mathlib.Core.Path.{sym, ap, _∙_}
 use Rattle.plane.specs.declared.Seen.{Seen}
 use Rattle.tzb_core.specs.Scan.{past}
 use borrow.Author.Needs.{needs}
-use Rattle.reader_groups.proofs.past_segment.Statement.{statement}
-use Rattle.reader_groups.proofs.past_segment.Tie as tie
+use Rattle.reader_rings.proofs.past_segment.Statement.{statement}
+use Rattle.reader_rings.proofs.past_segment.Tie as tie
 
 raycast-seg-requires : tie.Need-raycast-seg-requires
 raycast-seg-requires c κs = search needs
