@@ -1,6 +1,23 @@
 // Containment: the walk over a group's chunks.
+ghost use mathlib.Core.Path.{_≡_};
+ghost use Prim.Native.Nat.{_-_, _<_};
+ghost use Rattle.answer.specs.Walks.{add};
+ghost use Rattle.tzb_core.specs.Ray.{rayOf};
+ghost use Rattle.tzb_core.specs.Scan.{past, scanned};
+ghost use Rattle.reader_chunks.specs.Chunks.{toldPoint, startOf, firstIn, scanIn};
+ghost use Rattle.reader_groups.specs.Groups.{went, passed, nextFirst, skipTo, scanTo, joinedTo, passAt, lastIn, lastAt, chunksFrom, groupOf};
 use answer::Refusal;
+use plane::I32Point;
+use plane::Point;
+use plane::Seen;
+use reader_chunks::Offset;
+use reader_chunks::PointAt;
+use reader_opened::Opened;
+use reader_records::ChunkAt;
 use reader_records::ChunkRecord;
+use reader_records::GroupRecord;
+use tzb_core::chunk::Scan;
+use tzb_core::raycast;
 
 // Past a stretch of segments: its parity.
 pub enum Went {
@@ -14,4 +31,214 @@ pub enum Pass {
     Refused(Refusal),
     On,
     Off(bool, ChunkRecord),
+}
+
+// Past the segment from a to b.
+pub fn past_segment(a: I32Point, b: I32Point, p: Point) -> Went
+    ensures { λ r. ⌜ went r ≡ past (rayOf a b p) tt ⌝ }
+{
+    let e = raycast::raycast_seg(a, b, p);
+    match e {
+        Seen::On => Went::On,
+        Seen::Off(b) => Went::Off(b),
+    }
+}
+
+// After a stretch of parity `odd`.
+pub fn after(odd: bool, w: Went) -> Went
+    ensures { λ r. ⌜ went r ≡ add odd (went w) ⌝ }
+{
+    match w {
+        Went::Refused(k) => Went::Refused(k),
+        Went::On => Went::On,
+        Went::Off(b) => Went::Off(answer::plus(odd, b)),
+    }
+}
+
+// The first point of the chunk with record v, which ends at e.
+fn first_of(o: Opened, s: &[u8], v: ChunkRecord, e: usize) -> PointAt
+    ensures { λ r. ⌜ toldPoint r ≡ firstIn (now (s .entry)) (startOf o v) e ⌝ }
+{
+    reader_chunks::first_in(s, reader_chunks::start_of(o, v), e)
+}
+
+// Through all segments of that chunk.
+fn scan_of(o: Opened, s: &[u8], p: Point, v: ChunkRecord, e: usize) -> Scan
+    ensures { λ r. ⌜ scanned r ≡ scanIn (now (s .entry)) (v .count) p (startOf o v) e ⌝ }
+{
+    reader_chunks::scan_in(s, v.count, p, reader_chunks::start_of(o, v), e)
+}
+
+// The first point of chunk i + 1, whose record is n.
+fn next_first(o: Opened, s: &[u8], i: usize, n: ChunkRecord) -> PointAt
+    requires { ⌜ i < 0x2_0000_0000 ⌝ }
+    ensures { λ r. ⌜ toldPoint r ≡ nextFirst o (now (s .entry)) i n ⌝ }
+{
+    let t = reader_chunks::end_of(o, s, i + 1);
+    match t {
+        Offset::Refused(k) => PointAt::Refused(k),
+        Offset::At(e) => first_of(o, s, n, e),
+    }
+}
+
+// A chunk to the right of the point: by its own first point and the next chunk's.
+fn skip_to(o: Opened, s: &[u8], p: Point, i: usize, v: ChunkRecord, n: ChunkRecord) -> Went
+    requires { ⌜ i < 0x2_0000_0000 ⌝ }
+    ensures { λ r. ⌜ went r ≡ skipTo o (now (s .entry)) p i v n ⌝ }
+{
+    let e = reader_chunks::start_of(o, n);
+    let t = first_of(o, s, v, e);
+    match t {
+        PointAt::Refused(k) => Went::Refused(k),
+        PointAt::At(a) => {
+            let u = next_first(o, s, i, n);
+            match u {
+                PointAt::Refused(k) => Went::Refused(k),
+                PointAt::At(b) => Went::Off(raycast::endpoint_parity(a, b, p)),
+            }
+        }
+    }
+}
+
+// Any other: through its segments, and the one that joins it to the next chunk.
+fn scan_to(o: Opened, s: &[u8], p: Point, i: usize, v: ChunkRecord, n: ChunkRecord) -> Went
+    requires { ⌜ i < 0x2_0000_0000 ⌝ }
+    ensures { λ r. ⌜ went r ≡ scanTo o (now (s .entry)) p i v n ⌝ }
+{
+    let e = reader_chunks::start_of(o, n);
+    let t = scan_of(o, s, p, v, e);
+    match t {
+        Scan::Refused(k) => Went::Refused(k),
+        Scan::On => Went::On,
+        Scan::Off(odd, q) => {
+            let u = next_first(o, s, i, n);
+            match u {
+                PointAt::Refused(k) => Went::Refused(k),
+                PointAt::At(b) => after(odd, past_segment(q, b, p)),
+            }
+        }
+    }
+}
+
+fn joined_to(o: Opened, s: &[u8], p: Point, i: usize, v: ChunkRecord, n: ChunkRecord) -> Went
+    requires { ⌜ i < 0x2_0000_0000 ⌝ }
+    ensures { λ r. ⌜ went r ≡ joinedTo o (now (s .entry)) p i v n ⌝ }
+{
+    let b = v.bbox;
+    if b.relevant(p) {
+        if b.right(p) {
+            skip_to(o, s, p, i, v, n)
+        } else {
+            scan_to(o, s, p, i, v, n)
+        }
+    } else {
+        Went::Off(false)
+    }
+}
+
+// Past chunk i, whose record is v, and which another follows.
+fn pass_at(o: Opened, s: &[u8], p: Point, i: usize, v: ChunkRecord) -> Pass
+    requires { ⌜ i < 0x2_0000_0000 ⌝ }
+    ensures { λ r. ⌜ passed r ≡ passAt o (now (s .entry)) p i v ⌝ }
+{
+    let t = reader_records::chunk_at(o, s, i + 1);
+    match t {
+        ChunkAt::Refused(k) => Pass::Refused(k),
+        ChunkAt::At(n) => {
+            let w = joined_to(o, s, p, i, v, n);
+            match w {
+                Went::Refused(k) => Pass::Refused(k),
+                Went::On => Pass::On,
+                Went::Off(b) => Pass::Off(b, n),
+            }
+        }
+    }
+}
+
+// Past a group's last chunk, which ends at e, and of which x is the last point.
+fn last_in(o: Opened, s: &[u8], p: Point, i: usize, v: ChunkRecord, x: I32Point, e: usize) -> Went
+    ensures { λ r. ⌜ went r ≡ lastIn o (now (s .entry)) p i v x e ⌝ }
+{
+    let b = v.bbox;
+    if b.right(p) {
+        let t = first_of(o, s, v, e);
+        match t {
+            PointAt::Refused(k) => Went::Refused(k),
+            PointAt::At(a) => Went::Off(raycast::endpoint_parity(a, x, p)),
+        }
+    } else {
+        let t = scan_of(o, s, p, v, e);
+        match t {
+            Scan::Refused(k) => Went::Refused(k),
+            Scan::On => Went::On,
+            Scan::Off(odd, _) => Went::Off(odd),
+        }
+    }
+}
+
+fn last_at(o: Opened, s: &[u8], p: Point, i: usize, v: ChunkRecord, x: I32Point) -> Went
+    ensures { λ r. ⌜ went r ≡ lastAt o (now (s .entry)) p i v x ⌝ }
+{
+    let b = v.bbox;
+    if b.relevant(p) {
+        let t = reader_chunks::end_of(o, s, i);
+        match t {
+            Offset::Refused(k) => Went::Refused(k),
+            Offset::At(e) => last_in(o, s, p, i, v, x, e),
+        }
+    } else {
+        Went::Off(false)
+    }
+}
+
+// Chunks in a row, of which `head` is the record of the first, and x the last point of the last.
+fn scan_chunks(
+    o: Opened,
+    s: &[u8],
+    p: Point,
+    x: I32Point,
+    count: u16,
+    from: usize,
+    head: ChunkRecord,
+) -> Went
+    requires { ⌜ from < 0x1_0000_0000 ⌝ }
+    ensures { λ r. ⌜ went r ≡ chunksFrom o (now (s .entry)) p x (count - 1) from head ⌝ }
+{
+    let mut i = from;
+    let mut v = head;
+    let mut odd = false;
+    let mut left = count;
+    while 1 < left {
+        let t = pass_at(o, s, p, i, v);
+        match t {
+            Pass::Refused(k) => {
+                return Went::Refused(k);
+            }
+            Pass::On => {
+                return Went::On;
+            }
+            Pass::Off(b, n) => {
+                odd = answer::plus(odd, b);
+                v = n;
+            }
+        }
+        i += 1;
+        left -= 1;
+    }
+    after(odd, last_at(o, s, p, i, v, x))
+}
+
+// Past all chunks of a group.
+pub fn scan_group(o: Opened, s: &[u8], p: Point, g: GroupRecord) -> Went
+    ensures { λ r. ⌜ went r ≡ groupOf o (now (s .entry)) p g ⌝ }
+{
+    let from = reader_head::wide(g.first);
+    let t = reader_records::chunk_at(o, s, from);
+    match t {
+        ChunkAt::Refused(k) => Went::Refused(k),
+        ChunkAt::At(v) => {
+            let x = g.exit;
+            scan_chunks(o, s, p, x, g.count, from, v)
+        }
+    }
 }
