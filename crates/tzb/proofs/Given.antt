@@ -1,9 +1,9 @@
 -- What a file gives that opening accepts, with nothing else supposed of it: which record it is, the checks that it passed, and which questions are never refused.
 -- Assumes nothing.
-use Prim.Native.Nat.{ℕ, _+_, _*_, _/_, _%_, _≤_, _<_}
+use Prim.Native.Nat.{ℕ, _*_, _%_, _≤_, _<_}
 use native.Mathlib.Omega.{arith}
 use native.Mathlib.Nat.{mul-le-mul-right}
-use mathlib.Core.Path.{_≡_, refl, sym, ap, _∙_}
+use mathlib.Core.Path.{_≡_, refl, ap}
 use mathlib.Core.Bool.{true}
 use mathlib.Core.List.{List}
 use borrow.Author.Tests.{leb-true}
@@ -11,25 +11,24 @@ use lib.Dec.{leb}
 use lib.Ieee.{Float}
 use Rattle.basics.specs.Truth.{and-l, and-r}
 use Rattle.fields.specs.Le.{le}
+use Rattle.answer.specs.declared.Refusal.{Refusal}
 use Rattle.answer.specs.declared.Checked.{Checked}
 use Rattle.answer.specs.declared.Checked.the-variants as C
-use Rattle.answer.specs.Checks.{atMost}
 use Rattle.answer.specs.CheckLaws.{fine-one, fine-rest, fine-claim, same-eq, at-le, ne-same}
-use Rattle.answer.specs.Answers.{Answer, ok, _before_}
+use Rattle.answer.specs.Answers.{Answer, ok, refused, _before_}
 use Rattle.tzb_core.proofs.Decoded.{zero-one, ok-inv}
 use Rattle.reader_head.specs.Head.{headCheck, fieldsCheck, isCount}
-use Rattle.reader_table.specs.declared.Section.{Section}
 use Rattle.reader_table.specs.Table.{sectionOf}
 use Rattle.reader_opened.specs.declared.Directory.{Directory}
 use Rattle.reader_opened.specs.declared.Sections.{Sections}
 use Rattle.reader_opened.specs.declared.Grid.{Grid}
 use Rattle.reader_opened.specs.declared.Opened.{Opened}
-use Rattle.reader_opened.specs.Opened.{zonesCheck, lengthsCheck, countsCheck, sectionsOf, gridOf, directoryOf, openedOf, Within, Tabled, within}
+use Rattle.reader_opened.specs.Opened.{zonesCheck, countsCheck, sectionsOf, gridOf, directoryOf, openedOf, Within, Tabled, within}
 use Rattle.reader_names.specs.Names.{namesCheck}
-use Rattle.reader_names.proofs.Accepted.{Name-given, name-given}
+use Rattle.reader_names.proofs.Accepted.{NameGiven, name-given}
 use Rattle.reader_grid.specs.Grid.{gridCheck}
 use Rattle.reader_grid.specs.Asked.{candidatesOf}
-use Rattle.reader_grid.proofs.Accepted.{Chosen-given, candidates-given}
+use Rattle.reader_grid.proofs.Accepted.{ChosenGiven, candidates-given}
 use Rattle.reader_records.specs.Records.{place, recordAt, record-at, chunkAt, groupAt}
 use Rattle.reader_dirs.specs.Dirs.{chunkOf, groupOf, chunksCheck, groupsCheck, countAt, total, Lies, Room}
 use Rattle.reader_dirs.proofs.Accepted.{chunk-found, chunk-some, chunk-inside, rises, group-found, group-sum}
@@ -44,6 +43,17 @@ before-inv (C.Refused k) x a e = let z : _≡_ {A = ℕ} 0 1 = cc in absurd (zer
 grid-checked : (s : List ℕ) (p : Sections) (g : Grid) → gridIn s p g ≡ C.Fine → (p .flags % 2 ≡ 0 → ⊥) → gridCheck s (p .gridpart) g (p .zones) ≡ C.Fine
 unfolding gridIn
 grid-checked s p g e h = rw (ne-same (p .flags % 2) 0 h) at e
+
+-- an answer that is given is no refusal
+pub not-refused : {A : Type 0} (x : Answer A) (a : A) (k : Refusal) → ok a ≡ x → refused k ≡ x → ⊥
+not-refused x a k e f = let z : _≡_ {A = ℕ} 0 1 = cc in zero-one z
+
+-- The questions that opening alone vouches for: a name by its zone number, candidates at all floats, a chunk's and a group's record by its number. Each is answered.
+pub record Answered (file : List ℕ) (o : Opened) : Type 0 where
+  pub names : (zone : ℕ) → zone < o .zones .count → NameGiven o file zone
+  pub candidates : (lng lat : Float) → ChosenGiven o file (candidatesOf o file lng lat)
+  pub chunks : (i : ℕ) → i < o .chunks .count → ok (chunkOf file (o .chunks) i) ≡ chunkAt o file i
+  pub groups : (i : ℕ) → i < o .groups .count → ok (groupOf file (o .groups) i) ≡ groupAt o file i
 
 -- all the directories' records lie in the file, and no directory is empty
 pub record Directories (file : List ℕ) (o : Opened) : Type 0 where
@@ -201,7 +211,7 @@ module _ (file : List ℕ) (o : Opened) (opened : ok o ≡ openOf file) where
   unfolding openedOf namesIn
   names-checked = rw opened-is names-fine
 
-  pub name-answered : (zone : ℕ) → zone < o .zones .count → Name-given o file zone
+  pub name-answered : (zone : ℕ) → zone < o .zones .count → NameGiven o file zone
   name-answered = name-given o file names-within names-checked
 
   -- ---- candidates, for all floats: an answer, and in it only zones of the file
@@ -213,7 +223,7 @@ module _ (file : List ℕ) (o : Opened) (opened : ok o ≡ openOf file) where
   unfolding openedOf
   grid-asked = rw opened-is (grid-checked file (sectionsOf file) (gridIs file) grid-fine)
 
-  pub candidates-answered : (lng lat : Float) → Chosen-given o file (candidatesOf o file lng lat)
+  pub candidates-answered : (lng lat : Float) → ChosenGiven o file (candidatesOf o file lng lat)
   candidates-answered = candidates-given o file (sectionsOf file .gridpart) (is-placed .grid) grid-kept grid-asked
 
   -- ---- chunks and groups
@@ -236,3 +246,7 @@ module _ (file : List ℕ) (o : Opened) (opened : ok o ≡ openOf file) where
 
     pub group-adds : total (countAt file (o .chunks)) (groupOf file (o .groups) i .count) (groupOf file (o .groups) i .first) ≡ groupOf file (o .groups) i .points
     group-adds = group-sum file o has-room groups-fine i h
+
+  -- ---- all of these in one
+  pub answered : Answered file o
+  answered = record { names = name-answered; candidates = candidates-answered; chunks = chunk-answered; groups = group-answered }
