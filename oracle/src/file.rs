@@ -156,6 +156,18 @@ pub fn names(skipped: &[u8], all: &[Vec<u8>]) -> Vec<u8> {
 /// A valid file, of every kind: 1 to 4 zones, GRID or none, unknown and empty sections, gaps, any order.
 pub fn some(random: &mut Random) -> Draft {
     let shape = Shape::some(random);
+    around(random, &shape, false)
+}
+
+/// A valid file whose zones lie on a small lattice. Now and then all have the same name.
+pub fn on_lattice(random: &mut Random) -> Draft {
+    let shape = Shape::on_lattice(random);
+    let alike = random.below(8) == 0;
+    around(random, &shape, alike)
+}
+
+/// A file with these zones.
+fn around(random: &mut Random, shape: &Shape, alike: bool) -> Draft {
     let zones = shape.zones.len();
     let mut parts = shape.parts();
     let text = |random: &mut Random| {
@@ -165,6 +177,7 @@ pub fn some(random: &mut Random) -> Draft {
         if name.is_empty() { b"Z".to_vec() } else { name }
     };
     let all: Vec<Vec<u8>> = (0..zones).map(|_| text(random)).collect();
+    let all = if alike { vec![b"Z".to_vec(); zones] } else { all };
     let skipped = random.below(4).saturating_sub(1);
     let skipped = random.bytes(skipped);
     parts.push(Part { typ: NAMES, bytes: names(&skipped, &all), gap: 0 });

@@ -1,0 +1,57 @@
+//! The original's decoding, containment and lookups, as a voice.
+
+use super::opening::{Opened, said};
+use crate::rules::Said;
+use crate::voice::{Answer, Question, Voice};
+
+impl Opened<'_> {
+    /// The original's list grows; document 01's room is looked at here, in its order.
+    fn decode(&self, chunk: u32, room: u64) -> Said<Vec<i64>> {
+        let record = said(|| self.reader.chunk_at(chunk))?;
+        if 2 * u64::from(record.count) > room {
+            return Err(46);
+        }
+        let mut points = Vec::new();
+        said(|| self.reader.decode_chunk_points(chunk, record, &mut points))?;
+        Ok(points.into_iter().flat_map(|p| [p.x.into(), p.y.into()]).collect())
+    }
+
+    /// Added for scanners by document 01, over the original's walk.
+    fn contains(&self, zone: u32, x: i32, y: i32) -> Said<bool> {
+        if zone >= self.reader.timezone_count() {
+            return Err(45);
+        }
+        if x.unsigned_abs() > 18_000_000 || y.unsigned_abs() > 9_000_000 {
+            return Ok(false);
+        }
+        said(|| self.reader.ask_contains(zone, x.into(), y.into()))
+    }
+
+    fn lookup_into(&self, lng: f64, lat: f64, places: u64) -> Said<Vec<u64>> {
+        let mut found = Vec::new();
+        said(|| self.reader.lookup_into(lng, lat, &mut found))?;
+        if found.len() as u64 > places {
+            return Err(46);
+        }
+        Ok(found.into_iter().map(u64::from).collect())
+    }
+}
+
+impl Voice for Opened<'_> {
+    fn ask(&self, question: Question) -> Option<Said<Answer>> {
+        Some(match question {
+            Question::Decode(chunk, room) => self.decode(chunk, room).map(Answer::Points),
+            Question::Contains(zone, x, y) => self.contains(zone, x, y).map(Answer::Is),
+            Question::ContainsAt(zone, x, y) => {
+                said(|| self.reader.ask_contains(zone, x, y)).map(Answer::Is)
+            }
+            Question::Lookup(lng, lat) => {
+                let zone = said(|| self.reader.lookup(lng, lat));
+                zone.map(|zone| Answer::Zone(zone.map(u64::from)))
+            }
+            Question::LookupInto(lng, lat, places) => {
+                self.lookup_into(lng, lat, places).map(Answer::Zones)
+            }
+        })
+    }
+}
