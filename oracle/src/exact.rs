@@ -85,13 +85,6 @@ impl Exact {
                 && !rings[1..].iter().any(|hole| inside(hole, p))
         })
     }
-
-    /// All segments of a zone.
-    pub fn segments(&self, zone: usize) -> impl Iterator<Item = [(i32, i32); 2]> {
-        let whole = |(x, y): Place| (x as i32, y as i32);
-        let rings = self.zones[zone].iter().flatten().flatten();
-        rings.map(move |&(a, b)| [whole(a), whole(b)])
-    }
 }
 
 /// The segments between neighbours, and from each end to the next start, round to the first, wherever the two differ.

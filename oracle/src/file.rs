@@ -11,7 +11,7 @@ mod shape;
 pub mod smaller;
 
 pub use cases::cases;
-pub use examples::{bases, kinds, least, marked};
+pub use examples::{bases, chunks, departing, kinds, least, marked};
 pub use grid::Grid;
 pub use shape::{Chunks, Op, Shape};
 
@@ -156,18 +156,24 @@ pub fn names(skipped: &[u8], all: &[Vec<u8>]) -> Vec<u8> {
 /// A valid file, of every kind: 1 to 4 zones, GRID or none, unknown and empty sections, gaps, any order.
 pub fn some(random: &mut Random) -> Draft {
     let shape = Shape::some(random);
-    around(random, &shape, false)
+    around(random, &shape, false, Grid::some)
 }
 
 /// A valid file whose zones lie on a small lattice. Now and then all have the same name.
 pub fn on_lattice(random: &mut Random) -> Draft {
     let shape = Shape::on_lattice(random);
     let alike = random.below(8) == 0;
-    around(random, &shape, alike)
+    let cell = shape.cell();
+    around(random, &shape, alike, |random, zones| Grid::over(random, zones, cell))
 }
 
-/// A file with these zones.
-fn around(random: &mut Random, shape: &Shape, alike: bool) -> Draft {
+/// A file with these zones; their names are alike or not.
+fn around(
+    random: &mut Random,
+    shape: &Shape,
+    alike: bool,
+    grid: impl Fn(&mut Random, usize) -> Grid,
+) -> Draft {
     let zones = shape.zones.len();
     let mut parts = shape.parts();
     let text = |random: &mut Random| {
@@ -182,7 +188,7 @@ fn around(random: &mut Random, shape: &Shape, alike: bool) -> Draft {
     let skipped = random.bytes(skipped);
     parts.push(Part { typ: NAMES, bytes: names(&skipped, &all), gap: 0 });
     if random.below(3) > 0 {
-        parts.push(Part { typ: GRID, bytes: Grid::some(random, zones).bytes(), gap: 0 });
+        parts.push(Part { typ: GRID, bytes: grid(random, zones).bytes(), gap: 0 });
     }
     if random.below(3) == 0 {
         let length = random.below(20);

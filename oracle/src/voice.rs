@@ -35,9 +35,7 @@ impl Voice for Judge<'_> {
                 self.opened.decode(chunk.into(), room).map(Answer::Points)
             }
             Question::Contains(zone, x, y) => self.contains(zone.into(), x, y).map(Answer::Is),
-            Question::ContainsAt(zone, x, y) => {
-                self.contains_at(zone.into(), x, y).map(Answer::Is)
-            }
+            Question::ContainsAt(zone, x, y) => self.contains_at(zone.into(), x, y).map(Answer::Is),
             Question::Lookup(lng, lat) => self.lookup(lng, lat).map(Answer::Zone),
             Question::LookupInto(lng, lat, places) => {
                 self.lookup_into(lng, lat, places).map(Answer::Zones)

@@ -23,6 +23,7 @@ const FEW: usize = 60;
 pub fn run(seconds: u64, seed: u64) {
     println!("seed {seed}, random files for {seconds} s");
     let mut met = Met::default();
+    fixed(&mut met);
     let mut random = Random::new(seed);
     let start = Instant::now();
     while start.elapsed() < Duration::from_secs(seconds) {
@@ -42,6 +43,20 @@ pub fn run(seconds: u64, seed: u64) {
     met.make_small();
     met.print();
     println!("no difference but the known ones");
+}
+
+/// Files whose answers are read off document 01 by hand: the rules must say the same.
+fn fixed(met: &mut Met) {
+    for (rule, file) in file::departing() {
+        assert_eq!(rules::open(&file, &[]).ok().unwrap().lowest_broken().unwrap_or(0), rule);
+        judge(met, &file, MANY);
+    }
+    for (i, (number, file)) in file::chunks().into_iter().enumerate() {
+        let decoded = rules::open(&file, &[]).ok().unwrap().decode(0, u64::MAX);
+        assert_eq!(decoded.err().unwrap_or(0), number, "chunk {i}");
+        judge(met, &file, MANY);
+    }
+    file::kinds().iter().for_each(|file| judge(met, file, MANY));
 }
 
 /// Puts all questions to a file that all voices open.
@@ -64,9 +79,7 @@ fn stop(file: &[u8], difference: Difference, most: usize) -> ! {
         panel.ask_all(questions::of(panel.opened(), most)).err()
     };
     let small = match file.len() {
-        0..5000 => {
-            super::smallest(file.to_vec(), |f| smaller::files(f), |f| differs(f).is_some())
-        }
+        0..5000 => super::smallest(file.to_vec(), |f| smaller::files(f), |f| differs(f).is_some()),
         _ => file.to_vec(),
     };
     if let Some(difference) = differs(&small) {

@@ -125,6 +125,12 @@ impl Shape {
         all.fold(Bounds::NONE, Bounds::and).wider(self.slack)
     }
 
+    /// The cell of a point of the first group, in degrees.
+    pub fn cell(&self) -> (i32, i32) {
+        let (x, y) = self.groups[0].0[0][0];
+        (x.div_euclid(100_000), y.div_euclid(100_000))
+    }
+
     pub fn parts(&self) -> Vec<Part> {
         let [tzdir, polydir, ringdir, ringops] = self.upper();
         let [groupdir, chunkdir, points] = self.lower();
@@ -370,7 +376,8 @@ impl Shape {
         let mut ring: Ring = Vec::new();
         let mut rest = &points[..];
         for left in (0..groups).rev() {
-            let take = if left == 0 { rest.len() } else { 2 + random.below(rest.len() - 1 - 2 * left) };
+            let take =
+                if left == 0 { rest.len() } else { 2 + random.below(rest.len() - 1 - 2 * left) };
             let (run, after) = rest.split_at(take.min(rest.len()));
             rest = after;
             let mut run = run.to_vec();
@@ -381,7 +388,8 @@ impl Shape {
             if turned {
                 run.reverse();
             }
-            let chunks = if random.below(3) == 0 { run.len() } else { 1 + random.below(run.len().min(4)) };
+            let chunks =
+                if random.below(3) == 0 { run.len() } else { 1 + random.below(run.len().min(4)) };
             let group = self.add_group(Chunks(cut(random, &run, chunks)));
             ring.push(Op { group, turned });
         }

@@ -84,12 +84,10 @@ impl Opened<'_> {
         let polygon = |i: u64| self.polygon_at(i).unwrap();
         let zone = |i: u64| self.zone_at(i).unwrap();
         let all = |of: records::Parent| of.first..of.first + of.count;
-        (0..self.rings()).all(|i| {
-            all(ring(i)).all(|op| ring(i).bounds.covers(group(op).bounds))
-        }) && (0..self.polygons()).all(|i| {
-            all(polygon(i)).all(|below| polygon(i).bounds.covers(ring(below).bounds))
-        }) && (0..self.zones).all(|i| {
-            all(zone(i)).all(|below| zone(i).bounds.covers(polygon(below).bounds))
-        })
+        (0..self.rings()).all(|i| all(ring(i)).all(|op| ring(i).bounds.covers(group(op).bounds)))
+            && (0..self.polygons())
+                .all(|i| all(polygon(i)).all(|below| polygon(i).bounds.covers(ring(below).bounds)))
+            && (0..self.zones)
+                .all(|i| all(zone(i)).all(|below| zone(i).bounds.covers(polygon(below).bounds)))
     }
 }

@@ -49,8 +49,8 @@ pub struct Outcome {
     pub broken: Option<u32>,
     pub questions: u64,
     pub exact: u64,
-    /// How often each answer was given by document 01: by kind and number, 0 if answered.
-    pub answers: Vec<(&'static str, u32)>,
+    /// Document 01's answers: the kind of question, and the number of the refusal or what was answered.
+    pub answers: Vec<(&'static str, String)>,
     pub known: Vec<Known>,
 }
 
@@ -61,6 +61,20 @@ fn kind(question: Question) -> &'static str {
         Question::ContainsAt(..) => "contains, floats",
         Question::Lookup(..) => "lookup",
         Question::LookupInto(..) => "lookup_into",
+    }
+}
+
+fn in_short(answer: &Said<Answer>) -> String {
+    match answer {
+        Err(n) => format!("{n}"),
+        Ok(Answer::Points(_)) => "points".to_string(),
+        Ok(Answer::Is(is)) => if *is { "yes" } else { "no" }.to_string(),
+        Ok(Answer::Zone(zone)) => if zone.is_some() { "a zone" } else { "none" }.to_string(),
+        Ok(Answer::Zones(zones)) => match zones.len() {
+            0 => "none".to_string(),
+            1 => "one zone".to_string(),
+            _ => "several zones".to_string(),
+        },
     }
 }
 
@@ -101,7 +115,7 @@ impl<'a> Panel<'a> {
         for question in questions {
             let document = self.rules(&[], question);
             out.questions += 1;
-            out.answers.push((kind(question), document.as_ref().err().copied().unwrap_or(0)));
+            out.answers.push((kind(question), in_short(&document)));
             for speaker in &self.speakers {
                 let rules = match speaker.departures {
                     [] => document.clone(),

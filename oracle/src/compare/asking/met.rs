@@ -6,6 +6,10 @@ use crate::compare::smallest;
 use crate::file::smaller;
 use crate::known::OF_ASKING;
 use std::collections::BTreeMap;
+use std::time::{Duration, Instant};
+
+/// So many seconds are spent on making one file small.
+const SHRINKING: u64 = 10;
 
 #[derive(Default)]
 pub struct Met {
@@ -14,7 +18,7 @@ pub struct Met {
     files: BTreeMap<u32, u64>,
     questions: u64,
     exact: u64,
-    answers: BTreeMap<(&'static str, u32), u64>,
+    answers: BTreeMap<(&'static str, String), u64>,
     known: [Smallest; OF_ASKING.len()],
 }
 
@@ -33,17 +37,22 @@ fn keep(place: &mut Option<Vec<u8>>, file: &[u8]) {
     }
 }
 
-/// The first question of the file that shows this difference and no other.
+/// Whether only this difference was met, and where document 01 has an answer.
+fn tells(known: &[Known], which: usize) -> bool {
+    known.iter().all(|k| k.which == which) && known.iter().any(|k| k.document.is_ok())
+}
+
+/// The first question of the file that shows this difference, where it shows no other.
 fn shown(file: &[u8], which: usize, accepted: bool) -> Option<Known> {
     let panel = Panel::of(file)?;
     if accepted && panel.broken.is_some() {
         return None;
     }
     let known = panel.ask_all(questions::of(panel.opened(), FEW)).ok()?.known;
-    if known.iter().any(|k| k.which != which) {
+    if !tells(&known, which) {
         return None;
     }
-    known.into_iter().next()
+    known.into_iter().find(|k| k.document.is_ok())
 }
 
 impl Met {
@@ -54,23 +63,28 @@ impl Met {
         for answer in outcome.answers {
             *self.answers.entry(answer).or_default() += 1;
         }
-        for known in outcome.known {
+        for known in &outcome.known {
             let of = &mut self.known[known.which];
+            let accepted = outcome.broken.is_none();
             of.met += 1;
-            keep(&mut of.any, file);
-            if outcome.broken.is_none() {
-                of.met_in_accepted += 1;
-                keep(&mut of.accepted, file);
+            of.met_in_accepted += u64::from(accepted);
+            if tells(&outcome.known, known.which) {
+                keep(&mut of.any, file);
+                if accepted {
+                    keep(&mut of.accepted, file);
+                }
             }
         }
     }
 
-    /// Makes the smallest files smaller still.
+    /// Makes the smallest files smaller still, as far as there is time.
     pub fn make_small(&mut self) {
         for (which, of) in self.known.iter_mut().enumerate() {
             for (place, accepted) in [(&mut of.any, false), (&mut of.accepted, true)] {
                 if let Some(file) = place.take() {
-                    let shows = |f: &Vec<u8>| shown(f, which, accepted).is_some();
+                    let end = Instant::now() + Duration::from_secs(SHRINKING);
+                    let shows =
+                        |f: &Vec<u8>| Instant::now() < end && shown(f, which, accepted).is_some();
                     *place = Some(smallest(file, |f| smaller::files(f), shows));
                 }
             }
@@ -87,11 +101,8 @@ impl Met {
         println!("{:>12}  files passed over: a side does not open them", self.passed_over);
         println!("{:>12}  questions", self.questions);
         println!("{:>12}  of them held against exact geometry", self.exact);
-        for ((kind, number), count) in &self.answers {
-            match number {
-                0 => println!("{count:>12}  {kind}: answered"),
-                _ => println!("{count:>12}  {kind}: {number}"),
-            }
+        for ((kind, answer), count) in &self.answers {
+            println!("{count:>12}  {kind}: {answer}");
         }
         for (which, (known, of)) in OF_ASKING.iter().zip(&self.known).enumerate() {
             println!(
@@ -108,7 +119,9 @@ impl Met {
                     if let Some(Known { question, document, original, .. }) =
                         shown(file, which, accepted)
                     {
-                        println!("    {question:?}: document 01 {document:?}, original {original:?}");
+                        println!(
+                            "    {question:?}: document 01 {document:?}, original {original:?}"
+                        );
                     }
                     println!("    {}", hex(file));
                 }

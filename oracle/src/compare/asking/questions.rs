@@ -33,7 +33,8 @@ pub fn of(o: &Opened, most: usize) -> Vec<Question> {
     }
     out.extend([(18_000_001, 0), (0, -9_000_001)].map(|(x, y)| Question::Contains(0, x, y)));
     out.push(Question::Contains(o.zones as u32, i32::MIN, 0));
-    for (lng, lat) in spread(&positions(&whole), most).into_iter().chain(telling(o)) {
+    let positions = spread(&positions(&whole), most).into_iter();
+    for (lng, lat) in positions.chain(spread(&telling(o), most / 4)) {
         out.push(Question::Lookup(lng, lat));
         let places = [u64::MAX, 0, 1];
         out.extend(places.map(|places| Question::LookupInto(lng, lat, places)));
@@ -71,16 +72,15 @@ fn places(o: &Opened, lines: &[Vec<Place>]) -> Vec<Place> {
         marks.extend([(minx, miny), (maxx, maxy), (minx, maxy), (maxx, miny)]);
     }
     let Some(&(x, y)) = marks.first() else { return marks };
-    let span = marks.iter().fold([x, y, x, y], |[a, b, c, d], &(x, y)| {
-        [a.min(x), b.min(y), c.max(x), d.max(y)]
-    });
+    let span = marks
+        .iter()
+        .fold([x, y, x, y], |[a, b, c, d], &(x, y)| [a.min(x), b.min(y), c.max(x), d.max(y)]);
     if span[2] - span[0] < 24 && span[3] - span[1] < 24 {
         let columns = span[0] - 2..=span[2] + 2;
         return columns.flat_map(|x| (span[1] - 2..=span[3] + 2).map(move |y| (x, y))).collect();
     }
-    let beside = |(x, y): Place| {
-        (-1..=1).flat_map(move |dx| (-1..=1).map(move |dy| (x + dx, y + dy)))
-    };
+    let beside =
+        |(x, y): Place| (-1..=1).flat_map(move |dx| (-1..=1).map(move |dy| (x + dx, y + dy)));
     marks.into_iter().flat_map(beside).collect()
 }
 
@@ -89,7 +89,8 @@ fn floats(lines: &[Vec<Place>]) -> Vec<(f64, f64)> {
     let mut out = Vec::new();
     for line in lines {
         for ends in line.windows(2) {
-            let [(ax, ay), (bx, by)] = [ends[0], ends[1]].map(|(x, y)| (f64::from(x), f64::from(y)));
+            let [(ax, ay), (bx, by)] =
+                [ends[0], ends[1]].map(|(x, y)| (f64::from(x), f64::from(y)));
             out.extend([(ax.next_up(), ay), (ax.next_down(), ay)]);
             out.extend([(ax, ay.next_up()), (ax, ay.next_down()), (ax + 0.5, ay + 0.5)]);
             out.extend([(ax - 0.25, ay), (ax, ay + 0.125)]);
