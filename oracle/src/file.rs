@@ -2,6 +2,7 @@
 
 #[cfg(test)]
 mod accepted;
+pub mod broken;
 mod cases;
 pub mod damage;
 mod examples;

@@ -16,7 +16,7 @@ use std::path::Path;
 use std::time::{Duration, Instant};
 
 /// How many questions of each kind are put: to a valid file, and to a damaged one.
-const MANY: usize = 700;
+const MANY: usize = 1000;
 const FEW: usize = 60;
 
 /// Valid files first, each with damages that it still opens with, until the time is over.
@@ -54,6 +54,11 @@ fn fixed(met: &mut Met) {
     for (i, (number, file)) in file::chunks().into_iter().enumerate() {
         let decoded = rules::open(&file, &[]).ok().unwrap().decode(0, u64::MAX);
         assert_eq!(decoded.err().unwrap_or(0), number, "chunk {i}");
+        judge(met, &file, MANY);
+    }
+    for (i, (rule, file)) in file::broken::files().into_iter().enumerate() {
+        let broken = full_check(&file).err().map_or(0, |broken| broken.rule);
+        assert_eq!(broken, rule, "file {i} that breaks a rule");
         judge(met, &file, MANY);
     }
     file::kinds().iter().for_each(|file| judge(met, file, MANY));
@@ -108,10 +113,17 @@ pub fn one(path: &Path, seconds: u64, seed: u64) {
     ask((0..opened.chunks() as u32 + 1).map(|i| Question::Decode(i, u64::MAX)).collect());
     let judge = rules::Judge { opened, original: &[] };
     let mut random = Random::new(seed);
+    let chunks = opened.chunks();
+    let (first, mut swept) = (random.below(chunks as usize) as u64, 0);
     let start = Instant::now();
     while start.elapsed() < Duration::from_secs(seconds) {
         ask((0..100).flat_map(|_| questions::at_random(&judge, &mut random)).collect());
+        if swept < chunks {
+            ask(questions::along(&judge, (first + swept) % chunks));
+            swept += 1;
+        }
     }
+    println!("{swept:>12}  of {chunks} chunks: on and beside every point and edge");
     met.print();
     println!("no difference but the known ones");
 }

@@ -159,6 +159,23 @@ pub fn at_random(judge: &Judge, random: &mut Random) -> Vec<Question> {
     out
 }
 
+/// On and beside every point and the middle of every edge of a chunk, in the zones listed there.
+pub fn along(judge: &Judge, chunk: u64) -> Vec<Question> {
+    let whole = |(x, y): (i64, i64)| (x as i32, y as i32);
+    let points: Vec<Place> = judge.opened.readable(chunk).into_iter().map(whole).collect();
+    let middles = points.windows(2).map(|ends| middle(ends[0], ends[1]));
+    let beside = [(0, 0), (1, 0), (0, 1), (-1, 0), (0, -1)];
+    let mut out = Vec::new();
+    for (x, y) in points.iter().copied().chain(middles) {
+        let (lng, lat) = (f64::from(x) / 100_000.0, f64::from(y) / 100_000.0);
+        out.extend([Question::Lookup(lng, lat), Question::LookupInto(lng, lat, u64::MAX)]);
+        for zone in judge.lookup_into(lng, lat, u64::MAX).unwrap_or_default() {
+            out.extend(beside.map(|(dx, dy)| Question::Contains(zone as u32, x + dx, y + dy)));
+        }
+    }
+    out
+}
+
 /// A point of a chunk, or one on the way to the next.
 fn on_border(o: &Opened, random: &mut Random) -> Place {
     let points = o.readable(random.below(o.chunks() as usize) as u64);
