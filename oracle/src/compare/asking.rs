@@ -2,7 +2,7 @@
 
 mod ask;
 mod met;
-mod questions;
+pub mod questions;
 
 use super::files::DIFFERENCE;
 use crate::file::damage::Aim;
