@@ -89,10 +89,19 @@ impl<'a> Panel<'a> {
             None => Some(Exact::of(&opened).expect("an accepted file decodes")),
             Some(_) => None,
         };
-        // A further voice comes in as one more speaker; the port's departures are none.
-        let original =
-            Speaker { name: "the original", voice: Box::new(original), departures: &EVERY };
-        Some(Self { opened, speakers: vec![original], exact, broken })
+        let mut panel = Self { opened, speakers: Vec::new(), exact, broken };
+        panel.let_speak("the original", original, &EVERY);
+        Some(panel)
+    }
+
+    /// A further voice, with the departures by which the rules judge it: for the port none.
+    pub fn let_speak(
+        &mut self,
+        name: &'static str,
+        voice: impl Voice + 'a,
+        departures: &'static [Departure],
+    ) {
+        self.speakers.push(Speaker { name, voice: Box::new(voice), departures });
     }
 
     pub fn opened(&self) -> &Opened<'a> {
@@ -182,5 +191,57 @@ impl<'a> Panel<'a> {
                 out.push(Known { which, question, document, original });
             }
         }
+    }
+}
+
+#[cfg(test)]
+mod tests {
+    use super::Panel;
+    use crate::compare::asking::questions;
+    use crate::file::broken;
+    use crate::rules::{Judge, Said, open};
+    use crate::voice::{Answer, Question, Voice};
+
+    /// The rules, with their answers changed.
+    struct Changed<'a>(Judge<'a>, fn(Said<Answer>) -> Said<Answer>);
+
+    impl Voice for Changed<'_> {
+        fn ask(&self, question: Question) -> Option<Said<Answer>> {
+            self.0.ask(question).map(self.1)
+        }
+    }
+
+    fn is_found_out(change: fn(Said<Answer>) -> Said<Answer>) -> bool {
+        let file = broken::whole();
+        let mut panel = Panel::of(&file).unwrap();
+        let opened = open(&file, &[]).ok().unwrap();
+        panel.let_speak("another", Changed(Judge { opened, original: &[] }, change), &[]);
+        let all = questions::of(panel.opened(), 1000);
+        panel.ask_all(all).is_err()
+    }
+
+    #[test]
+    fn a_voice_that_says_something_else_is_found_out() {
+        assert!(!is_found_out(|answer| answer));
+        assert!(is_found_out(|answer| match answer {
+            Ok(Answer::Is(_)) => Ok(Answer::Is(false)),
+            other => other,
+        }));
+        assert!(is_found_out(|answer| match answer {
+            Ok(Answer::Is(_)) => Ok(Answer::Is(true)),
+            other => other,
+        }));
+        assert!(is_found_out(|answer| match answer {
+            Ok(Answer::Points(_)) => Ok(Answer::Points(Vec::new())),
+            other => other,
+        }));
+        assert!(is_found_out(|answer| match answer {
+            Ok(Answer::Zone(_)) => Ok(Answer::Zone(None)),
+            other => other,
+        }));
+        assert!(is_found_out(|answer| match answer {
+            Err(46) => Ok(Answer::Zones(Vec::new())),
+            other => other,
+        }));
     }
 }
