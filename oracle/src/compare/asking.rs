@@ -70,6 +70,7 @@ fn judge(met: &mut Met, file: &[u8], most: usize) {
         met.passed_over += 1;
         return;
     };
+    met.add_file(panel.broken);
     match panel.ask_all(questions::of(panel.opened(), most)) {
         Ok(outcome) => met.add(file, outcome),
         Err(difference) => stop(file, difference, most),
@@ -106,6 +107,7 @@ pub fn one(path: &Path, seconds: u64, seed: u64) {
     let panel = Panel::of(&file).expect("a file that opens");
     let opened = *panel.opened();
     let mut met = Met::default();
+    met.add_file(panel.broken);
     let mut ask = |all: Vec<Question>| match panel.ask_all(all) {
         Ok(outcome) => met.add(&file, outcome),
         Err(difference) => stop(&file, difference, 0),

@@ -56,8 +56,12 @@ fn shown(file: &[u8], which: usize, accepted: bool) -> Option<Known> {
 }
 
 impl Met {
+    pub fn add_file(&mut self, broken: Option<u32>) {
+        *self.files.entry(broken.unwrap_or(0)).or_default() += 1;
+    }
+
+    /// The questions of one file, or some of them.
     pub fn add(&mut self, file: &[u8], outcome: Outcome) {
-        *self.files.entry(outcome.broken.unwrap_or(0)).or_default() += 1;
         self.questions += outcome.questions;
         self.exact += outcome.exact;
         for answer in outcome.answers {
