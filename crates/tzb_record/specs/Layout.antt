@@ -7,7 +7,7 @@ use mathlib.Core.List.{List, _++_}
 use lib.ListN.{length, drop}
 use lib.IntN.{ℤ}
 use mir.Syntax.{w16}
-use mir.Val.{toZ, ofZ}
+use mir.Val.{toZ, ofZ, SFits}
 use Rattle.fields.specs.Le.{le}
 use Rattle.answer.specs.declared.Refusal.{Refusal}
 use Rattle.answer.specs.declared.Checked.{Checked}
@@ -96,6 +96,31 @@ roomFor room = claim 46 (atMost 84 (length room))
 unfoldable pub written : Opened → List ℕ → List ℕ
 written o room = cond (atMost 84 (length room)) (bytesOf o ++ drop 84 room) room
 
+-- a record whose fields lie in their widths, as every record of the code does
+pub record HeldPair (a b : ℕ) : Type 0 where
+  pub one : a < 0x1_0000_0000
+  pub two : b < 0x1_0000_0000
+
+pub record HeldGrid (g : Grid) : Type 0 where
+  pub off : g .off < 0x1_0000_0000
+  pub lng : SFits w16 (g .lng)
+  pub lat : SFits w16 (g .lat)
+  pub cols : g .cols < 0x1_0000
+  pub rows : g .rows < 0x1_0000
+  pub total : g .total < 0x1_0000_0000
+
+pub record Held (o : Opened) : Type 0 where
+  pub flags : o .flags < 0x1_0000_0000
+  pub names : HeldPair (o .names .off) (o .names .len)
+  pub zones : HeldPair (o .zones .off) (o .zones .count)
+  pub polys : HeldPair (o .polys .off) (o .polys .count)
+  pub rings : HeldPair (o .rings .off) (o .rings .count)
+  pub ops : HeldPair (o .ops .off) (o .ops .count)
+  pub groups : HeldPair (o .groups .off) (o .groups .count)
+  pub chunks : HeldPair (o .chunks .off) (o .chunks .count)
+  pub points : HeldPair (o .points .off) (o .points .len)
+  pub grid : HeldGrid (o .grid)
+
 -- what the enum of the code says
 abbrev pub told : RecordRead → Answer Opened
 told (R.Is o) = ok o
@@ -103,6 +128,12 @@ told (R.Refused k) = refused k
 
 -- ---- laws
 module _ (s : List ℕ) where
+  pub section-is : (p x y : ℕ) → x ≡ le 4 s p → y ≡ le 4 s (p + 4) → record { off = x; len = y } ≡ sectionIn s p
+  section-is p x y ex ey = rw (ex, ey)
+
+  pub directory-is : (p x y : ℕ) → x ≡ le 4 s p → y ≡ le 4 s (p + 4) → record { off = x; count = y } ≡ directoryIn s p
+  directory-is p x y ex ey = rw (ex, ey)
+
   pub grid-is : (p : ℕ) (f : ℕ) (x y : ℤ) (c r t : ℕ) → f ≡ le 4 s p → x ≡ toZ w16 (le 2 s (p + 4)) → y ≡ toZ w16 (le 2 s (p + 6))
       → c ≡ le 2 s (p + 8) → r ≡ le 2 s (p + 10) → t ≡ le 4 s (p + 12) → record { off = f; lng = x; lat = y; cols = c; rows = r; total = t } ≡ gridIn s p
   grid-is p f x y c r t ef ex ey ec er et = rw (ef, ex, ey, ec, er, et)

@@ -128,7 +128,11 @@ fn bits16(z: i16) -> u16
     ensures { λ r. ⌜ r ≡ ofZ w16 z ⌝ }
 {
     // !z is -1 - z
-    if z < 0 { 0xffff - ((!z) as u16) } else { z as u16 }
+    if z < 0 {
+        0xffff - ((!z) as u16)
+    } else {
+        z as u16
+    }
 }
 
 fn put_i16(out: &mut [u8], at: usize, z: i16)
