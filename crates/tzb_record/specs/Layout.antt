@@ -1,8 +1,9 @@
 -- The opened record as 84 bytes, little-endian, its fields in the order of the struct, so that a caller in another language keeps it and asks with it.
 -- Assumes nothing.
 use Prim.Native.Nat.{ℕ, _+_, _≤_, _<_}
-use mathlib.Core.Path.{_≡_, sym, ap, _∙_}
-use mathlib.Core.Bool.{cond}
+use mathlib.Core.Path.{_≡_, refl, sym, ap, _∙_}
+use native.Mathlib.Omega.{arith}
+use mathlib.Core.Bool.{Bool, true, false, cond}
 use mathlib.Core.List.{List, _++_}
 use lib.ListN.{length, drop}
 use lib.IntN.{ℤ}
@@ -11,7 +12,7 @@ use mir.Val.{toZ, ofZ, SFits}
 use Rattle.fields.specs.Le.{le}
 use Rattle.answer.specs.declared.Refusal.{Refusal}
 use Rattle.answer.specs.declared.Checked.{Checked}
-use Rattle.answer.specs.declared.Checked.the-variants.{Fine}
+use Rattle.answer.specs.declared.Checked.the-variants.{Fine, Refused}
 use Rattle.answer.specs.Refusals.{refusal}
 use Rattle.answer.specs.Answers.{Answer, ok, refused, need, need-met, need-not}
 use Rattle.answer.specs.Checks.{failed, claim, atMost, same}
@@ -163,3 +164,12 @@ module _ (o : Opened) (room : List ℕ) where
   into-room after f =
       let h : 84 ≤ length room = f .room in
       (sym (yes 46 _ (le-at 84 (length room) h)), f .is ∙ rw (le-at 84 (length room) h))
+
+  -- a refusal leaves all as it was
+  pub written-not : (k : Refusal) → Refused k ≡ roomFor room → written o room ≡ room
+  unfolding roomFor written claim
+  written-not k e = go (atMost 84 (length room)) e
+    where
+      go : (b : Bool) → Refused k ≡ claim 46 b → cond b (bytesOf o ++ drop 84 room) room ≡ room
+      go true f = let no : _≡_ {A = ℕ} 0 1 = cc in absurd (omega arith)
+      go false f = refl
