@@ -1,11 +1,11 @@
--- `tzb_try_listed` meets its contract: what each case holds.
+-- `tzb_listed` meets its contract: what each case holds.
 -- Assumes nothing.
 use mathlib.Core.Path.{sym, ap, ap₂, _∙_}
 use Prim.Native.Nat.{ℕ, _+_, _*_}
-use Rattle.tzb_c.specs.Tries.{choiceTold, listedOf}
+use Rattle.tzb_c.specs.Asked.{choiceTold, listedOf}
 use borrow.Author.Needs.{needs}
-use Rattle.tzb_c.proofs.tzb_try_listed.Statement.{statement}
-use Rattle.tzb_c.proofs.tzb_try_listed.Tie as tie
+use Rattle.tzb_c.proofs.tzb_listed.Statement.{statement}
+use Rattle.tzb_c.proofs.tzb_listed.Tie as tie
 
 choice-of-requires : tie.Need-choice-of-requires
 choice-of-requires c κs = search needs
@@ -49,8 +49,8 @@ returns-3 c = ap₂ (λ (m n : ℕ). m * 0x1_0000_0000 + n) (c .before .wide2 .e
 returns-4 : tie.Need-returns-4
 returns-4 c = ap listedOf (sym (ap choiceTold (c .enum-told2 .given .1)) ∙ c .before .before .choice-of .ensures)
 
-pub tzb-try-listed-spec : {M : Type 1} → statement M
-tzb-try-listed-spec =
+pub tzb-listed-spec : {M : Type 1} → statement M
+tzb-listed-spec =
     tie.close
     (tie.spec
     choice-of-requires
