@@ -12,7 +12,7 @@ mod shape;
 pub mod smaller;
 
 pub use cases::cases;
-pub use examples::{bases, chunks, departing, kinds, least, marked};
+pub use examples::{at_the_shortcuts_ends, bases, chunks, departing, kinds, least, marked};
 pub use grid::Grid;
 pub use shape::{Chunks, Op, Shape};
 

@@ -61,6 +61,7 @@ fn fixed(met: &mut Met) {
         assert_eq!(broken, rule, "file {i} that breaks a rule");
         judge(met, &file, MANY);
     }
+    file::at_the_shortcuts_ends().iter().for_each(|file| judge(met, file, MANY));
     file::kinds().iter().for_each(|file| judge(met, file, MANY));
 }
 

@@ -233,3 +233,16 @@ pub fn chunks() -> Vec<(u32, Vec<u8>)> {
     };
     OF_POINTS.into_iter().map(with).collect()
 }
+
+/// Grids of two cells with one candidate each, on either side of where the shortcut ends. The zone is a point at 0, 0.
+pub fn at_the_shortcuts_ends() -> Vec<Vec<u8>> {
+    let spans = [(-180, 0, 2, 1), (178, 0, 2, 1), (0, -90, 1, 2), (0, 88, 1, 2)];
+    let with = |(lng, lat, columns, rows): (i16, i16, u16, u16)| {
+        let mut draft = one_zone(Chunks(vec![vec![(0, 0); 4]]), usize::MAX, true);
+        let part = draft.parts.iter_mut().find(|part| part.typ == GRID).unwrap();
+        let (words, candidates) = (vec![1 << 28; 2], vec![0]);
+        part.bytes = Grid { lng, lat, columns, rows, words, candidates }.bytes();
+        draft.lay()
+    };
+    spans.map(with).to_vec()
+}
