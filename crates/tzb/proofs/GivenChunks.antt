@@ -53,7 +53,7 @@ module _ (file : List ℕ) (o : Opened) (opened : ok o ≡ openOf file) (i : ℕ
           }
 
   -- the bytes between
-  pub chunkBytes : List ℕ
+  unfoldable pub chunkBytes : List ℕ
   chunkBytes = part file (startOf o (chunkOf file (o .chunks) i)) (chunk-ends .end)
 
   spanned : ok chunkBytes ≡ span file (startOf o (chunkOf file (o .chunks) i)) (chunk-ends .end)
