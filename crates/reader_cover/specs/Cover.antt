@@ -19,7 +19,7 @@ use Rattle.reader_records.specs.declared.ChunkRecord.{ChunkRecord}
 use Rattle.reader_records.specs.Records.{polyAt, ringAt, opAt, groupAt, chunkAt, countRule}
 use Rattle.reader_chunks.specs.Chunks.{firstAt, chunkPoints}
 use Rattle.reader_cover.specs.Holds.{holds, all}
-use Rattle.reader_cover.specs.Boxes.{inBox, covers}
+use Rattle.shapes.specs.Shapes.{inBox, covers}
 use Rattle.reader_cover.specs.declared.Part.{Part}
 use Rattle.reader_cover.specs.declared.Part.the-variants as P
 

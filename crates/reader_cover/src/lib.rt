@@ -2,7 +2,7 @@
 ghost use mathlib.Core.Path.{_≡_};
 ghost use Rattle.reader_records.specs.Records.{toldGroup};
 ghost use Rattle.reader_cover.specs.Holds.{all};
-ghost use Rattle.reader_cover.specs.Boxes.{inBox, covers};
+ghost use Rattle.shapes.specs.Shapes.{inBox, covers};
 ghost use Rattle.reader_cover.specs.Cover.{opGroup, pointsAdd, partFits};
 use plane::I32Point;
 use reader_opened::Opened;

@@ -1,6 +1,6 @@
 -- `reader_cover::covers` meets its contract: the four comparisons of the definition.
 -- Assumes nothing.
-use Rattle.reader_cover.specs.Boxes.{covers}
+use Rattle.shapes.specs.Shapes.{covers}
 use borrow.Author.Needs.{needs}
 use Rattle.reader_cover.proofs.covers.Statement.{statement}
 use Rattle.reader_cover.proofs.covers.Tie as tie

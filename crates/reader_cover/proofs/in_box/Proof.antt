@@ -1,6 +1,6 @@
 -- `reader_cover::in_box` meets its contract: the four comparisons of the definition.
 -- Assumes nothing.
-use Rattle.reader_cover.specs.Boxes.{inBox}
+use Rattle.shapes.specs.Shapes.{inBox}
 use borrow.Author.Needs.{needs}
 use Rattle.reader_cover.proofs.in_box.Statement.{statement}
 use Rattle.reader_cover.proofs.in_box.Tie as tie
