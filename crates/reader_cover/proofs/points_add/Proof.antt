@@ -32,7 +32,7 @@ returns : tie.Need-returns Inv-loop μ-loop
 returns c =
     let n = c .before .before in
     let l = n .before .before .loop in
-    adds-no _ _ _ _ _ _ _ (l .inv .3) (n .before .loop-test .taken) _ (sym (ap toldGroup (c .enum-told .given .1)) ∙ n .op-group .ensures)
+    adds-no _ _ _ _ _ _ _ (l .inv .3) (omega (arith, n .before .loop-test .taken)) _ (sym (ap toldGroup (c .enum-told .given .1)) ∙ n .op-group .ensures)
 
 enum-known-t : tie.Need-enum-known-t Inv-loop μ-loop
 enum-known-t c = search needs
@@ -61,7 +61,7 @@ loop-again c =
       omega (arith, l .inv, h),
       omega (arith, l .inv, h),
       omega (arith, l .inv, h, c .wide2 .ensures .1),
-      adds-on _ _ _ _ _ _ _ (l .inv .3) h _ (sym (ap toldGroup (g .t .given .1)) ∙ n .op-group .ensures) _ (c .wide2 .ensures .0),
+      adds-on _ _ _ _ _ _ _ (l .inv .3) (omega (arith, h)) _ (sym (ap toldGroup (g .t .given .1)) ∙ n .op-group .ensures) _ (c .wide2 .ensures .0),
     )
 
 count-rule-requires : tie.Need-count-rule-requires Inv-loop μ-loop
