@@ -3,7 +3,7 @@
 use crate::bytes;
 use crate::original;
 use crate::port::exports::*;
-use crate::port::opening::exports::tzb_try_open;
+use crate::port::opening::refusal;
 use crate::random::Random;
 use crate::scene::{KINDS, Scene};
 use std::hint::black_box;
@@ -63,7 +63,7 @@ pub fn run(file: Option<&Path>) {
 
     println!("{:<46}{:>12}{:>12}{:>8}", "item", "port", "original", "ratio");
     if let Some(file) = file {
-        of_bytes("opening", &[file], tzb_try_open, original_open);
+        of_bytes("opening", &[file], refusal, original_open);
     }
     of_bytes("CRC-32", &[whole], tzb_crc32, original_crc32);
     of_bytes("CRC-32, messages of one byte", &vec![vec![0]; 2_000], tzb_crc32, original_crc32);

@@ -1,5 +1,7 @@
 //! The port, through its archive's C exports. A `&[u8]` passes as pointer, then length.
 
+#[cfg(test)]
+mod header;
 pub mod opening;
 
 use crate::bytes::Reading;

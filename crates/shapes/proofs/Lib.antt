@@ -1,6 +1,9 @@
 -- What is proved of the shapes: the walk that skips is exact.
+pub mod Words
 pub mod Sound
 pub mod Whole
+pub mod Elsewhere
 pub mod Agree
 pub mod Floats
+pub mod Fits
 pub mod File

@@ -13,14 +13,14 @@ use Rattle.tzb_core.specs.Box.{ordered, boxInDomain}
 use Rattle.shapes.specs.Shapes.{Group, Leg, Zone, inBox, covers, chunksFit, groupFits, legFits, ringFits, polygonFits, zoneFits, ringIn, polygonIn, zoneIn, chunkInDomain, groupInDomain, legInDomain, ringInDomain, polygonInDomain, zoneInDomain}
 use Rattle.shapes.specs.Walk.{wholeTests, chunkWalk, chunksWalk, groupWalk, legWalk, ringWalk, polygonWalk, zoneWalk}
 
-abbrev at : ℤ → ℤ → I32Point
+abbrev pub at : ℤ → ℤ → I32Point
 at x y = record { x = x; y = y }
 
-abbrev box : ℤ → ℤ → ℤ → ℤ → BBox
+abbrev pub box : ℤ → ℤ → ℤ → ℤ → BBox
 box a b c d = record { minx = a; miny = b; maxx = c; maxy = d }
 
 -- (0,0) (20,0) | (20,20): the first chunk's box reaches to the second chunk's point
-abbrev lower : Group
+abbrev pub lower : Group
 lower =
     record {
       box = box (pos 0) (pos 0) (pos 20) (pos 20);
@@ -31,7 +31,7 @@ lower =
     }
 
 -- (0,0) (0,20) (20,20), to be turned
-abbrev upper : Group
+abbrev pub upper : Group
 upper =
     record {
       box = box (pos 0) (pos 0) (pos 20) (pos 20);
@@ -42,7 +42,7 @@ upper =
     }
 
 -- closed by a link from its exit to its entry
-abbrev inner : Group
+abbrev pub inner : Group
 inner =
     record {
       box = box (pos 5) (pos 5) (pos 15) (pos 15);
@@ -53,7 +53,7 @@ inner =
     }
 
 -- one point of the triangle, and two: all three sides but one are links
-abbrev apex : Group
+abbrev pub apex : Group
 apex =
     record {
       box = box (pos 30) (pos 10) (pos 30) (pos 10);
@@ -63,7 +63,7 @@ apex =
       tail = [];
     }
 
-abbrev side : Group
+abbrev pub side : Group
 side =
     record {
       box = box (pos 40) (pos 0) (pos 40) (pos 20);
@@ -73,13 +73,13 @@ side =
       tail = [];
     }
 
-abbrev plain : Group → Leg
+abbrev pub plain : Group → Leg
 plain g = record { turned = false; group = g }
 
-abbrev turn : Group → Leg
+abbrev pub turn : Group → Leg
 turn g = record { turned = true; group = g }
 
-abbrev zone : Zone
+abbrev pub zone : Zone
 zone =
     record {
       box = box (pos 0) (pos 0) (pos 40) (pos 20);
@@ -109,7 +109,7 @@ pub record Row : Type 0 where
   pub p : I32Point
   pub answer : Bool
 
-abbrev rows : List Row
+abbrev pub rows : List Row
 rows =
     record { p = at (pos 1) (pos 1); answer = true }
     ∷ record { p = at (pos 10) (pos 10); answer = false }

@@ -1,14 +1,16 @@
--- A file's directories, by index; the zone that a zone number names; and what the record rule and the full check say of every entry.
+-- A file's directories, by index; the zone that a zone number names; and what the record rule and the rules of the full check say of every entry.
 -- Assumes nothing.
 use Prim.Native.Nat.{ℕ, _+_, _-_, _≤_, _<_}
 use mathlib.Core.Path.{_≡_}
 use mathlib.Core.Bool.{Bool, true}
 use Rattle.plane.specs.declared.I32Point.{I32Point}
 use Rattle.plane.specs.Domain.{inDomain}
+use Rattle.plane.specs.Segment.{same}
+use Rattle.plane.specs.Lines.{every, lastOf}
 use Rattle.plane.specs.Runs.{run}
 use Rattle.tzb_core.specs.declared.bbox.BBox.{BBox}
 use Rattle.tzb_core.specs.Box.{boxInDomain}
-use Rattle.shapes.specs.Shapes.{Chunk, Group, Leg, Ring, Polygon, Zone, groupChunks, covers, chunksFit, groupFits, chunkInDomain}
+use Rattle.shapes.specs.Shapes.{Chunk, Group, Leg, Ring, Polygon, Zone, chunkPoints, inBox, covers, chunkInDomain}
 
 -- a record: its box, and the run of records of the directory below that it names
 pub record Span : Type 0 where
@@ -73,25 +75,31 @@ module _ (d : Directories) where
   unfoldable pub zoneAt : ℕ → Zone
   zoneAt i = record { box = d .zoneSpan i .box; polygons = run polygonAt (d .zoneSpan i .count) (d .zoneSpan i .first) }
 
-  -- ---- what the full check demands of every entry
-  pub record Checked : Type 0 where
-    -- the record rule of groups, which opening asks
-    pub group-names : (i : ℕ) → i < d .groups → Names (d .groupSpan i) (d .chunks)
-    -- F2
+  -- ---- what the record rule and F2 say of every entry: what it names is there
+  pub record Named : Type 0 where
     pub zone-names : (i : ℕ) → i < d .zones → Names (d .zoneSpan i) (d .polygons)
     pub polygon-names : (i : ℕ) → i < d .polygons → Names (d .polygonSpan i) (d .rings)
     pub ring-names : (i : ℕ) → i < d .rings → Names (d .ringSpan i) (d .ops)
     pub op-names : (i : ℕ) → i < d .ops → d .opGroup i < d .groups
-    -- F4
-    pub chunks-fit : (i : ℕ) → i < d .groups → chunksFit (groupChunks (groupAt i)) ≡ true
-    -- F5
-    pub group-fits : (i : ℕ) → i < d .groups → groupFits (groupAt i) ≡ true
-    -- F6
+    pub group-names : (i : ℕ) → i < d .groups → Names (d .groupSpan i) (d .chunks)
+
+  -- ---- F4 to F6, of every entry
+  pub record Covered : Type 0 where
+    -- "F4 Each chunk's box covers its points"
+    pub chunk-covers : (i : ℕ) → i < d .chunks → every (inBox (d .chunkAt i .box)) (chunkPoints (d .chunkAt i)) ≡ true
+    -- "and, within a group, the next chunk's first."
+    pub joint-covers : (i j : ℕ) → i < d .groups → Among (d .groupSpan i) j → Among (d .groupSpan i) (j + 1) → inBox (d .chunkAt j .box) (d .chunkAt (j + 1) .first) ≡ true
+    -- "F5 Each group's box covers its chunks' boxes;"
+    pub group-covers : (i j : ℕ) → i < d .groups → Among (d .groupSpan i) j → covers (d .groupSpan i .box) (d .chunkAt j .box) ≡ true
+    -- "entry and exit are its first and last point."
+    pub entry-first : (i : ℕ) → i < d .groups → same (d .entryAt i) (d .chunkAt (d .groupSpan i .first) .first) ≡ true
+    pub exit-last : (i : ℕ) → i < d .groups → same (d .exitAt i) (lastOf (chunkPoints (d .chunkAt (d .groupSpan i .first + (d .groupSpan i .count - 1))))) ≡ true
+    -- "F6 Each ring's box covers its groups', each polygon's its rings', each zone's its polygons'."
     pub ring-covers : (i j : ℕ) → i < d .rings → Among (d .ringSpan i) j → covers (d .ringSpan i .box) (d .groupSpan (d .opGroup j) .box) ≡ true
     pub polygon-covers : (i j : ℕ) → i < d .polygons → Among (d .polygonSpan i) j → covers (d .polygonSpan i .box) (d .ringSpan j .box) ≡ true
     pub zone-covers : (i j : ℕ) → i < d .zones → Among (d .zoneSpan i) j → covers (d .zoneSpan i .box) (d .polygonSpan j .box) ≡ true
 
-  -- ---- the domain, which the record rule asks of boxes, entries and exits, and decoding (F3) of points
+  -- ---- the domain: the record rule asks it of boxes, entries and exits, and decoding (F3) of points
   pub record Domain : Type 0 where
     pub chunk-in : (i : ℕ) → i < d .chunks → chunkInDomain (d .chunkAt i) ≡ true
     pub group-in : (i : ℕ) → i < d .groups → boxInDomain (d .groupSpan i .box) ≡ true

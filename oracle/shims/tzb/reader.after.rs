@@ -5,6 +5,13 @@ pub(crate) fn parity(a: I32Point, b: I32Point, py: f64) -> bool {
     endpoint_parity(a, b, py)
 }
 
+impl<'a> Reader<'a> {
+    /// The same opened file, asked with other bytes.
+    pub(crate) fn with_bytes(self, data: &'a [u8]) -> Self {
+        Self { data: Cow::Borrowed(data), ..self }
+    }
+}
+
 impl Reader<'_> {
     pub(crate) fn ask_candidates(&self, lng: f64, lat: f64) -> Result<(u32, u32, bool), Error> {
         self.candidates(lng, lat)
@@ -12,5 +19,9 @@ impl Reader<'_> {
 
     pub(crate) fn ask_candidate(&self, place: u32) -> Result<u32, Error> {
         self.candidate_at(place)
+    }
+
+    pub(crate) fn ask_contains(&self, zone: u32, x: f64, y: f64) -> Result<bool, Error> {
+        self.timezone_contains(zone, x, y)
     }
 }

@@ -1,59 +1,118 @@
-//! The port's opening, names and candidates. Each question opens the file and asks.
+//! The port's opening, names and candidates. Opening writes the opened record into lent bytes, and every question takes it beside the file.
 
 use crate::rules::{Candidates, Said};
 
 pub mod exports {
     unsafe extern "C" {
-        pub fn tzb_try_open(file: *const u8, length: usize) -> u32;
-        pub fn tzb_try_name(file: *const u8, length: usize, zone: u32) -> u32;
-        pub fn tzb_try_name_start(file: *const u8, length: usize, zone: u32) -> usize;
-        pub fn tzb_try_name_end(file: *const u8, length: usize, zone: u32) -> usize;
-        pub fn tzb_try_choice(file: *const u8, length: usize, lng: f64, lat: f64) -> u64;
-        pub fn tzb_try_listed(file: *const u8, length: usize, lng: f64, lat: f64) -> u64;
-        pub fn tzb_try_candidate(file: *const u8, length: usize, place: u32) -> u64;
+        pub fn tzb_open(file: *const u8, length: usize, record: *mut u8, room: usize) -> i32;
+        pub fn tzb_zone_count(record: *const u8, size: usize) -> i64;
+        pub fn tzb_name_start(
+            record: *const u8,
+            size: usize,
+            file: *const u8,
+            length: usize,
+            zone: u32,
+        ) -> i64;
+        pub fn tzb_name_end(
+            record: *const u8,
+            size: usize,
+            file: *const u8,
+            length: usize,
+            zone: u32,
+        ) -> i64;
+        pub fn tzb_choice(
+            record: *const u8,
+            size: usize,
+            file: *const u8,
+            length: usize,
+            lng: f64,
+            lat: f64,
+        ) -> i32;
+        pub fn tzb_listed(
+            record: *const u8,
+            size: usize,
+            file: *const u8,
+            length: usize,
+            lng: f64,
+            lat: f64,
+        ) -> u64;
+        pub fn tzb_candidate(
+            record: *const u8,
+            size: usize,
+            file: *const u8,
+            length: usize,
+            place: u32,
+        ) -> i64;
     }
 }
 
 use exports::*;
 
-/// The number of a refusal, or 0.
-fn said(number: u32) -> Said<i64> {
-    if number == 0 { Ok(0) } else { Err(number) }
+const SIZE: usize = 84;
+/// What lent memory holds before, and where nothing may be written.
+const GUARD: u8 = 0xa5;
+
+/// A number, or -1000 - n for refusal n.
+fn said(code: i64) -> Said<i64> {
+    if code < 0 { Err((-1000 - code) as u32) } else { Ok(code) }
 }
 
+/// Opens into lent memory of that size. Nothing is written behind the record, and nothing at all on a refusal.
+fn open_into(file: &[u8], room: usize) -> Said<Vec<u8>> {
+    let mut lent = vec![GUARD; room + 16];
+    let code = unsafe { tzb_open(file.as_ptr(), file.len(), lent.as_mut_ptr(), room) };
+    let kept = if code < 0 { 0 } else { SIZE };
+    assert!(lent[kept..].iter().all(|&b| b == GUARD), "lent memory changed, answer {code}");
+    said(code.into()).map(|_| lent[..SIZE].to_vec())
+}
+
+/// The opened record, as the port's bytes.
+fn record(file: &[u8]) -> Said<Vec<u8>> {
+    open_into(file, SIZE)
+}
+
+/// Opens into more room than it takes, and into a byte too few.
 pub fn open(file: &[u8]) -> Said<i64> {
-    said(unsafe { tzb_try_open(file.as_ptr(), file.len()) })
+    let record = open_into(file, SIZE + 8);
+    assert_eq!(open_into(file, SIZE - 1), record.clone().and(Err(46)), "a room that is too short");
+    let record = record?;
+    let zones = said(unsafe { tzb_zone_count(record.as_ptr(), record.len()) })?;
+    let count = u32::from_le_bytes(file[40..44].try_into().unwrap());
+    assert_eq!(zones, count.into(), "the zone count");
+    Ok(0)
+}
+
+/// Opens the file: the number of its refusal, or 0.
+pub unsafe extern "C" fn refusal(file: *const u8, length: usize) -> u32 {
+    let mut lent = [0; SIZE];
+    let code = unsafe { tzb_open(file, length, lent.as_mut_ptr(), lent.len()) };
+    said(code.into()).err().unwrap_or(0)
 }
 
 pub fn name(file: &[u8], zone: u32) -> Said<(u64, u64)> {
-    let (start, end) = unsafe {
-        said(tzb_try_name(file.as_ptr(), file.len(), zone))?;
-        (
-            tzb_try_name_start(file.as_ptr(), file.len(), zone) as u64,
-            tzb_try_name_end(file.as_ptr(), file.len(), zone) as u64,
-        )
-    };
-    Ok((start, end - start))
+    let record = record(file)?;
+    let (r, size, f, length) = (record.as_ptr(), record.len(), file.as_ptr(), file.len());
+    let start = said(unsafe { tzb_name_start(r, size, f, length, zone) })?;
+    let end = said(unsafe { tzb_name_end(r, size, f, length, zone) })?;
+    Ok((start as u64, (end - start) as u64))
 }
 
 pub fn candidates(file: &[u8], lng: f64, lat: f64) -> Said<Candidates> {
-    let (kind, listed) = unsafe {
-        (
-            tzb_try_choice(file.as_ptr(), file.len(), lng, lat),
-            tzb_try_listed(file.as_ptr(), file.len(), lng, lat),
-        )
-    };
+    let record = record(file)?;
+    let (r, size, f, length) = (record.as_ptr(), record.len(), file.as_ptr(), file.len());
+    let kind = said(unsafe { tzb_choice(r, size, f, length, lng, lat) }.into())?;
+    let listed = unsafe { tzb_listed(r, size, f, length, lng, lat) };
     let (count, offset) = (listed >> 32, listed & 0xffff_ffff);
     match kind {
         0 => Ok(Candidates::Nothing),
         1 => Ok(Candidates::EveryZone),
-        2 if count == 0 => Ok(Candidates::Nothing),
-        2 => Ok(Candidates::Cell { count, offset }),
-        refused => Err((refused - 1000) as u32),
+        _ if count == 0 => Ok(Candidates::Nothing),
+        _ => Ok(Candidates::Cell { count, offset }),
     }
 }
 
 pub fn candidate(file: &[u8], place: u32) -> Said<u64> {
-    let zone = unsafe { tzb_try_candidate(file.as_ptr(), file.len(), place) };
-    if zone < 1 << 32 { Ok(zone) } else { Err((zone - (1 << 32)) as u32) }
+    let record = record(file)?;
+    let (r, size, f, length) = (record.as_ptr(), record.len(), file.as_ptr(), file.len());
+    said(unsafe { tzb_candidate(r, size, f, length, place) }).map(|zone| zone as u64)
 }

@@ -11,34 +11,51 @@ pub enum Candidates {
     Cell { count: u64, offset: u64 },
 }
 
-impl Opened<'_> {
-    /// A name as a part of the file: where it starts, and how many bytes it has.
-    pub fn name(&self, zone: u64) -> Said<(u64, u64)> {
-        need(45, zone < self.zones)?;
-        let (start, end) = self.name_place(zone);
-        Ok((start, end - start))
+impl<'a> Opened<'a> {
+    /// The same record, asked with other bytes.
+    pub fn asked_with(self, lent: &'a [u8]) -> Self {
+        Self { file: lent, ..self }
     }
 
-    pub fn candidates(&self, lng: f64, lat: f64) -> Candidates {
+    /// The answer where so many bytes are lent, and 44 where they are not.
+    pub(super) fn read<T>(&self, at: u64, width: u64, load: impl Fn(&[u8], u64) -> T) -> Said<T> {
+        need(44, at + width <= self.file.len() as u64)?;
+        Ok(load(self.file, at))
+    }
+
+    /// A name as a part of the lent bytes: where it starts, and how many bytes it has.
+    pub fn name(&self, zone: u64) -> Said<(u64, u64)> {
+        need(45, zone < self.zones)?;
+        let offsets = self.section(1).off + 4 + 4 * zone;
+        let blob = self.section(1).off + 4 + 4 * (self.zones + 1);
+        let [from, to] =
+            self.read(offsets, 8, |file, at| [u32_at(file, at), u32_at(file, at + 4)])?;
+        need(23, from <= to)?;
+        need(44, blob + to <= self.file.len() as u64)?;
+        Ok((blob + from, to - from))
+    }
+
+    pub fn candidates(&self, lng: f64, lat: f64) -> Said<Candidates> {
         if !(lng.abs() <= 180.0 && lat.abs() <= 90.0) {
-            return Candidates::Nothing;
+            return Ok(Candidates::Nothing);
         }
-        let Some(g) = self.grid else { return Candidates::EveryZone };
+        let Some(g) = self.grid else { return Ok(Candidates::EveryZone) };
         let (column, row) = (floor(lng) - g.lng, floor(lat) - g.lat);
         if !(0..g.columns as i64).contains(&column) || !(0..g.rows as i64).contains(&row) {
-            return Candidates::Nothing;
+            return Ok(Candidates::Nothing);
         }
-        match self.word(g, row as u64 * g.columns + column as u64) {
+        let cell = row as u64 * g.columns + column as u64;
+        Ok(match parts(self.read(g.words + 4 * cell, 4, u32_at)?) {
             (0, _) => Candidates::Nothing,
             (count, offset) => Candidates::Cell { count, offset },
-        }
+        })
     }
 
     /// The zone at a place of the candidates. Without a GRID their total is 0.
     pub fn candidate(&self, place: u64) -> Said<u64> {
         need(30, place < self.candidate_total())?;
         let g = self.grid.unwrap();
-        let zone = u16_at(self.file, g.candidates() + 2 * place);
+        let zone = self.read(g.candidates() + 2 * place, 2, u16_at)?;
         need(31, zone < self.zones)?;
         Ok(zone)
     }
@@ -47,11 +64,14 @@ impl Opened<'_> {
         self.grid.map_or(0, |g| g.total)
     }
 
-    /// A cell's word: the top 4 bits are the count, the low 28 the offset.
     pub(super) fn word(&self, g: Grid, cell: u64) -> (u64, u64) {
-        let word = u32_at(self.file, g.words + 4 * cell);
-        (word >> 28, word & 0x0fff_ffff)
+        parts(u32_at(self.file, g.words + 4 * cell))
     }
+}
+
+/// A cell's word: the top 4 bits are the count, the low 28 the offset.
+fn parts(word: u64) -> (u64, u64) {
+    (word >> 28, word & 0x0fff_ffff)
 }
 
 /// The greatest whole number that is not above. Of a number within ±180.

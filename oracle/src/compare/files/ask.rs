@@ -7,7 +7,6 @@ use crate::rules::{self, Opened, Said};
 use crate::{original, port};
 use std::fmt::Debug;
 
-
 /// The numbers that were said, 0 where the file opens.
 pub struct Outcome {
     pub document: u32,
@@ -80,7 +79,7 @@ fn of_original(side: &original::opening::Opened, rules: &Opened) -> Result<u64, 
         count += 1;
     }
     for (lng, lat) in positions(rules) {
-        let by_rules = Ok(rules.candidates(lng, lat));
+        let by_rules = rules.candidates(lng, lat);
         same("candidates: the original says", side.candidates(lng, lat), by_rules)?;
         count += 1;
     }
@@ -100,7 +99,11 @@ fn of_port(file: &[u8], document: &Said<Opened>) -> Result<u64, String> {
         Err(n) => {
             if is_asked_all(file) {
                 same("name: the port says", port::opening::name(file, 0), Err(*n))?;
-                same("candidates: the port says", port::opening::candidates(file, 0.5, 0.5), Err(*n))?;
+                same(
+                    "candidates: the port says",
+                    port::opening::candidates(file, 0.5, 0.5),
+                    Err(*n),
+                )?;
                 same("candidate: the port says", port::opening::candidate(file, 0), Err(*n))?;
                 return Ok(3);
             }
@@ -122,7 +125,7 @@ fn of_port(file: &[u8], document: &Said<Opened>) -> Result<u64, String> {
         count += 1;
     }
     for (lng, lat) in positions(rules) {
-        let by_rules = Ok(rules.candidates(lng, lat));
+        let by_rules = rules.candidates(lng, lat);
         same("candidates: the port says", port::opening::candidates(file, lng, lat), by_rules)?;
         count += 1;
     }
@@ -157,7 +160,7 @@ pub fn all_of(file: &[u8], tally: &mut Tally) -> Result<(), String> {
     let mut random = Random::new(6);
     for i in 0..200_000 {
         let (lng, lat) = position(&mut random);
-        let by_rules = Ok(rules.candidates(lng, lat));
+        let by_rules = rules.candidates(lng, lat);
         same("candidates: the original says", side.candidates(lng, lat), by_rules)?;
         tally.add("positions", 1);
         if i < OF_PORT {

@@ -1,0 +1,164 @@
+-- A chunk of a sound file: its bytes decode to the points of its shape, and its walk over bytes is the walk over its shape.
+-- Assumes nothing.
+use Prim.Native.Nat.{ℕ, _+_, _<_}
+use mathlib.Core.Path.{_≡_, refl, sym, ap, _∙_}
+use mathlib.Core.Bool.{Bool, true, false}
+use mathlib.Core.List.{List, [], _∷_}
+use lib.Dec.{ltb}
+use Rattle.basics.specs.Truth.{and-i}
+use Rattle.plane.specs.declared.Point.{Point}
+use Rattle.plane.specs.declared.I32Point.{I32Point}
+use Rattle.plane.specs.declared.Seen.{Seen}
+use Rattle.plane.specs.Tally.{none}
+use Rattle.plane.specs.Lines.{every, lastFrom, chain}
+use Rattle.plane.specs.Domain.{inDomain}
+use Rattle.answer.specs.Answers.{ok, _then_, need}
+use Rattle.answer.specs.Walks.{done}
+use Rattle.tzb_core.specs.declared.bbox.BBox.{BBox}
+use Rattle.tzb_core.specs.Box.{boxInDomain, relevant, right}
+use Rattle.tzb_core.specs.Ray.{rayOf, parityOf}
+use Rattle.tzb_core.specs.Scan.{past}
+use Rattle.tzb_core.specs.Decode.{pointsOf}
+use Rattle.tzb_core.proofs.Decoded.{then-inv, need-inv, ok-inv}
+use Rattle.tzb_core.proofs.Neighbours.{scan-list, first-list, domain-list, never-empty}
+use Rattle.shapes.specs.Shapes.{Chunk, chunkInDomain}
+use Rattle.shapes.specs.Walk.{floatTests, chunkWalk}
+use Rattle.reader_opened.specs.declared.Opened.{Opened}
+use Rattle.reader_records.specs.declared.ChunkRecord.{ChunkRecord}
+use Rattle.reader_records.specs.Records.{recordAt, chunkIn, chunkRule, chunkAt}
+use Rattle.reader_chunks.specs.Chunks.{startOf, endOf, span, bytesOf, firstIn, scanIn, firstAt, chunkPoints, end-is, first-is, scan-is}
+use Rattle.reader_groups.specs.Groups.{nextFirst, skipTo, scanTo, joinedTo, lastIn, lastAt}
+use Rattle.reader_exact.specs.Directories.{chunkOf, chunkShape}
+use Rattle.reader_exact.specs.Sound.{Given}
+use Rattle.reader_exact.proofs.Walks.{past-go}
+use Rattle.reader_exact.proofs.Given.{ruled-kept}
+
+-- chunk i of the file: its record, where it ends, and its bytes, which decode to the points of its shape
+pub record Holds (o : Opened) (s : List ℕ) (i : ℕ) : Type 0 where
+  pub found : ChunkRecord
+  pub there : ok found ≡ chunkAt o s i
+  pub box-is : found .bbox ≡ chunkShape o s i .box
+  pub end : ℕ
+  pub ends : ok end ≡ endOf o s i
+  pub bytes : List ℕ
+  pub spans : ok bytes ≡ span s (startOf o found) end
+  pub decodes : ok (chunkShape o s i .first ∷ chunkShape o s i .rest) ≡ pointsOf bytes (found .count)
+
+-- the shape is made of the record and the points
+pub shape-is : (o : Opened) (s : List ℕ) (i : ℕ) (l : List I32Point) (v : ChunkRecord) → ok l ≡ chunkPoints o s i → ok v ≡ chunkAt o s i → chunkShape o s i ≡ chunkOf (v .bbox) l
+unfolding chunkShape
+shape-is o s i l v p t = rw (← t, ← p)
+
+pub holds : (o : Opened) (s : List ℕ) (i : ℕ) → Given (chunkPoints o s i) → Holds o s i
+unfolding chunkPoints bytesOf
+holds o s i g =
+    let a = then-inv (chunkAt o s i) (λ v. need 32 (ltb 0 (v .count)) (bytesOf o s i v then λ b. pointsOf b (v .count))) (g .value) (g .is) in
+    let v = a .0 in
+    let b = need-inv 32 (ltb 0 (v .count)) (bytesOf o s i v then λ b. pointsOf b (v .count)) (g .value) (a .2) in
+    let c = then-inv (bytesOf o s i v) (λ b. pointsOf b (v .count)) (g .value) (b .1) in
+    let d = then-inv (endOf o s i) (λ e. span s (startOf o v) e) (c .0) (c .1) in
+    make (g .value) (g .is) v (a .1) (d .0) (d .1) (c .0) (d .2) (c .2)
+  where
+    make : (l : List I32Point) → ok l ≡ chunkPoints o s i → (v : ChunkRecord) → ok v ≡ chunkAt o s i → (e : ℕ) → ok e ≡ endOf o s i → (b : List ℕ) → ok b ≡ span s (startOf o v) e → ok l ≡ pointsOf b (v .count) → Holds o s i
+    make [] p v t e m b n d = absurd (never-empty b (v .count) d)
+    make (q ∷ l) p v t e m b n d =
+        let shape : chunkShape o s i ≡ chunkOf (v .bbox) (q ∷ l) = shape-is o s i (q ∷ l) v p t in
+        record {
+          found = v;
+          there = t;
+          box-is = sym (ap (λ (c : Chunk). c .box) shape);
+          end = e;
+          ends = m;
+          bytes = b;
+          spans = n;
+          decodes = ap (λ (c : Chunk). ok (c .first ∷ c .rest)) shape ∙ d;
+        }
+
+-- the segments between the points of a chunk, and its last point
+abbrev through : Point → Chunk → Seen
+through p c = chain (λ a b. rayOf a b p) (c .first) (c .rest)
+
+abbrev last : Chunk → I32Point
+last c = lastFrom (c .first) (c .rest)
+
+module _ (o : Opened) (s : List ℕ) (i : ℕ) (h : Holds o s i) where
+  -- it lies in the domain
+  pub chunk-in : chunkInDomain (chunkShape o s i) ≡ true
+  unfolding chunkInDomain chunkAt chunkRule
+  chunk-in =
+      let c = chunkShape o s i in
+      and-i (boxInDomain (c .box)) (every inDomain (c .first ∷ c .rest))
+      (ap boxInDomain (sym (h .box-is)) ∙ ruled-kept (recordAt s (o .chunks) 24 i) (chunkIn s) chunkRule 34 (h .found) (h .there))
+      (domain-list (h .bytes) (h .found .count) (c .first) (c .rest) (h .decodes))
+
+  -- its first point, read alone
+  held-first : ok (chunkShape o s i .first) ≡ firstIn s (startOf o (h .found)) (h .end)
+  held-first =
+      let c = chunkShape o s i in
+      let k = first-list (h .bytes) (h .found .count) (c .first) (c .rest) (h .decodes) in
+      first-is s (startOf o (h .found)) (h .end) (h .bytes) (h .spans) (c .first) (k .0) (k .1)
+
+  -- and asked for by the chunk's number
+  pub first-given : ok (chunkShape o s i .first) ≡ firstAt o s i
+  unfolding firstAt
+  first-given = rw (← h .there, ← h .ends) held-first
+
+module _ (o : Opened) (s : List ℕ) (i : ℕ) (h : Holds o s i) where
+  abbrev c : Chunk
+  c = chunkShape o s i
+
+  abbrev v : ChunkRecord
+  v = h .found
+
+  own-first : ok (c .first) ≡ firstIn s (startOf o v) (h .end)
+  own-first = held-first o s i h
+
+  module _ (p : Point) where
+    held-scan : scanIn s (v .count) p (startOf o v) (h .end) ≡ past (through p c) (last c)
+    held-scan =
+        sym (scan-is s (startOf o v) (h .end) (v .count) p (h .bytes) (h .spans))
+        ∙ scan-list (h .bytes) (v .count) (c .first) (c .rest) (h .decodes) p
+
+    -- the tests of the record's box are those of the shape's
+    rel : (b : Bool) → relevant (c .box) p ≡ b → relevant (v .bbox) p ≡ b
+    rel b e = ap (λ (x : BBox). relevant x p) (h .box-is) ∙ e
+
+    rig : (b : Bool) → right (c .box) p ≡ b → right (v .bbox) p ≡ b
+    rig b e = ap (λ (x : BBox). right x p) (h .box-is) ∙ e
+
+    -- ---- the walk over the last chunk of a group
+    pub last-walk : (exit : I32Point) → lastAt o s p i (h .found) exit ≡ past (chunkWalk (floatTests p) exit (chunkShape o s i) []) tt
+    unfolding lastAt lastIn chunkWalk parityOf
+    last-walk exit = pick (relevant (c .box) p) (right (c .box) p) refl refl
+      where
+        pick : (a b : Bool) → relevant (c .box) p ≡ a → right (c .box) p ≡ b → lastAt o s p i v exit ≡ past (chunkWalk (floatTests p) exit c []) tt
+        pick false b e f = rw (rel false e, e)
+        pick true true e f = rw (rel true e, e, ← h .ends, rig true f, f, ← own-first)
+        pick true false e f = rw (rel true e, e, ← h .ends, rig false f, f, held-scan) (past-go (through p c) (last c) (λ q. done tt) none tt refl)
+
+    -- ---- and over one that another follows
+    module _ (g : Holds o s (i + 1)) (j : i + 1 < o .chunks .count) where
+      -- it ends where the next starts
+      meet : h .end ≡ startOf o (g .found)
+      meet = ok-inv (h .end) (startOf o (g .found)) (h .ends ∙ sym (end-is o s i j (g .found) (g .there)))
+
+      next-first : ok (chunkShape o s (i + 1) .first) ≡ nextFirst o s i (g .found)
+      unfolding nextFirst
+      next-first = rw (← g .ends) (held-first o s (i + 1) g)
+
+      pub joined-walk : (exit : I32Point) (ds : List Chunk) → joinedTo o s p i (h .found) (g .found) ≡ past (chunkWalk (floatTests p) exit (chunkShape o s i) (chunkShape o s (i + 1) ∷ ds)) tt
+      unfolding joinedTo skipTo scanTo chunkWalk parityOf
+      joined-walk exit ds = pick (relevant (c .box) p) (right (c .box) p) refl refl
+        where
+          near : ok (c .first) ≡ firstIn s (startOf o v) (startOf o (g .found))
+          near = own-first ∙ ap (firstIn s (startOf o v)) meet
+
+          scan : scanIn s (v .count) p (startOf o v) (startOf o (g .found)) ≡ past (through p c) (last c)
+          scan = ap (scanIn s (v .count) p (startOf o v)) (sym meet) ∙ held-scan
+
+          pick : (a b : Bool) → relevant (c .box) p ≡ a → right (c .box) p ≡ b → joinedTo o s p i v (g .found) ≡ past (chunkWalk (floatTests p) exit c (chunkShape o s (i + 1) ∷ ds)) tt
+          pick false b e f = rw (rel false e, e)
+          pick true true e f = rw (rel true e, e, rig true f, f, ← near, ← next-first)
+          pick true false e f =
+              rw (rel true e, e, rig false f, f, scan, ← next-first)
+              (past-go (through p c) (last c) (λ q. past (rayOf q (chunkShape o s (i + 1) .first) p) tt) (rayOf (last c) (chunkShape o s (i + 1) .first) p) tt refl)

@@ -1,0 +1,64 @@
+-- A ring's meaning once more, in the very words of document 01's "Exact geometry": the list of its segments, whether the point is on any, and how many count. `ring-in-words`, in proofs/Words, says that `ringIn` is the same.
+-- Assumes nothing.
+use Prim.Native.Nat.{ℕ, zero, suc}
+use mathlib.Core.Bool.{Bool, true, false, not, cond}
+use mathlib.Core.List.{List, [], _∷_, _++_, map}
+use Rattle.plane.specs.declared.I32Point.{I32Point}
+use Rattle.plane.specs.declared.Seen.{Seen}
+use Rattle.plane.specs.declared.Seen.the-variants.{On, Off}
+use Rattle.plane.specs.Segment.{same}
+use Rattle.plane.specs.Lines.{some, firstOf, lastOf}
+use Rattle.shapes.specs.Shapes.{Ring, legPoints}
+
+-- from one end to the other
+pub record Side : Type 0 where
+  pub from : I32Point
+  pub to : I32Point
+
+-- ---- "A ring's segments"
+-- "those between neighbouring points of each group"
+abbrev pub sidesFrom : I32Point → List I32Point → List Side
+sidesFrom a [] = []
+sidesFrom a (b ∷ r) = record { from = a; to = b } ∷ sidesFrom b r
+
+abbrev pub neighbours : List I32Point → List Side
+neighbours [] = []
+neighbours (a ∷ r) = sidesFrom a r
+
+-- "and one from each exit to the next entry … wherever the two differ"
+abbrev pub joining : I32Point → I32Point → List Side
+joining exit entry = cond (same exit entry) [] (record { from = exit; to = entry } ∷ [])
+
+-- the groups after the first, "round to the start"
+abbrev pub roundTo : I32Point → I32Point → List (List I32Point) → List Side
+roundTo start exit [] = joining exit start
+roundTo start exit (l ∷ ls) = joining exit (firstOf l) ++ (neighbours l ++ roundTo start (lastOf l) ls)
+
+abbrev pub sidesOf : List (List I32Point) → List Side
+sidesOf [] = []
+sidesOf (l ∷ ls) = neighbours l ++ roundTo (firstOf l) (lastOf l) ls
+
+unfoldable pub ringSides : Ring → List Side
+ringSides r = sidesOf (map legPoints (r .legs))
+
+-- ---- "Not on any segment and an odd number counted: inside."
+abbrev pub isOn : Seen → Bool
+isOn On = true
+isOn (Off b) = false
+
+abbrev pub countsIn : Seen → ℕ → ℕ
+countsIn On n = n
+countsIn (Off true) n = suc n
+countsIn (Off false) n = n
+
+abbrev pub odd : ℕ → Bool
+odd zero = false
+odd (suc n) = not (odd n)
+
+module _ (seg : I32Point → I32Point → Seen) where
+  unfoldable pub onAny : List Side → Bool
+  onAny l = some (λ e. isOn (seg (e .from) (e .to))) l
+
+  unfoldable pub counted : List Side → ℕ
+  counted [] = 0
+  counted (e ∷ l) = countsIn (seg (e .from) (e .to)) (counted l)

@@ -1,0 +1,93 @@
+/* The reader of time-zone index files (.tzb), for C and for whatever can call C: link libtzb_c.a.
+ *
+ * Bytes are lent for a call as a pointer and a length. A pointer is never null, not even where the length is 0.
+ * What is lent for writing does not overlap what else is lent to the same call.
+ *
+ * Every function is total: any bytes and any numbers get an answer, or a refusal, whose number n is that of
+ * document 01. A refusal is told as -1000 - n, and leaves lent memory as it was. No function keeps anything
+ * between calls, and each may be called from any thread.
+ *
+ * Open once, ask often:
+ *
+ *     uint8_t record[TZB_RECORD];
+ *     int32_t opened = tzb_open(file, file_length, record, sizeof record);
+ *     if (opened < 0) -> refused by -1000 - opened
+ *     int64_t start = tzb_name_start(record, sizeof record, file, file_length, 7);
+ *     int64_t end = tzb_name_end(record, sizeof record, file, file_length, 7);
+ *
+ * A record is numbers only, little-endian: it holds no pointer, and may be kept or copied. It is not trusted: one
+ * that was made by hand, or from another file, is answered by what it says, or refused.
+ */
+#ifndef TZB_H
+#define TZB_H
+
+#include <stddef.h>
+#include <stdint.h>
+
+#ifdef __cplusplus
+extern "C" {
+#endif
+
+/* The size of an opened record, in bytes. A record of another length is refused by 44. */
+#define TZB_RECORD 84
+
+/* ---- opening, and questions over the opened record */
+
+/* Opens the file and writes its record into the first TZB_RECORD bytes of lent memory; what lies behind stays.
+ * 0, or -1000 - n for refusal n: opening's own, then 46 where there is no room. */
+int32_t tzb_open(const uint8_t *file, size_t file_length, uint8_t *record, size_t record_length);
+
+/* How many zones there are: zone numbers are those below it. Or -1000 - n. */
+int64_t tzb_zone_count(const uint8_t *record, size_t record_length);
+
+/* Where a zone's name starts in the file, or -1000 - n: 45 for a zone number too large. */
+int64_t tzb_name_start(const uint8_t *record, size_t record_length, const uint8_t *file, size_t file_length, uint32_t zone);
+
+/* Where it ends: the place after its last byte. Or -1000 - n, by the same refusal. The name is UTF-8 in a file that was opened. */
+int64_t tzb_name_end(const uint8_t *record, size_t record_length, const uint8_t *file, size_t file_length, uint32_t zone);
+
+/* What the candidates of a position are: 0 none, 1 all zones in order, 2 those listed for a cell. Or -1000 - n.
+ * Longitude and latitude in degrees; any float may be asked. */
+int32_t tzb_choice(const uint8_t *record, size_t record_length, const uint8_t *file, size_t file_length, double lng, double lat);
+
+/* For 2 of tzb_choice: how many are listed, times 2^32, plus the place of the first in the candidate list.
+ * For 1: the number of zones. Else 0. */
+uint64_t tzb_listed(const uint8_t *record, size_t record_length, const uint8_t *file, size_t file_length, double lng, double lat);
+
+/* The zone at a place of the candidate list. Or -1000 - n: 30 for a place at or past the end of the list. */
+int64_t tzb_candidate(const uint8_t *record, size_t record_length, const uint8_t *file, size_t file_length, uint32_t place);
+
+/* ---- parts, for comparison runs */
+
+/* The number that starts at a place of a chunk's bytes, or 0 where there is none. */
+int32_t tzb_number(const uint8_t *bytes, size_t bytes_length, size_t at);
+
+/* How many bytes that number has, 1 to 5. Or -1000 - n: 38 to 40. */
+int32_t tzb_number_length(const uint8_t *bytes, size_t bytes_length, size_t at);
+
+/* 1 where the point lies in the box, 0 where not. */
+uint32_t tzb_box_contains(int32_t minx, int32_t miny, int32_t maxx, int32_t maxy, double x, double y);
+
+/* 1 where what lies in the box can matter to the ray from the point, 0 where not. */
+uint32_t tzb_box_relevant(int32_t minx, int32_t miny, int32_t maxx, int32_t maxy, double x, double y);
+
+/* The CRC-32 of the bytes, as IEEE 802.3 has it. */
+uint32_t tzb_crc32(const uint8_t *bytes, size_t bytes_length);
+
+/* 1 where the bytes are UTF-8, 0 where not. */
+uint32_t tzb_utf8(const uint8_t *bytes, size_t bytes_length);
+
+/* What the point sees of the segment from a to b: 2 it is on it, 1 the segment counts, 0 neither. */
+int32_t tzb_ray(int32_t ax, int32_t ay, int32_t bx, int32_t by, double x, double y);
+
+/* 1 where one end of the segment alone is above the point, 0 where not. */
+uint32_t tzb_parity(int32_t ax, int32_t ay, int32_t bx, int32_t by, double x, double y);
+
+/* The next float upward. */
+double tzb_next_up(double x);
+
+#ifdef __cplusplus
+}
+#endif
+
+#endif
