@@ -1,0 +1,2 @@
+-- What the proofs of the functions lean on, and that answers are determined.
+pub mod Sums

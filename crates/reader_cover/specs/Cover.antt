@@ -1,0 +1,102 @@
+-- Document 01, "What the full check demands": what is asked of one ring, one chunk, one group, one box. For any opened record and any bytes.
+-- Assumes nothing.
+use Prim.Native.Nat.{ℕ, zero, suc, _+_, _-_, _%_, _≤_, _<_}
+use native.Mathlib.Omega.{arith}
+use mathlib.Core.Path.{_≡_, refl, sym, ap, _∙_}
+use mathlib.Core.Bool.{Bool, true, false, _&&_}
+use mathlib.Core.List.{List}
+use Rattle.plane.specs.declared.I32Point.{I32Point}
+use Rattle.plane.specs.Segment.{same}
+use Rattle.plane.specs.Lines.{every, lastOf}
+use Rattle.answer.specs.declared.Refusal.{Refusal}
+use Rattle.answer.specs.Answers.{Answer, ok, refused, _then_}
+use Rattle.tzb_core.specs.declared.bbox.BBox.{BBox}
+use Rattle.reader_opened.specs.declared.Opened.{Opened}
+use Rattle.reader_records.specs.declared.ListRecord.{ListRecord}
+use Rattle.reader_records.specs.declared.RingRecord.{RingRecord}
+use Rattle.reader_records.specs.declared.GroupRecord.{GroupRecord}
+use Rattle.reader_records.specs.declared.ChunkRecord.{ChunkRecord}
+use Rattle.reader_records.specs.Records.{polyAt, ringAt, opAt, groupAt, chunkAt, countRule}
+use Rattle.reader_chunks.specs.Chunks.{firstAt, chunkPoints}
+use Rattle.reader_cover.specs.Holds.{holds, all}
+use Rattle.shapes.specs.Shapes.{inBox, covers}
+use Rattle.reader_cover.specs.declared.Part.{Part}
+use Rattle.reader_cover.specs.declared.Part.the-variants as P
+
+-- the group that op j names
+unfoldable pub opGroup : Opened → List ℕ → ℕ → Answer GroupRecord
+opGroup o s j = opAt o s j then λ w. groupAt o s (w % 0x8000_0000)
+
+-- ---- F2
+-- the point counts of the groups that n ops name, from op j on, added
+unfoldable pub opPoints : Opened → List ℕ → ℕ → ℕ → Answer ℕ
+opPoints o s zero j = ok 0
+opPoints o s (suc n) j = opGroup o s j then λ g. opPoints o s n (j + 1) then λ t. ok (g .points + t)
+
+-- a ring's groups' point counts, less its number of groups, add to its point count
+unfoldable pub pointsAdd : Opened → List ℕ → RingRecord → Bool
+pointsAdd o s r = holds (countRule r) (opPoints o s (r .count) (r .first))
+
+-- ---- F4
+-- the chunk's box covers its points
+unfoldable pub chunkCovers : Opened → List ℕ → ℕ → Bool
+chunkCovers o s i = holds (λ v. holds (every (inBox (v .bbox))) (chunkPoints o s i)) (chunkAt o s i)
+
+-- and the next chunk's first
+unfoldable pub jointCovers : Opened → List ℕ → ℕ → Bool
+jointCovers o s i = holds (λ v. holds (inBox (v .bbox)) (firstAt o s (i + 1))) (chunkAt o s i)
+
+-- within a group: of each chunk but the last
+unfoldable pub jointsCover : Opened → List ℕ → GroupRecord → Bool
+jointsCover o s g = all (jointCovers o s) (g .count - 1) (g .first)
+
+-- ---- F5 and F6
+-- a box covers that of chunk, of the group of op, of ring, of polygon j
+unfoldable pub chunkUnder : Opened → List ℕ → BBox → ℕ → Bool
+chunkUnder o s b j = holds (λ v. covers b (v .bbox)) (chunkAt o s j)
+
+unfoldable pub groupUnder : Opened → List ℕ → BBox → ℕ → Bool
+groupUnder o s b j = holds (λ g. covers b (g .bbox)) (opGroup o s j)
+
+unfoldable pub ringUnder : Opened → List ℕ → BBox → ℕ → Bool
+ringUnder o s b j = holds (λ r. covers b (r .bbox)) (ringAt o s j)
+
+unfoldable pub polyUnder : Opened → List ℕ → BBox → ℕ → Bool
+polyUnder o s b j = holds (λ v. covers b (v .bbox)) (polyAt o s j)
+
+-- a group's entry and exit are its first and last point: the first of its first chunk, the last of its last
+unfoldable pub endsFit : Opened → List ℕ → GroupRecord → Bool
+endsFit o s g =
+    holds (same (g .entry)) (firstAt o s (g .first))
+    && holds (λ l. same (g .exit) (lastOf l)) (chunkPoints o s (g .first + (g .count - 1)))
+
+unfoldable pub groupFits : Opened → List ℕ → GroupRecord → Bool
+groupFits o s g = all (chunkUnder o s (g .bbox)) (g .count) (g .first) && endsFit o s g
+
+unfoldable pub ringCovers : Opened → List ℕ → RingRecord → Bool
+ringCovers o s r = all (groupUnder o s (r .bbox)) (r .count) (r .first)
+
+unfoldable pub polyCovers : Opened → List ℕ → ListRecord → Bool
+polyCovers o s v = all (ringUnder o s (v .bbox)) (v .count) (v .first)
+
+unfoldable pub zoneCovers : Opened → List ℕ → ListRecord → Bool
+zoneCovers o s v = all (polyUnder o s (v .bbox)) (v .count) (v .first)
+
+-- ---- what the code's steps answer
+-- what is asked of each part of something larger
+abbrev pub partFits : Opened → List ℕ → Part → ℕ → Bool
+partFits o s (P.Chunk b) = chunkUnder o s b
+partFits o s (P.Group b) = groupUnder o s b
+partFits o s (P.Ring b) = ringUnder o s b
+partFits o s (P.Polygon b) = polyUnder o s b
+partFits o s P.Joint = jointCovers o s
+
+-- ---- laws
+module _ (o : Opened) (s : List ℕ) (j : ℕ) where
+  pub op-group-no : (r : Refusal) → refused r ≡ opAt o s j → refused r ≡ opGroup o s j
+  unfolding opGroup
+  op-group-no r e = rw (← e)
+
+  pub op-group-is : (w : ℕ) → ok w ≡ opAt o s j → groupAt o s (w % 0x8000_0000) ≡ opGroup o s j
+  unfolding opGroup
+  op-group-is w e = rw (← e)
