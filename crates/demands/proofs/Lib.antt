@@ -1,0 +1,3 @@
+-- What follows for a file that the full check accepts.
+pub mod Sums
+pub mod Kept

@@ -1,0 +1,2 @@
+-- The words of demand 3.
+pub mod Words
