@@ -1,3 +1,4 @@
 -- What follows for a file that the full check accepts.
 pub mod Sums
 pub mod Kept
+pub mod Words
