@@ -5,5 +5,6 @@ pub mod Asking
 pub mod Flooring
 pub mod Bounds
 pub mod FloorMeans
+pub mod Accepted
 pub mod Examples
 pub mod Determined

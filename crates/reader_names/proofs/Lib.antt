@@ -2,4 +2,5 @@
 pub mod Rises
 pub mod Places
 pub mod Named
+pub mod Accepted
 pub mod Determined

@@ -1,2 +1,4 @@
 -- What follows from the promises.
 pub mod Determined
+pub mod Given
+pub mod GivenChunks

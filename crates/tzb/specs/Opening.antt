@@ -87,7 +87,7 @@ placed s t =
     }
 
 -- so do the records of its directories
-lies : (s : List ℕ) (p : Section) (w : ℕ) → Within s p → Lies s (directoryOf p w) w
+pub lies : (s : List ℕ) (p : Section) (w : ℕ) → Within s p → Lies s (directoryOf p w) w
 unfolding directoryOf
 lies s p w f = record { fits = omega (arith, div-mul-le-self (p .len) w, f .fits) }
 
