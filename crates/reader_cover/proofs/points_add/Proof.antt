@@ -57,8 +57,7 @@ loop-again c =
     let g = c .before .before in
     let n = g .before .before in
     let l = n .before .before .loop in
-    let h = n .before .loop-test .taken in
-    (
+    let h = n .before .loop-test .taken in (
       omega (arith, l .inv, h),
       omega (arith, l .inv, h),
       omega (arith, l .inv, h, c .wide2 .ensures .1),
