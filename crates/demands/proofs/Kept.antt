@@ -28,7 +28,7 @@ use Rattle.reader_exact.proofs.Given.{zone-is, zone-ruled, poly-is, poly-ruled,
 use Rattle.reader_exact.proofs.Chunks.{Holds, holds, first-given}
 use Rattle.reader_cover.specs.Holds as H
 use Rattle.reader_cover.specs.Holds.{answered, answer-of, held, all, all-at}
-use Rattle.reader_cover.specs.Cover.{opGroup, opPoints, pointsAdd, chunkCovers, jointCovers, jointsCover, chunkUnder, groupUnder, ringUnder, polyUnder, endsFit, groupFits, ringCovers, polyCovers, zoneCovers}
+use Rattle.reader_cover.specs.Cover.{opGroup, opPoints, pointsAdd, chunkCovers, jointCovers, jointsCover, chunkUnder, groupUnder, ringUnder, polyUnder, endsFit, groupCovers, ringCovers, polyCovers, zoneCovers}
 use Rattle.demands.proofs.Sums.{op-is, points-total}
 
 -- an answer that passed a test is no refusal
@@ -56,7 +56,7 @@ pub record Kept (o : Opened) (s : List ℕ) : Type 0 where
   pub chunk-covers : (i : ℕ) → i < o .chunks .count → chunkCovers o s i ≡ true
   pub joints-cover : (i : ℕ) → i < o .groups .count → H.holds (jointsCover o s) (groupAt o s i) ≡ true
   -- F5
-  pub group-covers : (i : ℕ) → i < o .groups .count → H.holds (groupFits o s) (groupAt o s i) ≡ true
+  pub group-covers : (i : ℕ) → i < o .groups .count → H.holds (groupCovers o s) (groupAt o s i) ≡ true
   -- F6
   pub ring-covers : (i : ℕ) → i < o .rings .count → H.holds (ringCovers o s) (ringAt o s i) ≡ true
   pub poly-covers : (i : ℕ) → i < o .polys .count → H.holds (polyCovers o s) (polyAt o s i) ≡ true
@@ -129,11 +129,11 @@ module _ (o : Opened) (s : List ℕ) (k : Kept o s) where
         passed (inBox (c .box)) (firstAt o s (j + 1)) (chunkShape o s (j + 1) .first) (first-given o s (j + 1) (there (j + 1) (chunk-below (j + 1) (b .before))))
         (by-box j (chunk-below j (a .before)) (λ b. H.holds (inBox b) (firstAt o s (j + 1))) n)
 
-    fits : groupFits o s g ≡ true
-    fits = passed (groupFits o s) (groupAt o s i) g (group-is o s sound i h) (k .group-covers i h)
+    fits : groupCovers o s g ≡ true
+    fits = passed (groupCovers o s) (groupAt o s i) g (group-is o s sound i h) (k .group-covers i h)
 
     chunks-under : all (chunkUnder o s (g .bbox)) (g .count) (g .first) ≡ true
-    unfolding groupFits
+    unfolding groupCovers
     chunks-under = and-l (all (chunkUnder o s (g .bbox)) (g .count) (g .first)) (endsFit o s g) fits
 
     group-cover : (j : ℕ) → Among (D.groupSpan g) j → covers (g .bbox) (chunkShape o s j .box) ≡ true
@@ -141,7 +141,7 @@ module _ (o : Opened) (s : List ℕ) (k : Kept o s) where
     group-cover j a = by-box j (chunk-below j (a .before)) (covers (g .bbox)) (all-at (chunkUnder o s (g .bbox)) (g .count) (g .first) chunks-under j (a .from) (a .before))
 
     ends : endsFit o s g ≡ true
-    unfolding groupFits
+    unfolding groupCovers
     ends = and-r (all (chunkUnder o s (g .bbox)) (g .count) (g .first)) (endsFit o s g) fits
 
     abbrev last : ℕ
