@@ -1,6 +1,6 @@
 -- What is known of a file whose GRID was found fine: every question for candidates is answered, and every candidate in the answer is a zone of the file.
 -- Assumes nothing.
-use Prim.Native.Nat.{ℕ, suc, _+_, _*_, _%_, _≤_, _<_}
+use Prim.Native.Nat.{ℕ, _+_, _*_, _%_, _≤_, _<_}
 use native.Mathlib.Omega.{arith}
 use native.Mathlib.Nat.{mul-le-mul-right}
 use mathlib.Core.Path.{_≡_, refl, sym, ap, _∙_}
@@ -29,7 +29,7 @@ use Rattle.reader_grid.proofs.Checking.{ranged}
 use Rattle.reader_grid.proofs.Asking.{zone-in, place-read, cell-outside, cell-read, off-earth, no-grid, by-grid}
 
 -- a zone of the file stands at that place of the candidate list
-pub record Listed-zone (o : Opened) (s : List ℕ) (place : ℕ) : Type 0 where
+pub record ListedZone (o : Opened) (s : List ℕ) (place : ℕ) : Type 0 where
   pub zone : ℕ
   pub given : ok zone ≡ candidateAt o s place
   pub known : zone < o .zones .count
@@ -38,10 +38,10 @@ pub record Listed-zone (o : Opened) (s : List ℕ) (place : ℕ) : Type 0 where
 abbrev pub AllZones : Opened → List ℕ → Chosen → Type 0
 AllZones o s none = Unit
 AllZones o s (all n) = n ≡ o .zones .count
-AllZones o s (listed n place) = (j : ℕ) → j < n → Listed-zone o s (place + j)
+AllZones o s (listed n place) = (j : ℕ) → j < n → ListedZone o s (place + j)
 
 -- a question for candidates is answered, by zones of the file
-pub record Chosen-given (o : Opened) (s : List ℕ) (question : Answer Chosen) : Type 0 where
+pub record ChosenGiven (o : Opened) (s : List ℕ) (question : Answer Chosen) : Type 0 where
   pub chosen : Chosen
   pub given : ok chosen ≡ question
   pub zones : AllZones o s chosen
@@ -96,7 +96,7 @@ module _ (o : Opened) (s : List ℕ) (sec : Section) (room : Within s sec) (kept
 
     -- at each place that cell i lists stands a zone of the file
     pub place-given : (i : ℕ) → i < cellCount (o .grid) → (j : ℕ) → j < wordCount (le 4 s (sec .off + 12 + 4 * i))
-        → Listed-zone o s (wordOffset (le 4 s (sec .off + 12 + 4 * i)) + j)
+        → ListedZone o s (wordOffset (le 4 s (sec .off + 12 + 4 * i)) + j)
     unfolding candidatePlace
     place-given i h j k =
         let from = wordOffset (le 4 s (sec .off + 12 + 4 * i)) in
@@ -111,10 +111,10 @@ module _ (o : Opened) (s : List ℕ) (sec : Section) (room : Within s sec) (kept
         }
 
     -- a cell is answered, inside the grid or outside
-    pub cell-given : (column row : ℤ) → Chosen-given o s (cellCandidates s (o .grid) column row)
+    pub cell-given : (column row : ℤ) → ChosenGiven o s (cellCandidates s (o .grid) column row)
     cell-given column row = by (inGrid (o .grid) column row) refl
       where
-        by : (b : Bool) → inGrid (o .grid) column row ≡ b → Chosen-given o s (cellCandidates s (o .grid) column row)
+        by : (b : Bool) → inGrid (o .grid) column row ≡ b → ChosenGiven o s (cellCandidates s (o .grid) column row)
         by false e = record { chosen = none; given = cell-outside s (o .grid) column row e; zones = tt }
         by true e =
             let i = cellOf (o .grid) column row in
@@ -130,10 +130,10 @@ module _ (o : Opened) (s : List ℕ) (sec : Section) (room : Within s sec) (kept
 
   -- A question for candidates is answered at all positions, whole numbers or not, on the earth or not.
   pub candidates-given : ((o .flags % 2 ≡ 0 → ⊥) → gridCheck s sec (o .grid) (o .zones .count) ≡ Fine)
-      → (lng lat : Float) → Chosen-given o s (candidatesOf o s lng lat)
+      → (lng lat : Float) → ChosenGiven o s (candidatesOf o s lng lat)
   candidates-given fine lng lat = by (onEarth lng lat) (same (o .flags % 2) 0) refl refl
     where
-      by : (a b : Bool) → onEarth lng lat ≡ a → same (o .flags % 2) 0 ≡ b → Chosen-given o s (candidatesOf o s lng lat)
+      by : (a b : Bool) → onEarth lng lat ≡ a → same (o .flags % 2) 0 ≡ b → ChosenGiven o s (candidatesOf o s lng lat)
       by false b e f = record { chosen = none; given = off-earth o s lng lat e; zones = tt }
       by true true e f = record { chosen = all (o .zones .count); given = no-grid o s lng lat e (same-eq _ _ f); zones = refl }
       by true false e f =

@@ -5,7 +5,6 @@ use native.Mathlib.Omega.{arith}
 use mathlib.Core.Path.{_≡_, refl, sym, ap, _∙_}
 use mathlib.Core.Bool.{Bool, true, false, true≢false}
 use mathlib.Core.List.{List, []}
-use lib.Dec.{T}
 use lib.ListN.{length, getD}
 use Rattle.utf8.specs.Rfc3629.{utf8}
 use Rattle.utf8.specs.Grammar.{Octets}
@@ -22,7 +21,7 @@ use Rattle.reader_names.specs.Asked.{nameAt, nameOr, orEmpty, refusalOf}
 use Rattle.reader_names.proofs.Named.{named}
 
 -- a zone has a name
-pub record Name-given (o : Opened) (s : List ℕ) (zone : ℕ) : Type 0 where
+pub record NameGiven (o : Opened) (s : List ℕ) (zone : ℕ) : Type 0 where
   pub name : List ℕ
   -- the question is answered by it, the part handed back is it, and the second question gives 0
   pub given : ok name ≡ nameAt o s zone
@@ -65,7 +64,7 @@ module _ (name : List ℕ) (fine : textCheck name ≡ Fine) where
       true≢false (sym (eq-same (getD name i 0) 0 z) ∙ seek-none (isZero name) (length name) i nowhere h)
 
 pub name-given : (o : Opened) (s : List ℕ) → Within s (o .names) → namesCheck s (o .names .off) (o .names .len) (o .zones .count) ≡ Fine
-    → (zone : ℕ) → zone < o .zones .count → Name-given o s zone
+    → (zone : ℕ) → zone < o .zones .count → NameGiven o s zone
 unfolding nameOr refusalOf
 name-given o s room fine zone h =
     let n = named o s room fine zone h in

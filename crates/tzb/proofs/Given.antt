@@ -1,9 +1,9 @@
 -- What a file gives that opening accepts, with nothing else supposed of it: which record it is, the checks that it passed, and which questions are never refused.
 -- Assumes nothing.
-use Prim.Native.Nat.{ℕ, _+_, _*_, _/_, _%_, _≤_, _<_}
+use Prim.Native.Nat.{ℕ, _*_, _%_, _≤_, _<_}
 use native.Mathlib.Omega.{arith}
 use native.Mathlib.Nat.{mul-le-mul-right}
-use mathlib.Core.Path.{_≡_, refl, sym, ap, _∙_}
+use mathlib.Core.Path.{_≡_, refl, ap}
 use mathlib.Core.Bool.{true}
 use mathlib.Core.List.{List}
 use borrow.Author.Tests.{leb-true}
@@ -11,28 +11,27 @@ use lib.Dec.{leb}
 use lib.Ieee.{Float}
 use Rattle.basics.specs.Truth.{and-l, and-r}
 use Rattle.fields.specs.Le.{le}
+use Rattle.answer.specs.declared.Refusal.{Refusal}
 use Rattle.answer.specs.declared.Checked.{Checked}
 use Rattle.answer.specs.declared.Checked.the-variants as C
-use Rattle.answer.specs.Checks.{atMost}
 use Rattle.answer.specs.CheckLaws.{fine-one, fine-rest, fine-claim, same-eq, at-le, ne-same}
-use Rattle.answer.specs.Answers.{Answer, ok, _before_}
+use Rattle.answer.specs.Answers.{Answer, ok, refused, _before_}
 use Rattle.tzb_core.proofs.Decoded.{zero-one, ok-inv}
 use Rattle.reader_head.specs.Head.{headCheck, fieldsCheck, isCount}
-use Rattle.reader_table.specs.declared.Section.{Section}
-use Rattle.reader_table.specs.Table.{sectionOf}
+use Rattle.reader_table.specs.Table.{sections, has, sectionOf}
 use Rattle.reader_opened.specs.declared.Directory.{Directory}
 use Rattle.reader_opened.specs.declared.Sections.{Sections}
 use Rattle.reader_opened.specs.declared.Grid.{Grid}
 use Rattle.reader_opened.specs.declared.Opened.{Opened}
-use Rattle.reader_opened.specs.Opened.{zonesCheck, lengthsCheck, countsCheck, sectionsOf, gridOf, directoryOf, openedOf, Within, Tabled, within}
+use Rattle.reader_opened.specs.Opened.{bit, flagCheck, zonesCheck, countsCheck, sectionsOf, gridOf, directoryOf, openedOf, Within, Tabled, within}
 use Rattle.reader_names.specs.Names.{namesCheck}
-use Rattle.reader_names.proofs.Accepted.{Name-given, name-given}
+use Rattle.reader_names.proofs.Accepted.{NameGiven, name-given}
 use Rattle.reader_grid.specs.Grid.{gridCheck}
 use Rattle.reader_grid.specs.Asked.{candidatesOf}
-use Rattle.reader_grid.proofs.Accepted.{Chosen-given, candidates-given}
-use Rattle.reader_records.specs.Records.{place, recordAt, record-at, chunkAt, groupAt}
+use Rattle.reader_grid.proofs.Accepted.{ChosenGiven, candidates-given}
+use Rattle.reader_records.specs.Records.{place, recordAt, record-at, chunkAt, chunkRule, groupAt, groupRule}
 use Rattle.reader_dirs.specs.Dirs.{chunkOf, groupOf, chunksCheck, groupsCheck, countAt, total, Lies, Room}
-use Rattle.reader_dirs.proofs.Accepted.{chunk-found, chunk-some, chunk-inside, rises, group-found, group-sum}
+use Rattle.reader_dirs.proofs.Accepted.{chunk-kept, chunk-found, chunk-some, chunk-inside, rises, group-kept, group-found, group-sum}
 use Rattle.tzb.specs.Opening.{tableCheck, sizesCheck, namesIn, gridIn, contentsCheck, gridIs, openedIs, openOf, Placed, tabled, placed, lies, room}
 
 -- an answer that was given after a check
@@ -45,8 +44,19 @@ grid-checked : (s : List ℕ) (p : Sections) (g : Grid) → gridIn s p g ≡ C.F
 unfolding gridIn
 grid-checked s p g e h = rw (ne-same (p .flags % 2) 0 h) at e
 
+-- an answer that is given is no refusal
+pub not-refused : {A : Type 0} (x : Answer A) (a : A) (k : Refusal) → ok a ≡ x → refused k ≡ x → ⊥
+not-refused x a k e f = let z : _≡_ {A = ℕ} 0 1 = cc in zero-one z
+
+-- The questions that opening alone vouches for: a name by its zone number, candidates at all floats, a chunk's and a group's record by its number. Each is answered.
+pub record Answered (file : List ℕ) (o : Opened) : Type 0 where
+  pub names : (zone : ℕ) → zone < o .zones .count → NameGiven o file zone
+  pub candidates : (lng lat : Float) → ChosenGiven o file (candidatesOf o file lng lat)
+  pub chunks : (i : ℕ) → i < o .chunks .count → ok (chunkOf file (o .chunks) i) ≡ chunkAt o file i
+  pub groups : (i : ℕ) → i < o .groups .count → ok (groupOf file (o .groups) i) ≡ groupAt o file i
+
 -- all the directories' records lie in the file, and no directory is empty
-pub record Directories (file : List ℕ) (o : Opened) : Type 0 where
+pub record DirectoriesThere (file : List ℕ) (o : Opened) : Type 0 where
   pub zones : Lies file (o .zones) 24
   pub polys : Lies file (o .polys) 24
   pub rings : Lies file (o .rings) 28
@@ -64,31 +74,31 @@ pub record Directories (file : List ℕ) (o : Opened) : Type 0 where
 pub record-there : (s : List ℕ) (d : Directory) (w : ℕ) → Lies s d w → (i : ℕ) → i < d .count → ok (place d w i) ≡ recordAt s d w i
 record-there s d w f i h = record-at s d w i h (omega (arith, mul-le-mul-right w h, f .fits))
 
--- the other five have at least one record
+-- the five other directories are as long as one record at least
 module _ (p : Sections) (fine : sizesCheck p ≡ C.Fine) where
   stocked : countsCheck p ≡ C.Fine
   unfolding sizesCheck
   stocked = fine-one _ _ (fine-rest _ _ (fine-rest _ _ fine))
 
-  polys-there : 24 ≤ p .polydir .len
+  polys-long : 24 ≤ p .polydir .len
   unfolding countsCheck
-  polys-there = at-le _ _ (fine-claim _ _ (fine-one _ _ stocked))
+  polys-long = at-le _ _ (fine-claim _ _ (fine-one _ _ stocked))
 
-  rings-there : 28 ≤ p .ringdir .len
+  rings-long : 28 ≤ p .ringdir .len
   unfolding countsCheck
-  rings-there = at-le _ _ (fine-claim _ _ (fine-one _ _ (fine-rest _ _ stocked)))
+  rings-long = at-le _ _ (fine-claim _ _ (fine-one _ _ (fine-rest _ _ stocked)))
 
-  ops-there : 4 ≤ p .ringops .len
+  ops-long : 4 ≤ p .ringops .len
   unfolding countsCheck
-  ops-there = at-le _ _ (fine-claim _ _ (fine-one _ _ (fine-rest _ _ (fine-rest _ _ stocked))))
+  ops-long = at-le _ _ (fine-claim _ _ (fine-one _ _ (fine-rest _ _ (fine-rest _ _ stocked))))
 
-  groups-there : 44 ≤ p .groupdir .len
+  groups-long : 44 ≤ p .groupdir .len
   unfolding countsCheck
-  groups-there = at-le _ _ (fine-claim _ _ (fine-one _ _ (fine-rest _ _ (fine-rest _ _ (fine-rest _ _ stocked)))))
+  groups-long = at-le _ _ (fine-claim _ _ (fine-one _ _ (fine-rest _ _ (fine-rest _ _ (fine-rest _ _ stocked)))))
 
-  chunks-there : 24 ≤ p .chunkdir .len
+  chunks-long : 24 ≤ p .chunkdir .len
   unfolding countsCheck
-  chunks-there = at-le _ _ (fine-claim _ _ (fine-one _ _ (fine-rest _ _ (fine-rest _ _ (fine-rest _ _ (fine-rest _ _ stocked))))))
+  chunks-long = at-le _ _ (fine-claim _ _ (fine-one _ _ (fine-rest _ _ (fine-rest _ _ (fine-rest _ _ (fine-rest _ _ stocked))))))
 
 module _ (file : List ℕ) (o : Opened) (opened : ok o ≡ openOf file) where
   -- ---- the record, and the checks that the file passed
@@ -170,9 +180,9 @@ module _ (file : List ℕ) (o : Opened) (opened : ok o ≡ openOf file) where
   zones-lie = record { fits = omega (arith, zones-size, zones-begin, within file is-tabled 2 .fits) }
 
   -- ---- the directories below, and the points
-  pub directories : Directories file o
+  pub directories-there : DirectoriesThere file o
   unfolding openedOf sectionsOf directoryOf
-  directories =
+  directories-there =
       record {
         zones = zones-lie;
         polys = rw opened-is (lies file _ 24 (within file is-tabled 3));
@@ -181,11 +191,11 @@ module _ (file : List ℕ) (o : Opened) (opened : ok o ≡ openOf file) where
         groups = has-room .groups;
         chunks = has-room .chunks;
         zones-some = zones-some;
-        polys-some = rw opened-is (omega (arith, polys-there _ sizes-fine));
-        rings-some = rw opened-is (omega (arith, rings-there _ sizes-fine));
-        ops-some = rw opened-is (omega (arith, ops-there _ sizes-fine));
-        groups-some = rw opened-is (omega (arith, groups-there _ sizes-fine));
-        chunks-some = rw opened-is (omega (arith, chunks-there _ sizes-fine));
+        polys-some = rw opened-is (omega (arith, polys-long _ sizes-fine));
+        rings-some = rw opened-is (omega (arith, rings-long _ sizes-fine));
+        ops-some = rw opened-is (omega (arith, ops-long _ sizes-fine));
+        groups-some = rw opened-is (omega (arith, groups-long _ sizes-fine));
+        chunks-some = rw opened-is (omega (arith, chunks-long _ sizes-fine));
       }
 
   pub points-within : Within file (o .points)
@@ -201,8 +211,13 @@ module _ (file : List ℕ) (o : Opened) (opened : ok o ≡ openOf file) where
   unfolding openedOf namesIn
   names-checked = rw opened-is names-fine
 
-  pub name-answered : (zone : ℕ) → zone < o .zones .count → Name-given o file zone
+  pub name-answered : (zone : ℕ) → zone < o .zones .count → NameGiven o file zone
   name-answered = name-given o file names-within names-checked
+
+  -- ---- the flag says whether GRID is there
+  pub flag-tells : o .flags % 2 ≡ bit (has file 8 (sections file))
+  unfolding openedOf sectionsOf tableCheck flagCheck
+  flag-tells = rw opened-is (same-eq _ _ (fine-claim _ _ (fine-one _ _ (fine-one _ _ (fine-rest _ _ (fine-rest _ _ (fine-rest _ _ table-fine)))))))
 
   -- ---- candidates, for all floats: an answer, and in it only zones of the file
   grid-kept : o .grid ≡ gridOf file (sectionsOf file .gridpart)
@@ -213,7 +228,7 @@ module _ (file : List ℕ) (o : Opened) (opened : ok o ≡ openOf file) where
   unfolding openedOf
   grid-asked = rw opened-is (grid-checked file (sectionsOf file) (gridIs file) grid-fine)
 
-  pub candidates-answered : (lng lat : Float) → Chosen-given o file (candidatesOf o file lng lat)
+  pub candidates-answered : (lng lat : Float) → ChosenGiven o file (candidatesOf o file lng lat)
   candidates-answered = candidates-given o file (sectionsOf file .gridpart) (is-placed .grid) grid-kept grid-asked
 
   -- ---- chunks and groups
@@ -221,12 +236,17 @@ module _ (file : List ℕ) (o : Opened) (opened : ok o ≡ openOf file) where
     pub chunk-answered : ok (chunkOf file (o .chunks) i) ≡ chunkAt o file i
     chunk-answered = chunk-found file o has-room chunks-fine i h
 
+    pub chunk-keeps : chunkRule (chunkOf file (o .chunks) i) ≡ true
+    chunk-keeps = chunk-kept file o has-room chunks-fine i h
+
+    -- it has points, and its bytes begin inside POINTS
     pub chunk-counts : 0 < chunkOf file (o .chunks) i .count
     chunk-counts = chunk-some file o has-room chunks-fine i h
 
     pub chunk-begins : chunkOf file (o .chunks) i .off < o .points .len
     chunk-begins = chunk-inside file o has-room chunks-fine i h
 
+  -- offsets rise
   pub chunks-rise : (i j : ℕ) → i < j → j < o .chunks .count → chunkOf file (o .chunks) i .off < chunkOf file (o .chunks) j .off
   chunks-rise = rises file o has-room chunks-fine
 
@@ -234,5 +254,13 @@ module _ (file : List ℕ) (o : Opened) (opened : ok o ≡ openOf file) where
     pub group-answered : ok (groupOf file (o .groups) i) ≡ groupAt o file i
     group-answered = group-found file o has-room groups-fine i h
 
+    pub group-keeps : groupRule (o .chunks .count) (groupOf file (o .groups) i) ≡ true
+    group-keeps = group-kept file o has-room groups-fine i h
+
+    -- its chunks' counts add to its point count
     pub group-adds : total (countAt file (o .chunks)) (groupOf file (o .groups) i .count) (groupOf file (o .groups) i .first) ≡ groupOf file (o .groups) i .points
     group-adds = group-sum file o has-room groups-fine i h
+
+  -- ---- all of these in one
+  pub answered : Answered file o
+  answered = record { names = name-answered; candidates = candidates-answered; chunks = chunk-answered; groups = group-answered }

@@ -1,0 +1,2 @@
+-- That the worked file opens, and what follows.
+pub mod Opens

@@ -1,0 +1,2 @@
+-- A worked file.
+pub mod File

@@ -1,0 +1,1 @@
+// Only a worked file and what opening says of it: see specs/ and proofs/.
