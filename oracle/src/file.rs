@@ -2,6 +2,7 @@
 
 #[cfg(test)]
 mod accepted;
+pub mod broken;
 mod cases;
 pub mod damage;
 mod examples;
@@ -11,7 +12,7 @@ mod shape;
 pub mod smaller;
 
 pub use cases::cases;
-pub use examples::{bases, kinds, least, marked};
+pub use examples::{bases, chunks, departing, kinds, least, marked};
 pub use grid::Grid;
 pub use shape::{Chunks, Op, Shape};
 
@@ -156,6 +157,24 @@ pub fn names(skipped: &[u8], all: &[Vec<u8>]) -> Vec<u8> {
 /// A valid file, of every kind: 1 to 4 zones, GRID or none, unknown and empty sections, gaps, any order.
 pub fn some(random: &mut Random) -> Draft {
     let shape = Shape::some(random);
+    around(random, &shape, false, Grid::some)
+}
+
+/// A valid file whose zones lie on a small lattice. Now and then all have the same name.
+pub fn on_lattice(random: &mut Random) -> Draft {
+    let shape = Shape::on_lattice(random);
+    let alike = random.below(8) == 0;
+    let cell = shape.cell();
+    around(random, &shape, alike, |random, zones| Grid::over(random, zones, cell))
+}
+
+/// A file with these zones; their names are alike or not.
+fn around(
+    random: &mut Random,
+    shape: &Shape,
+    alike: bool,
+    grid: impl Fn(&mut Random, usize) -> Grid,
+) -> Draft {
     let zones = shape.zones.len();
     let mut parts = shape.parts();
     let text = |random: &mut Random| {
@@ -165,11 +184,12 @@ pub fn some(random: &mut Random) -> Draft {
         if name.is_empty() { b"Z".to_vec() } else { name }
     };
     let all: Vec<Vec<u8>> = (0..zones).map(|_| text(random)).collect();
+    let all = if alike { vec![b"Z".to_vec(); zones] } else { all };
     let skipped = random.below(4).saturating_sub(1);
     let skipped = random.bytes(skipped);
     parts.push(Part { typ: NAMES, bytes: names(&skipped, &all), gap: 0 });
     if random.below(3) > 0 {
-        parts.push(Part { typ: GRID, bytes: Grid::some(random, zones).bytes(), gap: 0 });
+        parts.push(Part { typ: GRID, bytes: grid(random, zones).bytes(), gap: 0 });
     }
     if random.below(3) == 0 {
         let length = random.below(20);

@@ -42,6 +42,39 @@ pub const KNOWN: [Known; 4] = [
 pub const ALL: [Departure; 4] =
     [Departure::Type11, Departure::EmptyInside, Departure::ChunkRecord, Departure::ShortGroup];
 
+/// Those of the questions: decoding, containment, lookups.
+pub const OF_ASKING: [Known; 3] = [
+    Known {
+        departure: Departure::ShortRing,
+        name: "a ring with point count below 3",
+        document: "has no such rule: the ring is looked at",
+        original: "a bad record (34), when the ring is read",
+    },
+    Known {
+        departure: Departure::ReadsOn,
+        name: "broken chunk bytes behind a hit on an edge",
+        document: "the hit ends the walk",
+        original: "reads the chunk to its end, and refuses",
+    },
+    Known {
+        departure: Departure::Stripes,
+        name: "a chunk whose box reaches below its group's",
+        document: "is looked at",
+        original: "its stripe number wraps, and the chunk may be passed over",
+    },
+];
+
+/// Every departure, of opening and of the questions.
+pub const EVERY: [Departure; 7] = [
+    Departure::Type11,
+    Departure::EmptyInside,
+    Departure::ChunkRecord,
+    Departure::ShortGroup,
+    Departure::ShortRing,
+    Departure::ReadsOn,
+    Departure::Stripes,
+];
+
 /// The number by the rules, 0 where the file opens.
 pub fn number(file: &[u8], departures: &[Departure]) -> u32 {
     rules::open(file, departures).err().unwrap_or(0)

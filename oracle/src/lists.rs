@@ -1,7 +1,9 @@
 //! The fixed lists of the original's answers, which the gate replays without Rust. README.md has the layout of their records.
 
 mod asked;
+mod blocks;
 mod open;
+mod walked;
 
 use crate::bytes::{self, OF_NUMBERS};
 use crate::original;
@@ -28,20 +30,39 @@ pub fn write(folder: &Path) {
         assert!(count >= 2, "a number with fewer than two files");
     }
     let (list, counts) = asked::list();
-    fs::write(folder.join("asked.bin"), &list).expect("a list");
-    println!("asked.bin: {} questions, {} bytes", counts.values().sum::<u64>(), list.len());
-    counts.iter().for_each(|((kind, n), count)| println!("  {count} of a {kind} with {n}"));
-    for met in [
-        ("name", 23),
-        ("name", 44),
-        ("name", 45),
-        ("candidates", 44),
-        ("candidate", 30),
-        ("candidate", 31),
-        ("candidate", 44),
-    ] {
-        assert!(counts.get(&met).is_some_and(|&count| count >= 2), "{met:?} is not met");
+    keep(folder, "asked.bin", &list, &counts);
+    let met = |kind, numbers: &[u32]| {
+        let met = |n| counts.get(&(kind, n)).is_some_and(|&count| count >= 2);
+        numbers.iter().for_each(|&n| assert!(met(n), "a {kind} with {n} is not met"));
+    };
+    met("name", &[0, 23, 44, 45]);
+    met("candidates", &[0, 44]);
+    met("candidate", &[0, 30, 31, 44]);
+    walked(folder);
+}
+
+fn walked(folder: &Path) {
+    let (list, counts) = walked::list();
+    keep(folder, "walked.bin", &list, &counts);
+    for number in (34..=46).chain([32]) {
+        let count: u64 = counts.iter().filter(|((_, n), _)| *n == number).map(|(_, c)| c).sum();
+        assert!(count >= 2, "{number} is not met");
     }
+    let files = walked::full();
+    let list = open::bytes(&files);
+    fs::write(folder.join("full.bin"), &list).expect("a list");
+    println!("full.bin: {} records, {} bytes", files.len(), list.len());
+    for rule in 2..=6 {
+        let count = files.iter().filter(|(n, _)| *n == 47 + 100 * rule).count();
+        println!("  {count} with rule {rule}");
+        assert!(count >= 4, "a rule with too few files");
+    }
+}
+
+fn keep(folder: &Path, name: &str, list: &[u8], counts: &asked::Counts) {
+    fs::write(folder.join(name), list).expect("a list");
+    println!("{name}: {} questions, {} bytes", counts.values().sum::<u64>(), list.len());
+    counts.iter().for_each(|((kind, n), count)| println!("  {count} of a {kind} with {n}"));
 }
 
 /// M1 to M8.

@@ -3,6 +3,7 @@
 mod bench;
 mod bytes;
 mod compare;
+mod exact;
 mod file;
 mod known;
 mod lists;
@@ -11,12 +12,15 @@ mod port;
 mod random;
 mod rules;
 mod scene;
+mod voice;
 
 include!(concat!(env!("OUT_DIR"), "/original.rs"));
 
 const USAGE: &str = "oracle compare [SECONDS [SEED]]
 oracle compare files [SECONDS [SEED]]
 oracle compare file FILE.tzb
+oracle compare asking [SECONDS [SEED]]
+oracle compare asking FILE.tzb [SECONDS [SEED]]
 oracle lists FOLDER
 oracle bench [FILE.tzb]";
 
@@ -28,6 +32,8 @@ fn main() {
         ["compare", "files"] => compare::files::run(60, random::fresh_seed()),
         ["compare", "files", seconds] => compare::files::run(number(seconds), random::fresh_seed()),
         ["compare", "files", seconds, seed] => compare::files::run(number(seconds), number(seed)),
+        ["compare", "asking"] => compare::asking::run(60, random::fresh_seed()),
+        ["compare", "asking", one, ref rest @ ..] if rest.len() < 3 => asking(one, rest),
         ["compare", "file", file] => compare::files::one(file.as_ref()),
         ["compare", seconds] => compare::run(number(seconds), random::fresh_seed()),
         ["compare", seconds, seed] => compare::run(number(seconds), number(seed)),
@@ -36,6 +42,16 @@ fn main() {
         ["bench", file] => bench::run(Some(file.as_ref())),
         _ => usage(),
     }
+}
+
+/// SECONDS [SEED], or a file before them.
+fn asking(one: &str, rest: &[&str]) {
+    let seed = |word: Option<&&str>| word.map_or_else(random::fresh_seed, |w| number(w));
+    if one.parse::<u64>().is_ok() && rest.len() < 2 {
+        return compare::asking::run(number(one), seed(rest.first()));
+    }
+    let seconds = rest.first().map_or(60, |w| number(w));
+    compare::asking::one(one.as_ref(), seconds, seed(rest.get(1)));
 }
 
 fn number(word: &str) -> u64 {

@@ -1,5 +1,6 @@
 //! The original, in the shapes of the port's exports.
 
+mod asking;
 pub mod opening;
 
 use crate::bytes::{Reading, refused};

@@ -1,10 +1,18 @@
-//! Document 01's opening, written straight from its words and in its order: plain and slow. A third voice beside the original and the port.
+//! Document 01's opening and questions, written straight from its words and in its order: plain and slow. A third voice beside the original and the port.
 //! With `Departure`s it judges as the original is known to; without any it is document 01.
 
+mod asking;
 mod bytes;
+mod chunk;
+mod full;
 mod questions;
+mod ray;
+mod records;
+mod walk;
 
+pub use asking::Judge;
 pub use bytes::crc32;
+pub use full::full_check;
 pub use questions::Candidates;
 
 use bytes::{i16_at, i32_at, u16_at, u32_at, utf8};
@@ -19,6 +27,9 @@ pub enum Departure {
     EmptyInside,
     ChunkRecord,
     ShortGroup,
+    ShortRing,
+    ReadsOn,
+    Stripes,
 }
 
 #[derive(Debug, Clone, Copy)]
@@ -58,6 +69,7 @@ impl Grid {
 pub struct Opened<'a> {
     file: &'a [u8],
     sections: [Option<Section>; 15],
+    flags: u64,
     pub zones: u64,
     pub grid: Option<Grid>,
 }
@@ -69,7 +81,8 @@ fn need(number: u32, holds: bool) -> Said<()> {
 pub fn open<'a>(file: &'a [u8], original: &[Departure]) -> Said<Opened<'a>> {
     header(file)?;
     let sections = table(file, original)?;
-    let mut opened = Opened { file, sections, zones: u32_at(file, 40), grid: None };
+    let (flags, zones) = (u32_at(file, 8), u32_at(file, 40));
+    let mut opened = Opened { file, sections, flags, zones, grid: None };
     directories(&opened)?;
     names(&opened)?;
     if sections[8].is_some() {
@@ -146,7 +159,7 @@ const POINTS: usize = 9;
 
 fn directories(o: &Opened) -> Said<()> {
     need(17, [1, 2, 3, 4, 5, 6, 7, 9].iter().all(|&typ: &usize| o.sections[typ].is_some()))?;
-    need(18, (u32_at(o.file, 8) % 2 == 1) == o.sections[8].is_some())?;
+    need(18, (o.flags % 2 == 1) == o.sections[8].is_some())?;
     let len = |typ| o.section(typ).len;
     let whole = |typ, width| len(typ) % width == 0;
     need(

@@ -6,7 +6,6 @@ use Rattle.answer.specs.Walks.{Walk}
 use Rattle.reader_groups.specs.Groups.{One, went}
 use Rattle.reader_groups.specs.declared.Went.{Went}
 use Rattle.reader_groups.specs.declared.Went.the-variants as W
-use Rattle.reader_groups.proofs.past_segment.Reads as past-segment-reads
 use Rattle.reader_groups.proofs.after.Reads as after-reads
 use Rattle.reader_groups.proofs.scan_group.Reads as scan-group-reads
 
@@ -20,9 +19,6 @@ one-went W.On (W.Off c) x e f = cc
 one-went (W.Off b) (W.Refused l) x e f = cc
 one-went (W.Off b) W.On x e f = cc
 one-went (W.Off b) (W.Off c) x e f = cc
-
-pub past-segment : Determined past-segment-reads.Learnt
-past-segment κ a r r' e e' p q = one-went r r' _ p q
 
 pub after : Determined after-reads.Learnt
 after κ a r r' e e' p q = one-went r r' _ p q

@@ -1,2 +1,3 @@
--- That answers are determined.
+-- What is known of a first point; that answers are determined.
+pub mod Remembering
 pub mod Determined

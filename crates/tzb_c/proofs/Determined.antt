@@ -1,7 +1,7 @@
--- Any two answers that a promise allows are equal: stated over the contracts themselves.
+-- Any two answers that a promise allows are equal, and so is the lent memory: stated over the contracts themselves.
 -- Assumes nothing.
 use mathlib.Core.Path.{sym, _∙_}
-use Rattle.basics.specs.Determined.{Determined}
+use Rattle.basics.specs.Determined.{Determined, DeterminedMemory}
 use Rattle.tzb_c.proofs.tzb_number.Reads as number-reads
 use Rattle.tzb_c.proofs.tzb_number_length.Reads as number-length-reads
 use Rattle.tzb_c.proofs.tzb_box_contains.Reads as box-contains-reads
@@ -11,13 +11,38 @@ use Rattle.tzb_c.proofs.tzb_utf8.Reads as utf8-reads
 use Rattle.tzb_c.proofs.tzb_ray.Reads as ray-reads
 use Rattle.tzb_c.proofs.tzb_parity.Reads as parity-reads
 use Rattle.tzb_c.proofs.tzb_next_up.Reads as next-up-reads
-use Rattle.tzb_c.proofs.tzb_try_open.Reads as try-open-reads
-use Rattle.tzb_c.proofs.tzb_try_name.Reads as try-name-reads
-use Rattle.tzb_c.proofs.tzb_try_name_start.Reads as try-name-start-reads
-use Rattle.tzb_c.proofs.tzb_try_name_end.Reads as try-name-end-reads
-use Rattle.tzb_c.proofs.tzb_try_choice.Reads as try-choice-reads
-use Rattle.tzb_c.proofs.tzb_try_listed.Reads as try-listed-reads
-use Rattle.tzb_c.proofs.tzb_try_candidate.Reads as try-candidate-reads
+use Rattle.tzb_c.proofs.tzb_open.Reads as open-reads
+use Rattle.tzb_c.proofs.tzb_zone_count.Reads as zone-count-reads
+use Rattle.tzb_c.proofs.tzb_name_start.Reads as name-start-reads
+use Rattle.tzb_c.proofs.tzb_name_end.Reads as name-end-reads
+use Rattle.tzb_c.proofs.tzb_choice.Reads as choice-reads
+use Rattle.tzb_c.proofs.tzb_listed.Reads as listed-reads
+use Rattle.tzb_c.proofs.tzb_candidate.Reads as candidate-reads
+
+pub opens : Determined open-reads.Learnt
+opens κ a r r' e e' p q = p .0 ∙ sym (q .0)
+
+-- the lent record at exit
+pub opens-memory : DeterminedMemory open-reads.Learnt (λ κ e. e .1 .0 .now)
+opens-memory κ a r r' e e' p q = p .1 ∙ sym (q .1)
+
+pub zone-count : Determined zone-count-reads.Learnt
+zone-count κ a r r' e e' p q = p ∙ sym q
+
+pub name-start : Determined name-start-reads.Learnt
+name-start κ a r r' e e' p q = p ∙ sym q
+
+pub name-end : Determined name-end-reads.Learnt
+name-end κ a r r' e e' p q = p ∙ sym q
+
+pub choice : Determined choice-reads.Learnt
+choice κ a r r' e e' p q = p ∙ sym q
+
+pub listed : Determined listed-reads.Learnt
+listed κ a r r' e e' p q = p ∙ sym q
+
+pub candidate : Determined candidate-reads.Learnt
+candidate κ a r r' e e' p q = p ∙ sym q
 
 pub number : Determined number-reads.Learnt
 number κ a r r' e e' p q = p ∙ sym q
@@ -45,24 +70,3 @@ parity κ a r r' e e' p q = p ∙ sym q
 
 pub next-up : Determined next-up-reads.Learnt
 next-up κ a r r' e e' p q = p ∙ sym q
-
-pub try-open : Determined try-open-reads.Learnt
-try-open κ a r r' e e' p q = p ∙ sym q
-
-pub try-name : Determined try-name-reads.Learnt
-try-name κ a r r' e e' p q = p ∙ sym q
-
-pub try-name-start : Determined try-name-start-reads.Learnt
-try-name-start κ a r r' e e' p q = p ∙ sym q
-
-pub try-name-end : Determined try-name-end-reads.Learnt
-try-name-end κ a r r' e e' p q = p ∙ sym q
-
-pub try-choice : Determined try-choice-reads.Learnt
-try-choice κ a r r' e e' p q = p ∙ sym q
-
-pub try-listed : Determined try-listed-reads.Learnt
-try-listed κ a r r' e e' p q = p ∙ sym q
-
-pub try-candidate : Determined try-candidate-reads.Learnt
-try-candidate κ a r r' e e' p q = p ∙ sym q

@@ -7,9 +7,9 @@ ghost use mathlib.Core.List.{[]};
 ghost use Rattle.tzb_core.specs.Box.{contains, relevant};
 ghost use Rattle.tzb_core.specs.Ray.{rayOf, parityOf};
 ghost use Rattle.tzb_core.specs.Varint.{numberAt};
-ghost use Rattle.tzb.specs.Opening.{openOf};
-ghost use Rattle.tzb_c.specs.Tries.{nameTold, choiceTold, candidateTold, nameTry, choiceTry, candidateTry, refusalNumber, startOf, endOf, kindOf, listedOf, zoneOf};
+ghost use Rattle.tzb_c.specs.Asked.{nameTold, choiceTold, candidateTold, openInto, keptIn, zonesAsked, nameAsked, choiceAsked, candidateAsked, openCode, numberCode, startCode, endCode, kindCode, listedOf};
 ghost use Rattle.tzb_c.specs.Exports.{bitOf, refusalCode, numberOf, lengthFrom, boxOf, pointOf, placeOf, seenCode};
+use answer::Checked;
 use answer::Refusal;
 use plane::I32Point;
 use plane::Point;
@@ -21,6 +21,7 @@ use tzb::Opening;
 use tzb_core::bbox::BBox;
 use tzb_core::varint::Place;
 use tzb_core::varint::Read;
+use tzb_record::RecordRead;
 
 fn bit(b: bool) -> u32
     ensures { λ r. ⌜ r ≡ bitOf b ⌝ }
@@ -35,6 +36,145 @@ fn refusal_code(r: Refusal) -> i32
     let n = r.number;
     // !x is -1 - x
     if n < 1000 { !((999 + n) as i32) } else { !1998 }
+}
+
+fn refusal_code64(r: Refusal) -> i64
+    ensures { λ z. ⌜ z ≡ refusalCode r ⌝ }
+{
+    refusal_code(r) as i64
+}
+
+// ---- opening, and questions over the opened record
+
+// Opens the file and writes the opened record into the first 84 bytes of lent memory: 0, or -1000 - n for refusal n, and then nothing is written. 46 where there is no room.
+#[no_mangle]
+pub extern "C" fn tzb_open(file: &[u8], record: &mut [u8]) -> i32
+    ensures { λ r. ⌜ r ≡ openCode (openInto (now (file .entry)) (now («record» .entry))) ⌝ }
+    ensures memory { λ r. ⌜ now («record» .exit) ≡ keptIn (now («record» .entry)) (openInto (now (file .entry)) (now («record» .entry))) ⌝ }
+{
+    let a = tzb::open(file);
+    match a {
+        Opening::Refused(k) => refusal_code(k),
+        Opening::Done(o) => {
+            let b = tzb_record::write_record(o, record);
+            match b {
+                Checked::Refused(k) => refusal_code(k),
+                Checked::Fine => 0,
+            }
+        }
+    }
+}
+
+// How many zones there are: their numbers are those below. -1000 - n for refusal n.
+#[no_mangle]
+pub extern "C" fn tzb_zone_count(record: &[u8]) -> i64
+    ensures { λ r. ⌜ r ≡ numberCode (zonesAsked (now («record» .entry))) ⌝ }
+{
+    let a = tzb_record::read_record(record);
+    match a {
+        RecordRead::Refused(k) => refusal_code64(k),
+        RecordRead::Is(o) => o.zones.count as i64,
+    }
+}
+
+fn name_of(record: &[u8], file: &[u8], zone: u32) -> Bounds
+    ensures { λ r. ⌜ nameTold r ≡ nameAsked (now («record» .entry)) (now (file .entry)) zone ⌝ }
+{
+    let a = tzb_record::read_record(record);
+    match a {
+        RecordRead::Refused(k) => Bounds::Refused(k),
+        RecordRead::Is(o) => reader_names::name_bounds(file, o.names.off, o.zones.count, zone),
+    }
+}
+
+// Where a zone's name starts in the file, or -1000 - n for refusal n.
+#[no_mangle]
+pub extern "C" fn tzb_name_start(record: &[u8], file: &[u8], zone: u32) -> i64
+    ensures { λ r. ⌜ r ≡ startCode (nameAsked (now («record» .entry)) (now (file .entry)) zone) ⌝ }
+{
+    let a = name_of(record, file, zone);
+    match a {
+        Bounds::Refused(k) => refusal_code64(k),
+        Bounds::At(from, _) => from as i64,
+    }
+}
+
+// Where it ends: the place after its last byte, or -1000 - n for refusal n.
+#[no_mangle]
+pub extern "C" fn tzb_name_end(record: &[u8], file: &[u8], zone: u32) -> i64
+    ensures { λ r. ⌜ r ≡ endCode (nameAsked (now («record» .entry)) (now (file .entry)) zone) ⌝ }
+{
+    let a = name_of(record, file, zone);
+    match a {
+        Bounds::Refused(k) => refusal_code64(k),
+        Bounds::At(_, to) => to as i64,
+    }
+}
+
+fn choice_of(record: &[u8], file: &[u8], lng: f64, lat: f64) -> Choice
+    ensures { λ r. ⌜ choiceTold r ≡ choiceAsked (now («record» .entry)) (now (file .entry)) lng lat ⌝ }
+{
+    let a = tzb_record::read_record(record);
+    match a {
+        RecordRead::Refused(k) => Choice::Refused(k),
+        RecordRead::Is(o) => reader_grid::candidates(o, file, lng, lat),
+    }
+}
+
+fn wide(x: u32) -> u64
+    ensures { λ r. ⌜ r ≡ x ⌝ }
+{
+    x as u64
+}
+
+// What the candidates of a position are: 0 none, 1 all zones, 2 those listed for a cell, -1000 - n for refusal n.
+#[no_mangle]
+pub extern "C" fn tzb_choice(record: &[u8], file: &[u8], lng: f64, lat: f64) -> i32
+    ensures { λ r. ⌜ r ≡ kindCode (choiceAsked (now («record» .entry)) (now (file .entry)) lng lat) ⌝ }
+{
+    let a = choice_of(record, file, lng, lat);
+    match a {
+        Choice::None => 0,
+        Choice::All(_) => 1,
+        Choice::Listed(_, _) => 2,
+        Choice::Refused(k) => refusal_code(k),
+    }
+}
+
+// How many are listed, times 2 ^ 32, and the place of the first; the number of all zones; else 0.
+#[no_mangle]
+pub extern "C" fn tzb_listed(record: &[u8], file: &[u8], lng: f64, lat: f64) -> u64
+    ensures { λ r. ⌜ r ≡ listedOf (choiceAsked (now («record» .entry)) (now (file .entry)) lng lat) ⌝ }
+{
+    let a = choice_of(record, file, lng, lat);
+    match a {
+        Choice::None => 0,
+        Choice::All(n) => wide(n),
+        Choice::Listed(n, place) => wide(n) * 0x1_0000_0000 + wide(place),
+        Choice::Refused(_) => 0,
+    }
+}
+
+fn candidate_of(record: &[u8], file: &[u8], place: u32) -> Candidate
+    ensures { λ r. ⌜ candidateTold r ≡ candidateAsked (now («record» .entry)) (now (file .entry)) place ⌝ }
+{
+    let a = tzb_record::read_record(record);
+    match a {
+        RecordRead::Refused(k) => Candidate::Refused(k),
+        RecordRead::Is(o) => reader_grid::candidate_at(o, file, place),
+    }
+}
+
+// The zone at a place of the candidate list, or -1000 - n for refusal n.
+#[no_mangle]
+pub extern "C" fn tzb_candidate(record: &[u8], file: &[u8], place: u32) -> i64
+    ensures { λ r. ⌜ r ≡ numberCode (candidateAsked (now («record» .entry)) (now (file .entry)) place) ⌝ }
+{
+    let a = candidate_of(record, file, place);
+    match a {
+        Candidate::Refused(k) => refusal_code64(k),
+        Candidate::Zone(z) => z as i64,
+    }
 }
 
 // ---- for comparison runs
@@ -158,129 +298,4 @@ pub extern "C" fn tzb_next_up(x: f64) -> f64
     ensures { λ r. ⌜ r ≡ nextUp x ⌝ }
 {
     tzb_core::raycast::next_up(x)
-}
-
-// ---- opens the file and asks, for comparison runs
-
-// The number by which opening refuses the file, or 0.
-#[no_mangle]
-pub extern "C" fn tzb_try_open(file: &[u8]) -> u32
-    ensures { λ r. ⌜ r ≡ refusalNumber (openOf (now (file .entry))) ⌝ }
-{
-    let a = tzb::open(file);
-    match a {
-        Opening::Done(_) => 0,
-        Opening::Refused(k) => k.number,
-    }
-}
-
-fn name_of(file: &[u8], zone: u32) -> Bounds
-    ensures { λ r. ⌜ nameTold r ≡ nameTry (now (file .entry)) zone ⌝ }
-{
-    let a = tzb::open(file);
-    match a {
-        Opening::Refused(k) => Bounds::Refused(k),
-        Opening::Done(o) => reader_names::name_bounds(file, o.names.off, o.zones.count, zone),
-    }
-}
-
-// The number by which opening, or a zone's name, is refused, or 0.
-#[no_mangle]
-pub extern "C" fn tzb_try_name(file: &[u8], zone: u32) -> u32
-    ensures { λ r. ⌜ r ≡ refusalNumber (nameTry (now (file .entry)) zone) ⌝ }
-{
-    let a = name_of(file, zone);
-    match a {
-        Bounds::At(_, _) => 0,
-        Bounds::Refused(k) => k.number,
-    }
-}
-
-// Where that name starts in the file, and where it ends; 0 where it is refused.
-#[no_mangle]
-pub extern "C" fn tzb_try_name_start(file: &[u8], zone: u32) -> usize
-    ensures { λ r. ⌜ r ≡ startOf (nameTry (now (file .entry)) zone) ⌝ }
-{
-    let a = name_of(file, zone);
-    match a {
-        Bounds::At(from, _) => from,
-        Bounds::Refused(_) => 0,
-    }
-}
-
-#[no_mangle]
-pub extern "C" fn tzb_try_name_end(file: &[u8], zone: u32) -> usize
-    ensures { λ r. ⌜ r ≡ endOf (nameTry (now (file .entry)) zone) ⌝ }
-{
-    let a = name_of(file, zone);
-    match a {
-        Bounds::At(_, to) => to,
-        Bounds::Refused(_) => 0,
-    }
-}
-
-fn choice_of(file: &[u8], lng: f64, lat: f64) -> Choice
-    ensures { λ r. ⌜ choiceTold r ≡ choiceTry (now (file .entry)) lng lat ⌝ }
-{
-    let a = tzb::open(file);
-    match a {
-        Opening::Refused(k) => Choice::Refused(k),
-        Opening::Done(o) => reader_grid::candidates(o, file, lng, lat),
-    }
-}
-
-fn wide(x: u32) -> u64
-    ensures { λ r. ⌜ r ≡ x ⌝ }
-{
-    x as u64
-}
-
-// What the candidates of a position are: 0 none, 1 all zones, 2 those listed for a cell, 1000 + n refused by n.
-#[no_mangle]
-pub extern "C" fn tzb_try_choice(file: &[u8], lng: f64, lat: f64) -> u64
-    ensures { λ r. ⌜ r ≡ kindOf (choiceTry (now (file .entry)) lng lat) ⌝ }
-{
-    let a = choice_of(file, lng, lat);
-    match a {
-        Choice::None => 0,
-        Choice::All(_) => 1,
-        Choice::Listed(_, _) => 2,
-        Choice::Refused(k) => 1000 + wide(k.number),
-    }
-}
-
-// How many are listed, times 2 ^ 32, and the place of the first; the number of all zones; else 0.
-#[no_mangle]
-pub extern "C" fn tzb_try_listed(file: &[u8], lng: f64, lat: f64) -> u64
-    ensures { λ r. ⌜ r ≡ listedOf (choiceTry (now (file .entry)) lng lat) ⌝ }
-{
-    let a = choice_of(file, lng, lat);
-    match a {
-        Choice::None => 0,
-        Choice::All(n) => wide(n),
-        Choice::Listed(n, place) => wide(n) * 0x1_0000_0000 + wide(place),
-        Choice::Refused(_) => 0,
-    }
-}
-
-fn candidate_of(file: &[u8], place: u32) -> Candidate
-    ensures { λ r. ⌜ candidateTold r ≡ candidateTry (now (file .entry)) place ⌝ }
-{
-    let a = tzb::open(file);
-    match a {
-        Opening::Refused(k) => Candidate::Refused(k),
-        Opening::Done(o) => reader_grid::candidate_at(o, file, place),
-    }
-}
-
-// The zone at a place of the candidate list, or 2 ^ 32 + n where it is refused by n.
-#[no_mangle]
-pub extern "C" fn tzb_try_candidate(file: &[u8], place: u32) -> u64
-    ensures { λ r. ⌜ r ≡ zoneOf (candidateTry (now (file .entry)) place) ⌝ }
-{
-    let a = candidate_of(file, place);
-    match a {
-        Candidate::Zone(z) => wide(z),
-        Candidate::Refused(k) => 0x1_0000_0000 + wide(k.number),
-    }
 }

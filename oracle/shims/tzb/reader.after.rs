@@ -20,4 +20,8 @@ impl Reader<'_> {
     pub(crate) fn ask_candidate(&self, place: u32) -> Result<u32, Error> {
         self.candidate_at(place)
     }
+
+    pub(crate) fn ask_contains(&self, zone: u32, x: f64, y: f64) -> Result<bool, Error> {
+        self.timezone_contains(zone, x, y)
+    }
 }

@@ -11,7 +11,7 @@ use met::Met;
 use std::path::Path;
 use std::time::{Duration, Instant};
 
-const DIFFERENCE: &str = "target/difference.tzb";
+pub const DIFFERENCE: &str = "target/difference.tzb";
 
 /// In so many of the fixed files every byte is set to every value.
 const SWEPT: usize = 5;

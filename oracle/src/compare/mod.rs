@@ -1,5 +1,6 @@
 //! Puts the same inputs to the port and to the original, and stops at the first difference.
 
+pub mod asking;
 mod checksum;
 pub mod files;
 mod geometry;

@@ -1,7 +1,11 @@
-//! Every file of the builder opens, and keeps what the full check demands of it, by the original's own records and decoder.
+//! A second opinion on the full check, by the original's own records and decoder: every file of the builder is accepted, and of damaged ones the rules accept the same.
 
-use super::{CHUNKDIR, GROUPDIR, POLYDIR, RINGDIR, RINGOPS, TZDIR, entries, some};
+use super::damage::Aim;
+use super::{
+    CHUNKDIR, GROUPDIR, POLYDIR, RINGDIR, RINGOPS, TZDIR, broken, entries, on_lattice, some,
+};
 use crate::random::Random;
+use crate::rules::full_check;
 use crate::tzb::{BBox, Reader};
 use geometry_rs::I32Point;
 use std::borrow::Cow;
@@ -21,61 +25,115 @@ fn count(file: &[u8], typ: u32, width: u32) -> u32 {
     entries(file).iter().find(|entry| entry[0] == typ).unwrap()[2] / width
 }
 
-fn decoded(r: &Reader, chunk: u32) -> Vec<I32Point> {
+fn decoded(r: &Reader, chunk: u32) -> Option<Vec<I32Point>> {
     let mut out = Vec::new();
-    r.decode_chunk_points(chunk, r.chunk_at(chunk).unwrap(), &mut out).unwrap();
-    out
+    r.decode_chunk_points(chunk, r.chunk_at(chunk).ok()?, &mut out).ok()?;
+    Some(out)
 }
 
-/// F3, F4, F5 for one group.
-fn group(r: &Reader, index: u32) {
-    let g = r.group_at(index).unwrap();
+/// F4 and F5 for one group.
+fn group(r: &Reader, index: u32) -> Option<bool> {
+    let g = r.group_at(index).ok()?;
     let chunks = g.first..g.first + u32::from(g.count);
-    let points: Vec<Vec<I32Point>> = chunks.clone().map(|c| decoded(r, c)).collect();
+    let points: Vec<Vec<I32Point>> =
+        chunks.clone().map(|c| decoded(r, c)).collect::<Option<_>>()?;
+    let mut good = true;
     for (i, c) in chunks.enumerate() {
-        let bounds = r.chunk_at(c).unwrap().bbox;
-        assert!(points[i].iter().all(|&p| holds(bounds, p)));
-        assert!(points.get(i + 1).is_none_or(|next| holds(bounds, next[0])));
-        assert!(covers(g.bbox, bounds));
+        let bounds = r.chunk_at(c).ok()?.bbox;
+        good &= points.get(i + 1).is_none_or(|next| holds(bounds, next[0]));
+        good &= covers(g.bbox, bounds);
     }
     let all = points.concat();
     let (first, last) = (all[0], all[all.len() - 1]);
-    assert_eq!((g.entry.x, g.entry.y, g.exit.x, g.exit.y), (first.x, first.y, last.x, last.y));
+    let ends = (g.entry.x, g.entry.y, g.exit.x, g.exit.y);
+    Some(good && ends == (first.x, first.y, last.x, last.y))
 }
 
-/// F2 and F6 for the rings, polygons and zones.
-fn upper(r: &Reader, file: &[u8]) {
-    for i in 0..count(file, RINGDIR, 28) {
-        let ring = r.ring_at(i).unwrap();
-        let mut points = 0;
-        for op in ring.first..ring.first + u32::from(ring.count) {
-            let g = r.group_at(r.op_at(op).unwrap() & 0x7fff_ffff).unwrap();
-            assert!(covers(ring.bbox, g.bbox));
-            points += g.point_count;
-        }
-        assert_eq!(points - u32::from(ring.count), ring.point_count);
+/// F3 and F4 for one chunk.
+fn chunk(r: &Reader, index: u32) -> Option<bool> {
+    let bounds = r.chunk_at(index).ok()?.bbox;
+    Some(decoded(r, index)?.into_iter().all(|p| holds(bounds, p)))
+}
+
+fn ring(r: &Reader, index: u32) -> Option<bool> {
+    let ring = r.ring_at(index).ok()?;
+    let (mut points, mut good) = (0, true);
+    for op in ring.first..ring.first + u32::from(ring.count) {
+        let g = r.group_at(r.op_at(op).ok()? & 0x7fff_ffff).ok()?;
+        good &= covers(ring.bbox, g.bbox);
+        points += u64::from(g.point_count);
     }
-    for i in 0..count(file, POLYDIR, 24) {
-        let polygon = r.poly_at(i).unwrap();
-        let rings = polygon.first..polygon.first + u32::from(polygon.count);
-        assert!(rings.into_iter().all(|i| covers(polygon.bbox, r.ring_at(i).unwrap().bbox)));
-    }
-    for i in 0..count(file, TZDIR, 24) {
-        let zone = r.tz_at(i).unwrap();
-        let polygons = zone.first..zone.first + u32::from(zone.count);
-        assert!(polygons.into_iter().all(|i| covers(zone.bbox, r.poly_at(i).unwrap().bbox)));
+    Some(good && points == u64::from(ring.count) + u64::from(ring.point_count))
+}
+
+fn polygon(r: &Reader, index: u32) -> Option<bool> {
+    let polygon = r.poly_at(index).ok()?;
+    let mut rings = polygon.first..polygon.first + u32::from(polygon.count);
+    Some(rings.all(|i| r.ring_at(i).is_ok_and(|ring| covers(polygon.bbox, ring.bbox))))
+}
+
+fn zone(r: &Reader, index: u32) -> Option<bool> {
+    let zone = r.tz_at(index).ok()?;
+    let mut polygons = zone.first..zone.first + u32::from(zone.count);
+    Some(polygons.all(|i| r.poly_at(i).is_ok_and(|polygon| covers(zone.bbox, polygon.bbox))))
+}
+
+fn accepts(r: &Reader, file: &[u8]) -> bool {
+    let all = |typ, width, good: fn(&Reader, u32) -> Option<bool>| {
+        (0..count(file, typ, width)).all(|i| good(r, i).unwrap_or(false))
+    };
+    all(CHUNKDIR, 24, chunk)
+        && all(GROUPDIR, 44, group)
+        && all(RINGOPS, 4, |r, i| Some(r.op_at(i).is_ok()))
+        && all(RINGDIR, 28, ring)
+        && all(POLYDIR, 24, polygon)
+        && all(TZDIR, 24, zone)
+}
+
+/// Whether a ring's point count is below 3: then the original's record rule is another.
+fn has_short_ring(file: &[u8]) -> bool {
+    let section = entries(file).into_iter().find(|entry| entry[0] == RINGDIR).unwrap();
+    let (from, to) = (section[1] as usize, (section[1] + section[2]) as usize);
+    (from..to).step_by(28).any(|at| super::word(file, at + 4) < 3)
+}
+
+#[test]
+fn the_full_check_accepts_every_file_made() {
+    let mut random = Random::new(3);
+    for i in 0..3000 {
+        let file = if i % 2 == 0 { some(&mut random) } else { on_lattice(&mut random) }.lay();
+        assert_eq!(full_check(&file), Ok(()));
+        let r = Reader::open(Cow::Borrowed(&file)).unwrap();
+        assert!(accepts(&r, &file) || has_short_ring(&file));
     }
 }
 
 #[test]
-fn the_full_check_would_accept_every_file_made() {
-    let mut random = Random::new(3);
-    for _ in 0..3000 {
-        let file = some(&mut random).lay();
-        let r = Reader::open(Cow::Borrowed(&file)).unwrap();
-        (0..count(&file, CHUNKDIR, 24)).for_each(|c| assert!(!decoded(&r, c).is_empty()));
-        (0..count(&file, GROUPDIR, 44)).for_each(|i| group(&r, i));
-        (0..count(&file, RINGOPS, 4)).for_each(|i| assert!(r.op_at(i).is_ok()));
-        upper(&r, &file);
+fn damaged_files_are_accepted_by_both_or_by_none() {
+    let mut random = Random::new(4);
+    let mut judged = [0; 2];
+    for _ in 0..2000 {
+        let file = on_lattice(&mut random).lay();
+        let aim = Aim::at_geometry(&file);
+        for _ in 0..10 {
+            let damaged = aim.damage(&mut random, &file, 1);
+            let Ok(r) = Reader::open(Cow::Borrowed(&damaged)) else { continue };
+            if full_check(&damaged).is_err_and(|broken| broken.number != 47)
+                || has_short_ring(&damaged)
+            {
+                continue;
+            }
+            let accepted = full_check(&damaged).is_ok();
+            assert_eq!(accepts(&r, &damaged), accepted);
+            judged[usize::from(accepted)] += 1;
+        }
+    }
+    assert!(judged[0] > 1000 && judged[1] > 100, "{judged:?}");
+}
+
+#[test]
+fn a_broken_rule_is_found() {
+    for (rule, file) in broken::files() {
+        assert_eq!(full_check(&file).err().map_or(0, |broken| broken.rule), rule);
     }
 }

@@ -159,6 +159,20 @@ impl Aim {
         Self { kinds }
     }
 
+    /// The fields of the directories and the bytes of the points alone.
+    pub fn at_geometry(file: &[u8]) -> Self {
+        let within = |at: usize| {
+            entries(file).into_iter().any(|[typ, off, len]| {
+                matches!(typ, TZDIR..=CHUNKDIR | POINTS)
+                    && (off as usize..(off + len) as usize).contains(&at)
+            })
+        };
+        let Self { mut kinds } = Self::at(file);
+        kinds.iter_mut().for_each(|kind| kind.retain(|field| within(field.at)));
+        kinds.retain(|kind| !kind.is_empty());
+        Self { kinds }
+    }
+
     fn field(&self, random: &mut Random) -> Field {
         let kind = &self.kinds[random.below(self.kinds.len())];
         random.pick(kind)

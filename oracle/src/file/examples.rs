@@ -172,3 +172,64 @@ fn by_chance() -> Vec<Vec<u8>> {
     all.truncate(2);
     all
 }
+
+/// Files at which the original is known to answer otherwise than document 01, with the rule that the full check finds broken, 0 for none.
+pub fn departing() -> Vec<(u32, Vec<u8>)> {
+    let zone = |points: &[(i32, i32)]| one_zone(Chunks(vec![points.to_vec()]), usize::MAX, false);
+    let mut left_over = zone(&[(0, 0); 4]);
+    left_over.parts.iter_mut().find(|part| part.typ == POINTS).unwrap().bytes.push(0);
+    // Eight chunks lie in two stripes. The box of the last, a triangle's long side, reaches below the group's.
+    let mut eight = vec![vec![(0, 0)]; 7];
+    eight.push(vec![(4, 0), (0, 4)]);
+    let mut below = one_zone(Chunks(eight), usize::MAX, false);
+    let chunks = below.parts.iter_mut().find(|part| part.typ == CHUNKDIR).unwrap();
+    let last = chunks.bytes.len() - 24;
+    chunks.bytes[last + 12..last + 16].copy_from_slice(&(-1i32).to_le_bytes());
+    vec![
+        (0, zone(&[(0, 0), (0, 0)]).lay()),
+        (0, zone(&[(0, 0), (0, 4), (4, 0)]).lay()),
+        (3, left_over.lay()),
+        (5, below.lay()),
+    ]
+}
+
+/// The bytes of a chunk of two points, with the number by which document 01 refuses it, 0 for none.
+const OF_POINTS: [(u32, &[u8]); 22] = [
+    (0, &[0, 0, 0, 0]),
+    (0, &[0x80, 1, 0xff, 1, 0x7f, 1]),
+    (38, &[0]),
+    (38, &[0, 0, 0]),
+    (38, &[0, 0, 0x80]),
+    (38, &[0, 0, 0xff, 0xff, 0xff, 0xff]),
+    (39, &[0, 0, 0x80, 0]),
+    (39, &[0x80, 0x80, 0x80, 0x80, 0, 0, 0, 0]),
+    (40, &[0, 0, 0xff, 0xff, 0xff, 0xff, 0x10]),
+    (40, &[0, 0, 0xff, 0xff, 0xff, 0xff, 0x80]),
+    // 18,000,000 and 2,147,483,647; both numbers are read before the sum is looked at.
+    (41, &[0x80, 0xa2, 0x95, 0x11, 0, 0xfe, 0xff, 0xff, 0xff, 0x0f, 0]),
+    (38, &[0x80, 0xa2, 0x95, 0x11, 0, 0xfe, 0xff, 0xff, 0xff, 0x0f]),
+    (39, &[0x80, 0xa2, 0x95, 0x11, 0, 0xfe, 0xff, 0xff, 0xff, 0x0f, 0x80, 0]),
+    // y alone leaves i32; x stays in i32 and leaves the domain, but y's sum comes first.
+    (41, &[0, 2, 0, 0xfe, 0xff, 0xff, 0xff, 0x0f]),
+    (41, &[2, 2, 0x80, 0xa2, 0x95, 0x11, 0xfe, 0xff, 0xff, 0xff, 0x0f]),
+    (42, &[0x82, 0xa2, 0x95, 0x11, 0, 0, 0]),
+    (42, &[0, 0x81, 0xd1, 0xca, 0x08, 0, 0]),
+    (42, &[2, 0, 0x80, 0xa2, 0x95, 0x11, 0]),
+    (42, &[0, 1, 0, 0xff, 0xd0, 0xca, 0x08]),
+    (43, &[0, 0, 0, 0, 0]),
+    (43, &[0, 0, 0, 0, 0x80]),
+    // A point outside the domain comes before bytes left over.
+    (42, &[2, 0, 0x80, 0xa2, 0x95, 0x11, 0, 0]),
+];
+
+/// Files whose one chunk has these bytes, with document 01's number for decoding it.
+pub fn chunks() -> Vec<(u32, Vec<u8>)> {
+    let world = [(-18_000_000, -9_000_000), (18_000_000, 9_000_000)].to_vec();
+    let with = |(number, bytes): (u32, &[u8])| {
+        let mut draft = one_zone(Chunks(vec![world.clone()]), usize::MAX, false);
+        let points = draft.parts.iter_mut().find(|part| part.typ == POINTS).unwrap();
+        points.bytes = bytes.to_vec();
+        (number, draft.lay())
+    };
+    OF_POINTS.into_iter().map(with).collect()
+}

@@ -23,6 +23,20 @@ impl Grid {
         out
     }
 
+    /// Some grid, moved so that this position lies in it, if that is allowed.
+    pub fn over(random: &mut Random, zones: usize, (lng, lat): (i32, i32)) -> Self {
+        let grid = Self::some(random, zones);
+        let first = |at: i32, count: u16, least: i32, last: i32, random: &mut Random| {
+            let count = i32::from(count);
+            (at - random.from_to(0, count - 1)).clamp(least, last + 1 - count) as i16
+        };
+        Self {
+            lng: first(lng, grid.columns, -181, 181, random).min(180),
+            lat: first(lat, grid.rows, -91, 91, random).min(90),
+            ..grid
+        }
+    }
+
     /// One to four columns and rows, now and then at the ends of what is allowed. Cells may share candidates.
     pub fn some(random: &mut Random, zones: usize) -> Self {
         let (columns, rows) = (1 + random.below(4) as u16, 1 + random.below(4) as u16);

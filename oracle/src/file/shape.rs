@@ -24,6 +24,8 @@ pub struct Shape {
     groups: Vec<Chunks>,
     /// Unread bytes before the first chunk.
     lead: usize,
+    /// By how much each box is greater than the least that covers what it must, at each level once more.
+    slack: i32,
 }
 
 #[derive(Clone, Copy)]
@@ -43,6 +45,13 @@ impl Bounds {
 
     fn of(points: &[Point]) -> Self {
         points.iter().fold(Self::NONE, |b, &p| b.with(p))
+    }
+
+    /// Greater on each side, as far as a file may say.
+    fn wider(self, by: i32) -> Self {
+        let [a, b, c, d] = self.0;
+        let [west, south] = [-18_000_000, -9_000_000];
+        Self([(a - by).max(west), (b - by).max(south), (c + by).min(-west), (d + by).min(-south)])
     }
 }
 
@@ -108,11 +117,18 @@ impl Shape {
 
     fn ring_bounds(&self, ring: &Ring) -> Bounds {
         let of = |op: &Op| Bounds::of(&self.groups[op.group].points());
-        ring.iter().map(of).fold(Bounds::NONE, Bounds::and)
+        ring.iter().map(of).fold(Bounds::NONE, Bounds::and).wider(3 * self.slack)
     }
 
     fn polygon_bounds(&self, polygon: &Polygon) -> Bounds {
-        polygon.iter().map(|r| self.ring_bounds(r)).fold(Bounds::NONE, Bounds::and)
+        let all = polygon.iter().map(|r| self.ring_bounds(r));
+        all.fold(Bounds::NONE, Bounds::and).wider(self.slack)
+    }
+
+    /// The cell of a point of the first group, in degrees.
+    pub fn cell(&self) -> (i32, i32) {
+        let (x, y) = self.groups[0].0[0][0];
+        (x.div_euclid(100_000), y.div_euclid(100_000))
     }
 
     pub fn parts(&self) -> Vec<Part> {
@@ -173,12 +189,12 @@ impl Shape {
             groups.count(group.0.len());
             groups.point(all[0]);
             groups.point(all[all.len() - 1]);
-            groups.bounds(Bounds::of(&all));
+            groups.bounds(Bounds::of(&all).wider(2 * self.slack));
             chunk_count += group.0.len();
             for (i, chunk) in group.0.iter().enumerate() {
                 chunks.word(points.len());
                 chunks.count(chunk.len());
-                chunks.bounds(group.bounds(i));
+                chunks.bounds(group.bounds(i).wider(self.slack));
                 points.extend(encode(chunk));
             }
         }
@@ -273,6 +289,114 @@ impl Shape {
             let chunks = 1 + random.below(run.len().min(4));
             let group = self.add_group(Chunks(cut(random, &run, chunks)));
             ring.push(Op { group, turned });
+        }
+        ring
+    }
+}
+
+/// How a lattice lies: its origin, how many points it has on a side, less one, and the distance of two.
+#[derive(Clone, Copy)]
+struct Lattice {
+    origin: Point,
+    side: i32,
+    step: i32,
+}
+
+impl Lattice {
+    fn some(random: &mut Random) -> Self {
+        let step = random.pick(&[1, 1, 1, 2, 50_000, 100_000]);
+        let side = random.from_to(1, 8);
+        let far = side * step;
+        let origin = match random.below(8) {
+            0 => (18_000_000 - far, 9_000_000 - far),
+            1 => (-18_000_000, -9_000_000),
+            _ => (-step * random.from_to(0, side), -step * random.from_to(0, side)),
+        };
+        Self { origin, side, step }
+    }
+
+    fn at(self, column: i32, row: i32) -> Point {
+        (self.origin.0 + self.step * column, self.origin.1 + self.step * row)
+    }
+
+    fn point(self, random: &mut Random) -> Point {
+        self.at(random.from_to(0, self.side), random.from_to(0, self.side))
+    }
+
+    /// Corners: a rectangle, any points, a few points on one line, a walk of steps to all sides.
+    fn corners(self, random: &mut Random) -> Vec<Point> {
+        let (a, c) = (self.point(random), self.point(random));
+        match random.below(8) {
+            0..3 => vec![a, (c.0, a.1), c, (a.0, c.1)],
+            3 => vec![a, c],
+            4 => (0..20).map(|_| self.point(random)).collect(),
+            5 => self.walk(random),
+            _ => (0..3 + random.below(4)).map(|_| self.point(random)).collect(),
+        }
+    }
+
+    fn walk(self, random: &mut Random) -> Vec<Point> {
+        let (mut column, mut row) = (0, 0);
+        let mut out = Vec::new();
+        for _ in 0..8 + random.below(25) {
+            out.push(self.at(column, row));
+            column = (column + random.from_to(-1, 1)).clamp(0, self.side);
+            row = (row + random.from_to(-1, 1)).clamp(0, self.side);
+        }
+        out
+    }
+}
+
+impl Shape {
+    /// Zones on one small lattice: level and upright edges, edges that touch and lie on each other, joints between groups, groups shared and turned round, many chunks.
+    pub fn on_lattice(random: &mut Random) -> Self {
+        let lattice = Lattice::some(random);
+        let slack = random.pick(&[0, 0, 0, 1, 7]);
+        let mut shape = Self { lead: random.pick(&[0, 0, 0, 2]), slack, ..Self::default() };
+        for _ in 0..1 + random.below(3) {
+            let mut zone = Vec::new();
+            for _ in 0..random.pick(&[1, 1, 2]) {
+                let rings = random.pick(&[1, 1, 2, 3]);
+                zone.push((0..rings).map(|_| shape.lattice_ring(random, lattice)).collect());
+            }
+            shape.zones.push(zone);
+        }
+        shape
+    }
+
+    /// Its groups meet, or a joint lies between them; now and then one is a group that stands elsewhere too.
+    fn lattice_ring(&mut self, random: &mut Random, lattice: Lattice) -> Ring {
+        let mut points = lattice.corners(random);
+        let (joined, open) = (random.below(3) > 0, random.below(6) == 0);
+        if !open {
+            points.push(points[0]);
+        }
+        let most = points.len() / 2;
+        let groups = 1 + random.below(most.min(3));
+        let mut ring: Ring = Vec::new();
+        let mut rest = &points[..];
+        for left in (0..groups).rev() {
+            let take =
+                if left == 0 { rest.len() } else { 2 + random.below(rest.len() - 1 - 2 * left) };
+            let (run, after) = rest.split_at(take.min(rest.len()));
+            rest = after;
+            let mut run = run.to_vec();
+            if joined && let Some(&next) = rest.first() {
+                run.push(next);
+            }
+            let turned = random.below(3) == 0;
+            if turned {
+                run.reverse();
+            }
+            let chunks =
+                if random.below(3) == 0 { run.len() } else { 1 + random.below(run.len().min(4)) };
+            let group = self.add_group(Chunks(cut(random, &run, chunks)));
+            ring.push(Op { group, turned });
+        }
+        if random.below(4) == 0 {
+            let group = random.below(self.groups.len());
+            let place = random.below(ring.len() + 1);
+            ring.insert(place, Op { group, turned: random.below(2) == 0 });
         }
         ring
     }

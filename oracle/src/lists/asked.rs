@@ -1,15 +1,13 @@
 //! asked.bin: questions of names and candidates, with document 01's answers. README.md has the layout of its records.
 //! The answers are those of the rules; the original, asked with the same bytes, must say the same.
 
+use super::blocks::{block, word as put_word};
 use crate::file::{self, GRID, NAMES, entries, word};
 use crate::known::ALL;
 use crate::random::Random;
 use crate::rules::{self, Candidates, Opened, Said};
 use crate::{original, scene};
 use std::collections::BTreeMap;
-
-/// How long a block is: the length of its bytes, a number, and room for the bytes.
-const BLOCK: usize = 1024;
 
 #[derive(Clone, Copy)]
 enum Question {
@@ -43,19 +41,6 @@ pub fn list() -> (Vec<u8>, Counts) {
     (out, counts)
 }
 
-fn block(out: &mut Vec<u8>, bytes: &[u8], number: usize) {
-    let end = out.len() + BLOCK;
-    word_to(out, bytes.len() as u64);
-    word_to(out, number as u64);
-    out.extend_from_slice(bytes);
-    assert!(out.len() <= end, "too long for a block");
-    out.resize(end, 0);
-}
-
-fn word_to(out: &mut Vec<u8>, n: u64) {
-    out.extend_from_slice(&u32::try_from(n).expect("a number of four bytes").to_le_bytes());
-}
-
 /// A question's record: kind, zone or place, position; then the refusal, two numbers and one more.
 fn question(out: &mut Vec<u8>, rules: &Opened, lent: &[u8], q: Question, counts: &mut Counts) {
     let (kind, name, asked, position, answer) = match q {
@@ -68,12 +53,12 @@ fn question(out: &mut Vec<u8>, rules: &Opened, lent: &[u8], q: Question, counts:
     };
     let refusal = answer.err().unwrap_or(0);
     let refused = [0, 0, if kind == 2 { 3 } else { 0 }];
-    [kind, asked].iter().for_each(|&n| word_to(out, n.into()));
+    [kind, asked].iter().for_each(|&n| put_word(out, n.into()));
     for x in [position.0, position.1] {
         out.extend_from_slice(&scene::bits(x).to_le_bytes());
     }
-    word_to(out, refusal.into());
-    answer.unwrap_or(refused).iter().for_each(|&n| word_to(out, n));
+    put_word(out, refusal.into());
+    answer.unwrap_or(refused).iter().for_each(|&n| put_word(out, n));
     *counts.entry((name, refusal)).or_default() += 1;
 }
 
@@ -93,7 +78,7 @@ fn candidates(rules: &Opened, lng: f64, lat: f64) -> Said<[u64; 3]> {
     })
 }
 
-/// Where a name ends before it starts, the original's difference wraps and it says 44. It opens no file that the rules open otherwise.
+/// Where a name ends before it starts, the original's difference wraps and it says 44. A file that the original does not open is left out.
 fn hold_original(file: &[u8], lent: &[u8], questions: &[Question]) {
     let Ok(rules) = rules::open(file, &ALL) else { return };
     let rules = rules.asked_with(lent);

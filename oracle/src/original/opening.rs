@@ -9,7 +9,7 @@ use std::panic::{AssertUnwindSafe, catch_unwind};
 pub const PANIC: u32 = 1_000_000;
 
 /// Document 01's number of each text of the original. `... record` and `directory index` are 34.
-const NUMBERS: [(&str, u32); 37] = [
+const NUMBERS: [(&str, u32); 48] = [
     ("invalid file size", 1),
     ("magic or format major", 2),
     ("unsupported profile", 4),
@@ -47,6 +47,17 @@ const NUMBERS: [(&str, u32); 37] = [
     ("chunk offset or count", 32),
     ("group point count", 33),
     ("directory index", 34),
+    ("RINGOPS group index", 35),
+    ("ring point count", 36),
+    ("chunk byte range", 37),
+    ("truncated varint", 38),
+    ("nonminimal varint", 39),
+    ("varint exceeds 32 bits", 40),
+    ("coordinate overflow", 41),
+    ("point domain", 42),
+    ("chunk coordinate domain", 42),
+    ("chunk termination", 43),
+    ("trailing chunk bytes", 43),
     ("read bounds", 44),
 ];
 
@@ -63,7 +74,7 @@ fn number(e: Error) -> u32 {
     }
 }
 
-fn said<T>(ask: impl FnOnce() -> Result<T, Error>) -> Said<T> {
+pub(super) fn said<T>(ask: impl FnOnce() -> Result<T, Error>) -> Said<T> {
     match catch_unwind(AssertUnwindSafe(ask)) {
         Ok(answer) => answer.map_err(number),
         Err(_) => Err(PANIC),
@@ -72,7 +83,7 @@ fn said<T>(ask: impl FnOnce() -> Result<T, Error>) -> Said<T> {
 
 pub struct Opened<'a> {
     file: &'a [u8],
-    reader: Reader<'a>,
+    pub(super) reader: Reader<'a>,
 }
 
 pub fn open(file: &[u8]) -> Said<Opened<'_>> {

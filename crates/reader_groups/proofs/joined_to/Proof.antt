@@ -19,13 +19,13 @@ scan-to-requires : tie.Need-scan-to-requires
 scan-to-requires c κs = search needs
 
 returns : tie.Need-returns
-returns c = c .skip-to .ensures ∙ joined-skip _ _ _ _ _ _ (sym (c .before .before .before .before .relevant .ensures) ∙ c .before .before .before .if1 .taken) (sym (c .before .before .right .ensures) ∙ c .before .if2 .taken)
+returns c = (c .skip-to .ensures .0 ∙ joined-skip _ _ _ _ _ _ (sym (c .before .before .before .before .relevant .ensures) ∙ c .before .before .before .if1 .taken) (sym (c .before .before .right .ensures) ∙ c .before .if2 .taken), c .skip-to .ensures .1)
 
 returns-2 : tie.Need-returns-2
-returns-2 c = c .scan-to .ensures ∙ joined-scan _ _ _ _ _ _ (sym (c .before .before .before .before .relevant .ensures) ∙ c .before .before .before .if1 .taken) (sym (c .before .before .right .ensures) ∙ c .before .if2 .left)
+returns-2 c = (c .scan-to .ensures .0 ∙ joined-scan _ _ _ _ _ _ (sym (c .before .before .before .before .relevant .ensures) ∙ c .before .before .before .if1 .taken) (sym (c .before .before .right .ensures) ∙ c .before .if2 .left), c .scan-to .ensures .1)
 
 returns-3 : tie.Need-returns-3
-returns-3 c = joined-none _ _ _ _ _ _ (sym (c .before .relevant .ensures) ∙ c .if1 .left)
+returns-3 c = (joined-none _ _ _ _ _ _ (sym (c .before .relevant .ensures) ∙ c .if1 .left), tt)
 
 pub joined-to-spec : {M : Type 1} → statement M
 joined-to-spec =

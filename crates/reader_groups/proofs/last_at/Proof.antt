@@ -2,6 +2,7 @@
 -- Assumes nothing.
 use mathlib.Core.Path.{sym, ap, _∙_}
 use Rattle.reader_chunks.specs.Chunks.{toldOffset}
+use Rattle.reader_groups.proofs.Remembering.{kept-at, own-is}
 use Rattle.reader_groups.specs.Groups.{last-no, last-is, last-none}
 use borrow.Author.Needs.{needs}
 use Rattle.reader_groups.proofs.last_at.Statement.{statement}
@@ -20,7 +21,7 @@ enum-known-t-2 : tie.Need-enum-known-t-2
 enum-known-t-2 c = search needs
 
 last-in-requires : tie.Need-last-in-requires
-last-in-requires c κs = search needs
+last-in-requires c κs = let k = c .before .before .before .before .before .before .before .before in let a = k .args in kept-at (a .known) _ _ (own-is (a .o) (a .s .now) (a .i) (a .v) _ (sym (ap toldOffset (c .before .t2 .given .1)) ∙ c .before .before .before .end-of .ensures)) (k .pre)
 
 returns : tie.Need-returns
 returns c = let f = c .before .before .before in last-no _ _ _ _ _ _ (sym (f .before .before .relevant .ensures) ∙ f .before .if1 .taken) _ (sym (ap toldOffset (c .before .t .given .1)) ∙ f .end-of .ensures)

@@ -11,8 +11,8 @@ use Rattle.reader_groups.proofs.last_in.Tie as tie
 right-requires : tie.Need-right-requires
 right-requires c κs = search needs
 
-first-of-requires : tie.Need-first-of-requires
-first-of-requires c κs = search needs
+known-first-requires : tie.Need-known-first-requires
+known-first-requires c κs = search needs
 
 enum-known-t : tie.Need-enum-known-t
 enum-known-t c = search needs
@@ -36,10 +36,10 @@ enum-known-t-4 : tie.Need-enum-known-t-4
 enum-known-t-4 c = search needs
 
 returns : tie.Need-returns
-returns c = let f = c .before .before .before in last-first-no _ _ _ _ _ _ _ (sym (f .before .before .right .ensures) ∙ f .before .if1 .taken) _ (sym (ap toldPoint (c .before .t .given .1)) ∙ f .first-of .ensures)
+returns c = let f = c .before .before .before in last-first-no _ _ _ _ _ _ _ (sym (f .before .before .right .ensures) ∙ f .before .if1 .taken) _ (sym (ap toldPoint (c .before .t .given .1)) ∙ f .known-first .ensures)
 
 returns-2 : tie.Need-returns-2
-returns-2 c = let f = c .before .before .before .before in last-first _ _ _ _ _ _ _ (sym (f .before .before .right .ensures) ∙ f .before .if1 .taken) _ (sym (ap toldPoint (c .before .before .t2 .given .1)) ∙ f .first-of .ensures) _ (c .endpoint-parity .ensures)
+returns-2 c = let f = c .before .before .before .before in last-first _ _ _ _ _ _ _ (sym (f .before .before .right .ensures) ∙ f .before .if1 .taken) _ (sym (ap toldPoint (c .before .before .t2 .given .1)) ∙ f .known-first .ensures) _ (c .endpoint-parity .ensures)
 
 returns-3 : tie.Need-returns-3
 returns-3 c = let f = c .before .before .before in last-scan-no _ _ _ _ _ _ _ (sym (f .before .before .right .ensures) ∙ f .before .if1 .left) _ (sym (ap scanned (c .before .t3 .given .1)) ∙ f .scan-of .ensures)
@@ -55,7 +55,7 @@ last-in-spec =
     tie.close
     (tie.spec
     right-requires
-    first-of-requires
+    known-first-requires
     enum-known-t
     enum-known-t-2
     endpoint-parity-requires

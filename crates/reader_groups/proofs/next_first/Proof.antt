@@ -19,14 +19,14 @@ enum-known-t c = search needs
 enum-known-t-2 : tie.Need-enum-known-t-2
 enum-known-t-2 c = search needs
 
-first-of-requires : tie.Need-first-of-requires
-first-of-requires c κs = search needs
+read-first-requires : tie.Need-read-first-requires
+read-first-requires c κs = search needs
 
 returns : tie.Need-returns
 returns c = next-no _ _ _ _ _ (sym (ap toldOffset (c .before .t .given .1)) ∙ c .before .before .before .end-of .ensures)
 
 returns-2 : tie.Need-returns-2
-returns-2 c = c .first-of .ensures ∙ next-is _ _ _ _ _ (sym (ap toldOffset (c .before .before .t2 .given .1)) ∙ c .before .before .before .before .end-of .ensures)
+returns-2 c = c .read-first .ensures ∙ next-is _ _ _ _ _ (sym (ap toldOffset (c .before .before .t2 .given .1)) ∙ c .before .before .before .before .end-of .ensures)
 
 pub next-first-spec : {M : Type 1} → statement M
 next-first-spec =
@@ -36,6 +36,6 @@ next-first-spec =
     end-of-requires
     enum-known-t
     enum-known-t-2
-    first-of-requires
+    read-first-requires
     returns
     returns-2)

@@ -1,14 +1,14 @@
--- `candidate_of` meets its contract: opening first, then the question.
+-- `candidate_of` meets its contract: the record first, then the question.
 -- Assumes nothing.
 use mathlib.Core.Path.{sym, ap, _∙_}
-use Rattle.tzb.specs.Opening.{told}
-use Rattle.tzb_c.specs.Tries.{candidateTry, barred, asked}
+use Rattle.tzb_record.specs.Layout.{told}
+use Rattle.tzb_c.specs.Asked.{candidateAsked, barred, asked}
 use borrow.Author.Needs.{needs}
 use Rattle.tzb_c.proofs.candidate_of.Statement.{statement}
 use Rattle.tzb_c.proofs.candidate_of.Tie as tie
 
-open-requires : tie.Need-open-requires
-open-requires c κs = search needs
+read-record-requires : tie.Need-read-record-requires
+read-record-requires c κs = search needs
 
 enum-known-a : tie.Need-enum-known-a
 enum-known-a c = search needs
@@ -20,14 +20,14 @@ candidate-at-requires : tie.Need-candidate-at-requires
 candidate-at-requires c κs = search needs
 
 returns : tie.Need-returns
-unfolding candidateTry
-returns c = barred _ _ _ (sym (ap told (c .before .a .given .1)) ∙ c .before .before .before .«open» .ensures)
+unfolding candidateAsked
+returns c = barred _ _ _ (sym (ap told (c .before .a .given .1)) ∙ c .before .before .before .read-record .ensures)
 
 returns-2 : tie.Need-returns-2
-unfolding candidateTry
-returns-2 c = asked _ _ _ _ (sym (ap told (c .before .before .a2 .given .1)) ∙ c .before .before .before .before .«open» .ensures) (c .candidate-at .ensures)
+unfolding candidateAsked
+returns-2 c = asked _ _ _ _ (sym (ap told (c .before .before .a2 .given .1)) ∙ c .before .before .before .before .read-record .ensures) (c .candidate-at .ensures)
 
 pub candidate-of-spec : {M : Type 1} → statement M
 candidate-of-spec =
     tie.close
-    (tie.spec open-requires enum-known-a enum-known-a-2 candidate-at-requires returns returns-2)
+    (tie.spec read-record-requires enum-known-a enum-known-a-2 candidate-at-requires returns returns-2)

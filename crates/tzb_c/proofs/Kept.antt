@@ -1,0 +1,74 @@
+-- A record that was written by opening is read back as opening's own: to open once and ask with its bytes is to ask with the record. And what follows from an answer.
+-- Assumes nothing.
+use Prim.Native.Nat.{ℕ, _≤_, _<_}
+use native.Mathlib.Omega.{arith}
+use mathlib.Core.Path.{_≡_, refl, sym, ap, _∙_}
+use mathlib.Core.List.{List}
+use lib.ListN.{length, take, getD}
+use Rattle.answer.specs.declared.Refusal.{Refusal}
+use Rattle.answer.specs.declared.Checked.{Checked}
+use Rattle.answer.specs.declared.Checked.the-variants as C
+use Rattle.answer.specs.CheckLaws.{fine-claim, at-le}
+use Rattle.answer.specs.Answers.{Answer, ok, refused, _then_, _before_, then-ok}
+use Rattle.reader_opened.specs.declared.Opened.{Opened}
+use Rattle.reader_opened.specs.Opened.{sectionsOf}
+use Rattle.reader_names.specs.Asked as N
+use Rattle.reader_names.proofs.Places.{bounds-good}
+use Rattle.tzb_record.specs.Layout.{recordOf, roomFor, Held}
+use Rattle.tzb_record.proofs.RoundTrip.{written-back}
+use Rattle.tzb_record.proofs.Widths.{opened-held}
+use Rattle.tzb.specs.Opening.{openOf, openedIs, gridIs, tableCheck, contentsCheck}
+use Rattle.tzb_c.specs.Asked.{openInto, keptIn, nameAsked, kept-is}
+
+never : {A : Type 0} {B : Type 0} (a : A) (k : Refusal) → ok a ≡ refused k → B
+never a k e = let no : _≡_ {A = ℕ} 0 1 = cc in absurd (omega arith)
+
+-- a name that is given lies in the file
+pub name-inside : (b s : List ℕ) (zone from to : ℕ) → ok (from, to) ≡ nameAsked b s zone → (from ≤ to) × (to ≤ length s)
+unfolding nameAsked
+name-inside b s zone from to e = go (recordOf b) e
+  where
+    go : (x : Answer Opened) → ok (from, to) ≡ (x then λ o. N.boundsAt s (o .names .off) (o .zones .count) zone) → (from ≤ to) × (to ≤ length s)
+    go (ok o) f = bounds-good s (o .names .off) (o .zones .count) zone from to f
+    go (refused k) f = never _ _ f
+
+-- what opening keeps, where it refuses nothing
+opened-as : (s : List ℕ) (o : Opened) → ok o ≡ openOf s → o ≡ openedIs s
+unfolding openOf
+opened-as s o e = go (tableCheck s) (contentsCheck s (sectionsOf s) (gridIs s) (openedIs s)) e
+  where
+    go : (a b : Checked) → ok o ≡ (a before (b before ok (openedIs s))) → o ≡ openedIs s
+    go C.Fine C.Fine f = cc
+    go C.Fine (C.Refused k) f = never _ _ f
+    go (C.Refused k) b f = never _ _ f
+
+-- opening into lent memory refuses nothing: neither does opening, and there was room
+into-opened : (s room : List ℕ) (o : Opened) → ok o ≡ openInto s room → ok o ≡ openOf s
+unfolding openInto
+into-opened s room o e = go (openOf s) (roomFor room) e
+  where
+    go : (x : Answer Opened) (c : Checked) → ok o ≡ (x then λ p. c before ok p) → ok o ≡ x
+    go (ok p) C.Fine f = f
+    go (ok p) (C.Refused k) f = never _ _ f
+    go (refused k) c f = never _ _ f
+
+into-room : (s room : List ℕ) (o : Opened) → ok o ≡ openInto s room → 84 ≤ length room
+unfolding openInto roomFor
+into-room s room o e = at-le _ _ (fine-claim _ _ (go (openOf s) (roomFor room) e))
+  where
+    go : (x : Answer Opened) (c : Checked) → ok o ≡ (x then λ p. c before ok p) → c ≡ C.Fine
+    go (ok p) C.Fine f = refl
+    go (ok p) (C.Refused k) f = never _ _ f
+    go (refused k) c f = never _ _ f
+
+-- a file of bytes, each below 256, opened into lent memory
+module _ (s room : List ℕ) (byte : (i : ℕ) → getD s i 0 < 256) (o : Opened) (opened : ok o ≡ openInto s room) where
+  -- the first 84 bytes of that memory are read as opening's own record
+  pub record-kept : ok o ≡ recordOf (take 84 (keptIn room (openInto s room)))
+  record-kept =
+      let held : Held o = rw (opened-as s o (into-opened s room o opened)) (opened-held s byte) in
+      written-back o room held (into-room s room o opened) ∙ ap (λ (m : List ℕ). recordOf (take 84 m)) (kept-is room (openInto s room) o opened)
+
+  -- so every question that is asked with them is asked of it
+  pub asked-once : {A : Type 0} (f : Opened → Answer A) → (recordOf (take 84 (keptIn room (openInto s room))) then f) ≡ (openOf s then f)
+  asked-once f = sym (then-ok _ f o record-kept) ∙ then-ok _ f o (into-opened s room o opened)

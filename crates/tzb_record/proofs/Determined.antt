@@ -1,0 +1,27 @@
+-- Any two answers that a promise allows are equal, and so is the lent memory: stated over the contracts themselves.
+-- Assumes nothing.
+use mathlib.Core.Path.{_≡_, sym, _∙_}
+use Rattle.basics.specs.Determined.{Determined, DeterminedMemory}
+use Rattle.answer.specs.Answers.{Answer}
+use Rattle.reader_opened.specs.declared.Opened.{Opened}
+use Rattle.tzb_record.specs.Layout.{told}
+use Rattle.tzb_record.specs.declared.RecordRead.{RecordRead}
+use Rattle.tzb_record.specs.declared.RecordRead.the-variants as R
+use Rattle.tzb_record.proofs.read_record.Reads as read-record-reads
+use Rattle.tzb_record.proofs.write_record.Reads as write-record-reads
+
+one-record : (a b : RecordRead) (x : Answer Opened) → told a ≡ x → told b ≡ x → a ≡ b
+one-record (R.Is p) (R.Is q) x e f = cc
+one-record (R.Is p) (R.Refused k) x e f = cc
+one-record (R.Refused k) (R.Is p) x e f = cc
+one-record (R.Refused k) (R.Refused l) x e f = cc
+
+pub read-record : Determined read-record-reads.Learnt
+read-record κ a r r' e e' p q = one-record r r' _ p q
+
+pub write-record : Determined write-record-reads.Learnt
+write-record κ a r r' e e' p q = p .0 ∙ sym (q .0)
+
+-- the lent bytes at exit
+pub write-record-memory : DeterminedMemory write-record-reads.Learnt (λ κ e. e .1 .0 .now)
+write-record-memory κ a r r' e e' p q = p .1 ∙ sym (q .1)

@@ -1,0 +1,3 @@
+-- The opened record as bytes.
+pub mod Stores
+pub mod Layout

@@ -1,0 +1,131 @@
+//! Decoding, containment and lookups: each voice against the rules with its departures, and the rules against exact geometry.
+
+mod ask;
+mod met;
+pub mod questions;
+
+use super::files::DIFFERENCE;
+use crate::file::damage::Aim;
+use crate::file::{self, smaller};
+use crate::random::Random;
+use crate::rules::{self, full_check};
+use crate::voice::Question;
+use ask::{Difference, Panel};
+use met::Met;
+use std::path::Path;
+use std::time::{Duration, Instant};
+
+/// How many questions of each kind are put: to a valid file, and to a damaged one.
+const MANY: usize = 1000;
+const FEW: usize = 60;
+
+/// Valid files first, each with damages that it still opens with, until the time is over.
+pub fn run(seconds: u64, seed: u64) {
+    println!("seed {seed}, random files for {seconds} s");
+    let mut met = Met::default();
+    fixed(&mut met);
+    let mut random = Random::new(seed);
+    let start = Instant::now();
+    while start.elapsed() < Duration::from_secs(seconds) {
+        let draft = match random.below(4) {
+            0 => file::some(&mut random),
+            _ => file::on_lattice(&mut random),
+        };
+        let file = draft.lay();
+        assert_eq!(full_check(&file), Ok(()), "a file of the builder");
+        judge(&mut met, &file, MANY);
+        let aim = Aim::at_geometry(&file);
+        for _ in 0..40 {
+            let damages = 1 + random.below(2);
+            judge(&mut met, &aim.damage(&mut random, &file, damages), FEW);
+        }
+    }
+    met.make_small();
+    met.print();
+    println!("no difference but the known ones");
+}
+
+/// Files whose answers are read off document 01 by hand: the rules must say the same.
+fn fixed(met: &mut Met) {
+    for (rule, file) in file::departing() {
+        assert_eq!(rules::open(&file, &[]).ok().unwrap().lowest_broken().unwrap_or(0), rule);
+        judge(met, &file, MANY);
+    }
+    for (i, (number, file)) in file::chunks().into_iter().enumerate() {
+        let decoded = rules::open(&file, &[]).ok().unwrap().decode(0, u64::MAX);
+        assert_eq!(decoded.err().unwrap_or(0), number, "chunk {i}");
+        judge(met, &file, MANY);
+    }
+    for (i, (rule, file)) in file::broken::files().into_iter().enumerate() {
+        let broken = full_check(&file).err().map_or(0, |broken| broken.rule);
+        assert_eq!(broken, rule, "file {i} that breaks a rule");
+        judge(met, &file, MANY);
+    }
+    file::kinds().iter().for_each(|file| judge(met, file, MANY));
+}
+
+/// Puts all questions to a file that all voices open.
+fn judge(met: &mut Met, file: &[u8], most: usize) {
+    let Some(panel) = Panel::of(file) else {
+        met.passed_over += 1;
+        return;
+    };
+    met.add_file(panel.broken);
+    match panel.ask_all(questions::of(panel.opened(), most)) {
+        Ok(outcome) => met.add(file, outcome),
+        Err(difference) => stop(file, difference, most),
+    }
+}
+
+/// Prints a difference that is not on the list, made small, and ends the run.
+fn stop(file: &[u8], difference: Difference, most: usize) -> ! {
+    println!("found: {difference}, in a file of {} bytes", file.len());
+    let differs = |file: &[u8]| {
+        let panel = Panel::of(file)?;
+        panel.ask_all(questions::of(panel.opened(), most)).err()
+    };
+    let small = match file.len() {
+        0..5000 => super::smallest(file.to_vec(), |f| smaller::files(f), |f| differs(f).is_some()),
+        _ => file.to_vec(),
+    };
+    if let Some(difference) = differs(&small) {
+        println!("made small: {difference}, in a file of {} bytes", small.len());
+    }
+    std::fs::write(DIFFERENCE, &small).expect("a place for the file");
+    println!("written to {DIFFERENCE}; the full check says {:?}", full_check(&small));
+    if small.len() < 5000 {
+        println!("{}", met::hex(&small));
+    }
+    std::process::exit(1)
+}
+
+/// One large file: every chunk, then positions on and beside its borders and anywhere.
+pub fn one(path: &Path, seconds: u64, seed: u64) {
+    println!("seed {seed}, {} for {seconds} s", path.display());
+    let file = std::fs::read(path).expect("the file");
+    println!("the full check says {:?}", full_check(&file));
+    let panel = Panel::of(&file).expect("a file that opens");
+    let opened = *panel.opened();
+    let mut met = Met::default();
+    met.add_file(panel.broken);
+    let mut ask = |all: Vec<Question>| match panel.ask_all(all) {
+        Ok(outcome) => met.add(&file, outcome),
+        Err(difference) => stop(&file, difference, 0),
+    };
+    ask((0..opened.chunks() as u32 + 1).map(|i| Question::Decode(i, u64::MAX)).collect());
+    let judge = rules::Judge { opened, original: &[] };
+    let mut random = Random::new(seed);
+    let chunks = opened.chunks();
+    let (first, mut swept) = (random.below(chunks as usize) as u64, 0);
+    let start = Instant::now();
+    while start.elapsed() < Duration::from_secs(seconds) {
+        ask((0..100).flat_map(|_| questions::at_random(&judge, &mut random)).collect());
+        if swept < chunks {
+            ask(questions::along(&judge, (first + swept) % chunks));
+            swept += 1;
+        }
+    }
+    println!("{swept:>12}  of {chunks} chunks: on and beside every point and edge");
+    met.print();
+    println!("no difference but the known ones");
+}

@@ -1,0 +1,139 @@
+//! What a run met: how often each answer was given, and each known difference with the smallest file for it.
+
+use super::ask::{Known, Outcome, Panel};
+use super::{FEW, questions};
+use crate::compare::smallest;
+use crate::file::smaller;
+use crate::known::OF_ASKING;
+use std::collections::BTreeMap;
+use std::time::{Duration, Instant};
+
+/// So many seconds are spent on making one file small.
+const SHRINKING: u64 = 10;
+
+#[derive(Default)]
+pub struct Met {
+    pub passed_over: u64,
+    /// By the lowest broken rule, 0 where the full check accepts.
+    files: BTreeMap<u32, u64>,
+    questions: u64,
+    exact: u64,
+    answers: BTreeMap<(&'static str, String), u64>,
+    known: [Smallest; OF_ASKING.len()],
+}
+
+/// Of one known difference: how often it was met, and the smallest files; any, and one that the full check accepts.
+#[derive(Default)]
+struct Smallest {
+    met: u64,
+    met_in_accepted: u64,
+    any: Option<Vec<u8>>,
+    accepted: Option<Vec<u8>>,
+}
+
+fn keep(place: &mut Option<Vec<u8>>, file: &[u8]) {
+    if place.as_ref().is_none_or(|kept| file.len() < kept.len()) {
+        *place = Some(file.to_vec());
+    }
+}
+
+/// Whether only this difference was met, and where document 01 has an answer.
+fn tells(known: &[Known], which: usize) -> bool {
+    known.iter().all(|k| k.which == which) && known.iter().any(|k| k.document.is_ok())
+}
+
+/// The first question of the file that shows this difference, where it shows no other.
+fn shown(file: &[u8], which: usize, accepted: bool) -> Option<Known> {
+    let panel = Panel::of(file)?;
+    if accepted && panel.broken.is_some() {
+        return None;
+    }
+    let known = panel.ask_all(questions::of(panel.opened(), FEW)).ok()?.known;
+    if !tells(&known, which) {
+        return None;
+    }
+    known.into_iter().find(|k| k.document.is_ok())
+}
+
+impl Met {
+    pub fn add_file(&mut self, broken: Option<u32>) {
+        *self.files.entry(broken.unwrap_or(0)).or_default() += 1;
+    }
+
+    /// The questions of one file, or some of them.
+    pub fn add(&mut self, file: &[u8], outcome: Outcome) {
+        self.questions += outcome.questions;
+        self.exact += outcome.exact;
+        for answer in outcome.answers {
+            *self.answers.entry(answer).or_default() += 1;
+        }
+        for known in &outcome.known {
+            let of = &mut self.known[known.which];
+            let accepted = outcome.broken.is_none();
+            of.met += 1;
+            of.met_in_accepted += u64::from(accepted);
+            if tells(&outcome.known, known.which) {
+                keep(&mut of.any, file);
+                if accepted {
+                    keep(&mut of.accepted, file);
+                }
+            }
+        }
+    }
+
+    /// Makes the smallest files smaller still, as far as there is time.
+    pub fn make_small(&mut self) {
+        for (which, of) in self.known.iter_mut().enumerate() {
+            for (place, accepted) in [(&mut of.any, false), (&mut of.accepted, true)] {
+                if let Some(file) = place.take() {
+                    let end = Instant::now() + Duration::from_secs(SHRINKING);
+                    let shows =
+                        |f: &Vec<u8>| Instant::now() < end && shown(f, which, accepted).is_some();
+                    *place = Some(smallest(file, |f| smaller::files(f), shows));
+                }
+            }
+        }
+    }
+
+    pub fn print(&self) {
+        for (rule, count) in &self.files {
+            match rule {
+                0 => println!("{count:>12}  files that the full check accepts"),
+                _ => println!("{count:>12}  files that it refuses, lowest broken rule {rule}"),
+            }
+        }
+        println!("{:>12}  files passed over: a side does not open them", self.passed_over);
+        println!("{:>12}  questions", self.questions);
+        println!("{:>12}  of them held against exact geometry", self.exact);
+        for ((kind, answer), count) in &self.answers {
+            println!("{count:>12}  {kind}: {answer}");
+        }
+        for (which, (known, of)) in OF_ASKING.iter().zip(&self.known).enumerate() {
+            println!(
+                "known: {}, met {} times, {} of them in files that the full check accepts",
+                known.name, of.met, of.met_in_accepted
+            );
+            println!("  document 01: {}\n  original: {}", known.document, known.original);
+            for (what, file, accepted) in [
+                ("smallest", &of.any, false),
+                ("smallest that the full check accepts", &of.accepted, true),
+            ] {
+                if let Some(file) = file {
+                    println!("  {what}: {} bytes", file.len());
+                    if let Some(Known { question, document, original, .. }) =
+                        shown(file, which, accepted)
+                    {
+                        println!(
+                            "    {question:?}: document 01 {document:?}, original {original:?}"
+                        );
+                    }
+                    println!("    {}", hex(file));
+                }
+            }
+        }
+    }
+}
+
+pub fn hex(file: &[u8]) -> String {
+    file.iter().map(|b| format!("{b:02x}")).collect()
+}

@@ -1,0 +1,173 @@
+//! walked.bin: questions of chunks, containment and lookups, with document 01's answers; full.bin: small files with what the full check says.
+//! README.md has the layout of their records. Of each file's own bytes the original must say the same, but for its known departures.
+
+use super::blocks::{block, word};
+use crate::file;
+use crate::known::EVERY;
+use crate::random::Random;
+use crate::rules::{self, Judge, Opened, Said, full_check};
+use crate::voice::{Answer, Question, Voice};
+use crate::{original, scene};
+use std::collections::BTreeMap;
+
+/// How often each kind of question had each answer: 0, or the refusal.
+pub type Counts = BTreeMap<(&'static str, u32), u64>;
+
+/// 0 where the full check accepts, else opening's number, or 47 and 100 times the rule. Where the answer is read off document 01 by hand, the rules must say the same.
+pub fn full() -> Vec<(u32, Vec<u8>)> {
+    let by_hand =
+        |(rule, file): (u32, Vec<u8>)| (if rule == 0 { 0 } else { 47 + 100 * rule }, file);
+    let mut out: Vec<(u32, Vec<u8>)> = file::broken::files().into_iter().map(by_hand).collect();
+    out.extend(file::departing().into_iter().map(by_hand));
+    out.extend(file::cases().into_iter().step_by(8).filter(|(number, _)| *number > 0));
+    let said = |file: &[u8]| full_check(file).err().map_or(0, |b| b.number + 100 * b.rule);
+    out.iter().enumerate().for_each(|(i, (number, file))| assert_eq!(said(file), *number, "{i}"));
+    let others = file::chunks().into_iter().map(|(_, file)| file).chain(file::kinds());
+    out.extend(others.map(|file| (said(&file), file)));
+    out
+}
+
+pub fn list() -> (Vec<u8>, Counts) {
+    let mut counts = Counts::new();
+    let mut out = Vec::new();
+    for (i, file) in files().into_iter().enumerate() {
+        let opened = rules::open(&file, &[]).expect("a file that opens");
+        let mut lent = vec![file.clone()];
+        if i < OTHERWISE {
+            lent.extend(other_bytes(&file, &opened));
+        }
+        block(&mut out, &file, lent.len());
+        for (k, bytes) in lent.iter().enumerate() {
+            let questions = questions(&opened, if k == 0 { MANY } else { FEW });
+            block(&mut out, bytes, questions.len());
+            let judge = Judge { opened: opened.asked_with(bytes), original: &[] };
+            for &q in &questions {
+                record(&mut out, q, judge.ask(q).unwrap(), &mut counts);
+            }
+            if k == 0 {
+                hold_original(&file, &questions);
+            }
+        }
+    }
+    (out, counts)
+}
+
+/// Of so many files the record is also asked with other bytes.
+const OTHERWISE: usize = 2;
+
+/// How many questions of each kind: with a file's own bytes, and with others.
+const MANY: usize = 40;
+const FEW: usize = 14;
+
+/// Those that break a rule or none, those whose chunk is broken, those at which the original departs; and accepted ones made at random.
+fn files() -> Vec<Vec<u8>> {
+    let mut out = vec![file::broken::whole(), file::least(true).lay()];
+    out.extend(file::departing().into_iter().map(|(_, file)| file));
+    out.extend(file::chunks().into_iter().map(|(_, file)| file));
+    out.extend(file::broken::files().into_iter().skip(1).step_by(5).map(|(_, file)| file));
+    let mut random = Random::new(22);
+    let mut some: Vec<Vec<u8>> = (0..2000).map(|_| file::on_lattice(&mut random).lay()).collect();
+    some.retain(|file| {
+        let opened = rules::open(file, &[]).ok().unwrap();
+        file.len() <= 1016 && opened.zones > 1 && opened.rings() > 2
+    });
+    some.sort_by_key(|file| (rules::open(file, &[]).ok().unwrap().grid.is_none(), file.len()));
+    out.extend(some.into_iter().take(20));
+    out
+}
+
+/// Cut before each section's end, and with each directory filled with zeros or 0xff.
+fn other_bytes(file: &[u8], opened: &Opened) -> Vec<Vec<u8>> {
+    let mut out = Vec::new();
+    for [typ, off, len] in file::entries(file) {
+        let (off, end) = (off as usize, (off + len) as usize);
+        if !(file::TZDIR..=file::CHUNKDIR).contains(&typ) && typ != file::POINTS {
+            continue;
+        }
+        out.push(file[..end - 1].to_vec());
+        for filling in [0, 0xff] {
+            let mut with = file.to_vec();
+            with[off..end].fill(filling);
+            out.push(with);
+        }
+    }
+    // The chunks' offsets the other way round, and the counts 0.
+    let at = |i: u64| {
+        file::entries(file).iter().find(|e| e[0] == file::CHUNKDIR).unwrap()[1] as usize
+            + 24 * i as usize
+    };
+    let last = opened.chunks() - 1;
+    let mut turned = file.to_vec();
+    let mut none = file.to_vec();
+    for i in 0..=last {
+        file::put(&mut turned, at(i), file::word(file, at(last - i)));
+        none[at(i) + 4..at(i) + 6].fill(0);
+    }
+    out.extend([turned, none]);
+    out
+}
+
+fn spread<T: Copy>(all: &[T], most: usize) -> Vec<T> {
+    if all.len() <= most {
+        return all.to_vec();
+    }
+    (0..most).map(|i| all[i * all.len() / most]).collect()
+}
+
+/// Some of what a comparison asks: of each kind so many. A list is asked with at most 16 places.
+fn questions(opened: &Opened, most: usize) -> Vec<Question> {
+    let all = crate::compare::asking::questions::of(opened, 400);
+    let of = |kind: fn(&Question) -> bool| {
+        spread(&all.iter().copied().filter(kind).collect::<Vec<_>>(), most)
+    };
+    let mut out = of(|q| matches!(q, Question::Decode(..)));
+    out.extend(of(|q| matches!(q, Question::Contains(..))));
+    out.extend(of(|q| matches!(q, Question::Lookup(..))));
+    out.extend(of(|q| matches!(q, Question::LookupInto(..))));
+    let most = |q| match q {
+        Question::Decode(chunk, room) => Question::Decode(chunk, room.min(64)),
+        Question::LookupInto(x, y, places) => Question::LookupInto(x, y, places.min(16)),
+        other => other,
+    };
+    out.into_iter().map(most).collect()
+}
+
+/// A question's record: kind, chunk or zone, two numbers, position; then the refusal, two numbers, and four bytes of zero.
+fn record(out: &mut Vec<u8>, q: Question, answer: Said<Answer>, counts: &mut Counts) {
+    let (kind, name, of, [a, b], (x, y)) = match q {
+        Question::Decode(chunk, room) => (1, "chunk", chunk, [room as u32, 0], (0.0, 0.0)),
+        Question::Contains(zone, x, y) => (2, "point", zone, [x as u32, y as u32], (0.0, 0.0)),
+        Question::Lookup(x, y) => (3, "lookup", 0, [0, 0], (x, y)),
+        Question::LookupInto(x, y, places) => (4, "list", 0, [places as u32, 0], (x, y)),
+        Question::ContainsAt(..) => unreachable!("no export takes floats in a zone"),
+    };
+    [kind, of, a, b].iter().for_each(|&n| word(out, n.into()));
+    [x, y].iter().for_each(|&x| out.extend_from_slice(&scene::bits(x).to_le_bytes()));
+    let refusal = answer.as_ref().err().copied().unwrap_or(0);
+    let [first, second] = answer.map_or([0, 0], numbers);
+    [refusal.into(), first, second, 0].iter().for_each(|&n| word(out, n));
+    *counts.entry((name, refusal)).or_default() += 1;
+}
+
+/// How many numbers and the sum of their bytes; 1 for yes; 1 and the zone, or 0 for none.
+fn numbers(answer: Answer) -> [u64; 2] {
+    let sum = |all: &[u32]| {
+        let bytes: Vec<u8> = all.iter().flat_map(|n| n.to_le_bytes()).collect();
+        [all.len() as u64, rules::crc32(&bytes).into()]
+    };
+    match answer {
+        Answer::Points(points) => sum(&points.iter().map(|&n| n as u32).collect::<Vec<_>>()),
+        Answer::Zones(zones) => sum(&zones.iter().map(|&n| n as u32).collect::<Vec<_>>()),
+        Answer::Is(is) => [is.into(), 0],
+        Answer::Zone(zone) => [zone.is_some().into(), zone.unwrap_or(0)],
+    }
+}
+
+fn hold_original(file: &[u8], questions: &[Question]) {
+    let (Ok(opened), Ok(original)) = (rules::open(file, &EVERY), original::opening::open(file))
+    else {
+        return;
+    };
+    let judge = Judge { opened, original: &EVERY };
+    questions.iter().for_each(|&q| assert_eq!(original.ask(q), judge.ask(q), "{q:?}"));
+}

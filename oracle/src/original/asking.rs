@@ -1,0 +1,93 @@
+//! The original's decoding, containment and lookups, as a voice.
+
+use super::opening::{Opened, said};
+use crate::rules::Said;
+use crate::voice::{Answer, Question, Voice};
+
+impl Opened<'_> {
+    /// The original's list grows; document 01's room is looked at here, in its order.
+    fn decode(&self, chunk: u32, room: u64) -> Said<Vec<i64>> {
+        let record = said(|| self.reader.chunk_at(chunk))?;
+        if 2 * u64::from(record.count) > room {
+            return Err(46);
+        }
+        let mut points = Vec::new();
+        said(|| self.reader.decode_chunk_points(chunk, record, &mut points))?;
+        Ok(points.into_iter().flat_map(|p| [p.x.into(), p.y.into()]).collect())
+    }
+
+    /// Added for scanners by document 01, over the original's walk.
+    fn contains(&self, zone: u32, x: i32, y: i32) -> Said<bool> {
+        if zone >= self.reader.timezone_count() {
+            return Err(45);
+        }
+        if x.unsigned_abs() > 18_000_000 || y.unsigned_abs() > 9_000_000 {
+            return Ok(false);
+        }
+        said(|| self.reader.ask_contains(zone, x.into(), y.into()))
+    }
+
+    fn lookup_into(&self, lng: f64, lat: f64, places: u64) -> Said<Vec<u64>> {
+        let mut found = Vec::new();
+        said(|| self.reader.lookup_into(lng, lat, &mut found))?;
+        if found.len() as u64 > places {
+            return Err(46);
+        }
+        Ok(found.into_iter().map(u64::from).collect())
+    }
+}
+
+impl Voice for Opened<'_> {
+    fn ask(&self, question: Question) -> Option<Said<Answer>> {
+        Some(match question {
+            Question::Decode(chunk, room) => self.decode(chunk, room).map(Answer::Points),
+            Question::Contains(zone, x, y) => self.contains(zone, x, y).map(Answer::Is),
+            Question::ContainsAt(zone, x, y) => {
+                said(|| self.reader.ask_contains(zone, x, y)).map(Answer::Is)
+            }
+            Question::Lookup(lng, lat) => {
+                let zone = said(|| self.reader.lookup(lng, lat));
+                zone.map(|zone| Answer::Zone(zone.map(u64::from)))
+            }
+            Question::LookupInto(lng, lat, places) => {
+                self.lookup_into(lng, lat, places).map(Answer::Zones)
+            }
+        })
+    }
+}
+
+#[cfg(test)]
+mod tests {
+    use super::super::opening::open;
+    use crate::file::{self, CHUNKDIR, broken, departing, entries};
+    use crate::rules::{self, Judge};
+    use crate::voice::{Answer, Question, Voice};
+
+    /// Document 01's answer and the original's, of a file that is opened and then asked with these bytes.
+    fn both(file: &[u8], lent: &[u8], q: Question) -> [Result<Answer, u32>; 2] {
+        let opened = rules::open(file, &[]).ok().unwrap().asked_with(lent);
+        let judge = Judge { opened, original: &[] };
+        let original = open(file).ok().unwrap().asked_with(lent);
+        [judge.ask(q).unwrap(), original.ask(q).unwrap()]
+    }
+
+    #[test]
+    fn the_triangle_with_its_last_chunk_in_no_stripe() {
+        let (_, file) = departing().pop().unwrap();
+        let said = both(&file, &file, Question::Contains(0, 1, 1));
+        assert_eq!(said, [Ok(Answer::Is(true)), Ok(Answer::Is(false))]);
+    }
+
+    #[test]
+    fn other_bytes_than_it_was_opened_from() {
+        let file = broken::whole();
+        let chunks = entries(&file).into_iter().find(|entry| entry[0] == CHUNKDIR).unwrap();
+        let points = entries(&file).into_iter().find(|entry| entry[0] == file::POINTS).unwrap();
+        let cut = &file[..(points[1] + points[2]) as usize - 1];
+        let last = Question::Decode(chunks[2] / 24 - 1, 64);
+        assert_eq!(both(&file, cut, last), [Err(44), Err(37)]);
+        let mut none = file.clone();
+        none[chunks[1] as usize + 4..chunks[1] as usize + 6].fill(0);
+        assert_eq!(both(&file, &none, Question::Decode(0, 64)), [Err(32), Err(34)]);
+    }
+}

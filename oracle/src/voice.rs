@@ -1,0 +1,45 @@
+//! Who can be asked of an opened file, and what. The rules, the original and later the port are voices.
+
+use crate::rules::{Judge, Said};
+
+#[derive(Debug, Clone, Copy)]
+pub enum Question {
+    /// A chunk, and how many numbers there is room for.
+    Decode(u32, u64),
+    /// A zone and a whole-number point.
+    Contains(u32, i32, i32),
+    /// A zone and any float point, not scaled.
+    ContainsAt(u32, f64, f64),
+    Lookup(f64, f64),
+    /// How many places are lent for the zones.
+    LookupInto(f64, f64, u64),
+}
+
+#[derive(Debug, Clone, PartialEq, Eq)]
+pub enum Answer {
+    Points(Vec<i64>),
+    Is(bool),
+    Zone(Option<u64>),
+    Zones(Vec<u64>),
+}
+
+pub trait Voice {
+    /// None where the voice has no way to be asked this.
+    fn ask(&self, question: Question) -> Option<Said<Answer>>;
+}
+
+impl Voice for Judge<'_> {
+    fn ask(&self, question: Question) -> Option<Said<Answer>> {
+        Some(match question {
+            Question::Decode(chunk, room) => {
+                self.opened.decode(chunk.into(), room).map(Answer::Points)
+            }
+            Question::Contains(zone, x, y) => self.contains(zone.into(), x, y).map(Answer::Is),
+            Question::ContainsAt(zone, x, y) => self.contains_at(zone.into(), x, y).map(Answer::Is),
+            Question::Lookup(lng, lat) => self.lookup(lng, lat).map(Answer::Zone),
+            Question::LookupInto(lng, lat, places) => {
+                self.lookup_into(lng, lat, places).map(Answer::Zones)
+            }
+        })
+    }
+}
