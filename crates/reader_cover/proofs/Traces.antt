@@ -20,7 +20,7 @@ use Rattle.reader_opened.specs.declared.Opened.{Opened}
 use Rattle.reader_records.specs.declared.ChunkRecord.{ChunkRecord}
 use Rattle.reader_records.specs.Records.{chunkAt}
 use Rattle.reader_chunks.specs.Chunks.{bytesOf, chunkPoints}
-use Rattle.reader_cover.specs.Holds.{holds, holds-no, holds-ok}
+use Rattle.reader_cover.specs.Holds.{holds, answered, holds-no, holds-ok}
 use Rattle.reader_cover.specs.Cover.{traced, traceBy, traceAt, chunkCovers}
 
 -- the points so far lie in the box where `inside` says so, q is the last of them, x are those to come
@@ -86,7 +86,7 @@ traced-holds b P Q f (refused r) = refl
 
 module _ (o : Opened) (s : List ℕ) (i : ℕ) where
   -- a test that takes no notice of the box
-  pub trace-holds : (P : List I32Point → Bool) (Q : Bool × I32Point → Bool) → ((b : BBox) (l : List I32Point) → Q (every (inBox b) l, lastOf l) ≡ P l)
+  trace-holds : (P : List I32Point → Bool) (Q : Bool × I32Point → Bool) → ((b : BBox) (l : List I32Point) → Q (every (inBox b) l, lastOf l) ≡ P l)
       → holds Q (traceAt o s i) ≡ holds P (chunkPoints o s i)
   unfolding traceAt traceBy chunkPoints holds
   trace-holds P Q f = go (chunkAt o s i)
@@ -96,13 +96,28 @@ module _ (o : Opened) (s : List ℕ) (i : ℕ) where
       go (refused r) = refl
 
   -- F4
-  pub trace-covers : holds (λ t. t .0) (traceAt o s i) ≡ chunkCovers o s i
+  trace-covers : holds (λ t. t .0) (traceAt o s i) ≡ chunkCovers o s i
   unfolding traceAt traceBy chunkCovers chunkPoints holds
   trace-covers = go (chunkAt o s i)
     where
       go : (x : Answer ChunkRecord) → holds (λ t. t .0) (x then λ v. traced (v .bbox) (need 32 (ltb 0 (v .count)) (bytesOf o s i v then λ b. pointsOf b (v .count)))) ≡ holds (λ v. holds (every (inBox (v .bbox))) (x then λ v. need 32 (ltb 0 (v .count)) (bytesOf o s i v then λ b. pointsOf b (v .count)))) x
       go (ok v) = traced-holds (v .bbox) (every (inBox (v .bbox))) (λ t. t .0) (λ l. refl) (need 32 (ltb 0 (v .count)) (bytesOf o s i v then λ b. pointsOf b (v .count)))
       go (refused r) = refl
+
+  pub covers-no : (r : Refusal) → refused r ≡ traceAt o s i → false ≡ chunkCovers o s i
+  covers-no r e = holds-no (λ t. t .0) (traceAt o s i) r e ∙ trace-covers
+
+  pub covers-ok : (inside : Bool) (p : I32Point) → ok (inside, p) ≡ traceAt o s i → inside ≡ chunkCovers o s i
+  covers-ok inside p e = holds-ok (λ t. t .0) (traceAt o s i) (inside, p) e inside refl ∙ trace-covers
+
+  -- F3
+  pub decodes-no : (r : Refusal) → refused r ≡ traceAt o s i → false ≡ answered (chunkPoints o s i)
+  unfolding answered
+  decodes-no r e = holds-no (λ t. true) (traceAt o s i) r e ∙ trace-holds (λ l. true) (λ t. true) (λ b l. refl)
+
+  pub decodes-ok : (t : Bool × I32Point) → ok t ≡ traceAt o s i → true ≡ answered (chunkPoints o s i)
+  unfolding answered
+  decodes-ok t e = holds-ok (λ t. true) (traceAt o s i) t e true refl ∙ trace-holds (λ l. true) (λ t. true) (λ b l. refl)
 
   -- F5: the last point
   module _ (q : I32Point) where
