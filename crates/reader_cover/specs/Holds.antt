@@ -2,7 +2,7 @@
 -- Assumes nothing.
 use Prim.Native.Nat.{ℕ, suc, _+_, _-_, _≤_, _<_}
 use native.Mathlib.Omega.{arith}
-use mathlib.Core.Path.{_≡_, refl}
+use mathlib.Core.Path.{_≡_, refl, ap, _∙_}
 use mathlib.Core.Bool.{Bool, true, false, false≢true}
 use Rattle.answer.specs.declared.Refusal.{Refusal}
 use Rattle.answer.specs.Answers.{Answer, ok, refused}
@@ -31,6 +31,11 @@ module _ {A : Type 0} (P : A → Bool) (x : Answer A) where
   pub holds-ok : (a : A) → ok a ≡ x → (b : Bool) → b ≡ P a → b ≡ holds P x
   unfolding holds
   holds-ok a e b h = rw (← e) h
+
+  -- and back
+  pub holds-at : (a : A) → ok a ≡ x → holds P x ≡ true → P a ≡ true
+  unfolding holds
+  holds-at a e h = ap (holds P) e ∙ h
 
   -- what passed was an answer
   pub held : holds P x ≡ true → (a : A) × (ok a ≡ x) × (P a ≡ true)

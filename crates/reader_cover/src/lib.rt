@@ -79,8 +79,8 @@ pub fn points_add(o: Opened, s: &[u8], v: RingRecord) -> bool
 {
     let mut j = reader_head::wide(v.first);
     let mut sum = 0;
-    let mut left = v.count;
-    while 0 < left {
+    let mut ops = v.count;
+    while 0 < ops {
         let t = op_group(o, s, j);
         match t {
             GroupAt::Refused(_) => {
@@ -91,7 +91,7 @@ pub fn points_add(o: Opened, s: &[u8], v: RingRecord) -> bool
             }
         }
         j += 1;
-        left -= 1;
+        ops -= 1;
     }
     reader_records::count_rule(v, sum)
 }

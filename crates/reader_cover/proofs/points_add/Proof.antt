@@ -11,10 +11,10 @@ use Rattle.reader_cover.proofs.points_add.Statement.{statement}
 use Rattle.reader_cover.proofs.points_add.Tie as tie
 
 abbrev Inv-loop : tie.InvT-loop
-Inv-loop o s v j₀ sum₀ left₀ j sum left = (left < 0x1_0000) × (j + left < 0x1_0001_0000) × (sum + 0x1_0000_0000 * left ≤ 0x1_0000_0000_0000) × (addsUp o s v sum left j ≡ pointsAdd o s v)
+Inv-loop o s v j₀ sum₀ ops₀ j sum ops = (ops < 0x1_0000) × (j + ops < 0x1_0001_0000) × (sum + 0x1_0000_0000 * ops ≤ 0x1_0000_0000_0000) × (addsUp o s v sum ops j ≡ pointsAdd o s v)
 
 abbrev μ-loop : tie.MeasureT-loop
-μ-loop o s v j₀ sum₀ left₀ j sum left = left
+μ-loop o s v j₀ sum₀ ops₀ j sum ops = ops
 
 wide-requires : tie.Need-wide-requires Inv-loop μ-loop
 wide-requires c κs = search needs
@@ -46,8 +46,8 @@ add-sum c = omega (arith, c .before .before .before .before .before .before .loo
 add-j : tie.Need-add-j Inv-loop μ-loop
 add-j c = omega (arith, c .before .before .before .before .before .before .loop .inv)
 
-sub-left : tie.Need-sub-left Inv-loop μ-loop
-sub-left c = omega (arith, c .before .before .before .before .before .loop-test .taken)
+sub-ops : tie.Need-sub-ops Inv-loop μ-loop
+sub-ops c = omega (arith, c .before .before .before .before .before .loop-test .taken)
 
 loop-less : tie.Need-loop-less Inv-loop μ-loop
 loop-less c = omega (arith, c .before .before .before .before .before .loop-test .taken)
@@ -85,7 +85,7 @@ points-add-spec =
     wide-requires-2
     add-sum
     add-j
-    sub-left
+    sub-ops
     loop-less
     loop-again
     count-rule-requires
