@@ -28,6 +28,8 @@ use Rattle.tzb.specs.FullCheck.{fullCheckOf}
 use Rattle.demands.specs.Accepted.{Accepted}
 use Rattle.demands.specs.Words.{Position, InZone}
 use Rattle.demands.proofs.Accepted as Files
+use Rattle.demands.proofs.Accepted.{accepted-with}
+use Rattle.demands.proofs.Rules.{accepted-sound, accepted-covered}
 use Rattle.demands.proofs.Words.{zone-in-words}
 
 -- "The full check accepts a file exactly when document 01's F1 to F6 hold."
@@ -45,8 +47,8 @@ module _ (file : List ℕ) (accepts : fullCheckOf file ≡ accepted) (o : Opened
   -- as one equation, and at every whole-number point: outside the domain both say no
   pub contains-is : (q : I32Point) → containsAt o file zone q ≡ ok (zoneIn (seg q) (zoneAt (directories o file) zone))
   contains-is q =
-      let a = Files.accepted-with file accepts o opened in
-      contains-exact o file (Files.accepted-sound file o a) (Files.accepted-covered file o a) zone its-own q
+      let a = accepted-with file accepts o opened in
+      contains-exact o file (accepted-sound file o a) (accepted-covered file o a) zone its-own q
 
   -- "and each position in whole hundred-thousandths of a degree within 180 and 90 degrees, the reader with its skips says "in this zone" exactly when exact whole-number geometry does"
   pub demand-3 : (p : Position) → Exactly o file zone (p .at)

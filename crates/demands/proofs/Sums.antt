@@ -22,7 +22,7 @@ module _ (o : Opened) (s : List ℕ) where
   unfolding groupRecord
   group-is i g e = rw (← e)
 
-  pub op-is : (j : ℕ) (g : GroupRecord) → ok g ≡ opGroup o s j → groupRecord o s (D.opGroup o s j) ≡ g
+  op-is : (j : ℕ) (g : GroupRecord) → ok g ≡ opGroup o s j → groupRecord o s (D.opGroup o s j) ≡ g
   unfolding opGroup
   op-is j g e =
       let a = then-inv (opAt o s j) (λ w. groupAt o s (w % 0x8000_0000)) g e in
