@@ -10,10 +10,18 @@ use Rattle.reader_opened.specs.declared.Opened.{Opened}
 use Rattle.reader_check.specs.FullCheck as Rules
 use Rattle.reader_check.specs.FullCheck.{Outcome, accepted, refusedBy, brokenAt, lowestBroken, check-refused, check-accepted, check-broken}
 use Rattle.tzb.specs.Opening.{openOf}
+use Rattle.tzb.specs.declared.FullCheck.{FullCheck}
+use Rattle.tzb.specs.declared.FullCheck.the-variants as F
 
 -- accepted; opening's number where F1 is broken; else 47 with the lowest broken rule
 unfoldable pub fullCheckOf : List ℕ → Outcome
 fullCheckOf file = Rules.fullCheckOf (openOf file) file
+
+-- what the enum of the code says
+abbrev pub checkTold : FullCheck → Outcome
+checkTold F.Accepted = accepted
+checkTold (F.Refused r) = refusedBy r
+checkTold (F.Broken r n) = brokenAt r n
 
 -- ---- laws
 module _ (file : List ℕ) where
@@ -26,6 +34,6 @@ module _ (file : List ℕ) where
     unfolding fullCheckOf
     full-accepted z = check-accepted (openOf file) file o e n h z
 
-    pub full-broken : 0 < n → brokenAt (refusal 47) n ≡ fullCheckOf file
+    pub full-broken : 0 < n → (r : Refusal) → r ≡ refusal 47 → brokenAt r n ≡ fullCheckOf file
     unfolding fullCheckOf
-    full-broken l = check-broken (openOf file) file o e n h l
+    full-broken l r k = rw k (check-broken (openOf file) file o e n h l)
