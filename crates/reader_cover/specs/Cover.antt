@@ -1,9 +1,8 @@
 -- Document 01, "What the full check demands": what is asked of one ring, one chunk, one group, one box. For any opened record and any bytes.
 -- Assumes nothing.
-use Prim.Native.Nat.{ℕ, zero, suc, _+_, _-_, _%_, _≤_, _<_}
-use native.Mathlib.Omega.{arith}
-use mathlib.Core.Path.{_≡_, refl, sym, ap, _∙_}
-use mathlib.Core.Bool.{Bool, true, false, _&&_}
+use Prim.Native.Nat.{ℕ, zero, suc, _+_, _-_, _%_, _<_}
+use mathlib.Core.Path.{_≡_}
+use mathlib.Core.Bool.{Bool, _&&_}
 use mathlib.Core.List.{List}
 use lib.Dec.{ltb}
 use borrow.Author.Tests.{lt-ltb}
@@ -33,22 +32,22 @@ use Rattle.reader_cover.specs.declared.Traced.the-variants as T
 unfoldable pub opGroup : Opened → List ℕ → ℕ → Answer GroupRecord
 opGroup o s j = opAt o s j then λ w. groupAt o s (w % 0x8000_0000)
 
--- ---- F2
+-- ---- F2 Every ring's groups' point counts, less its number of groups, add to its point count.
 -- the point counts of the groups that n ops name, from op j on, added
 unfoldable pub opPoints : Opened → List ℕ → ℕ → ℕ → Answer ℕ
 opPoints o s zero j = ok 0
 opPoints o s (suc n) j = opGroup o s j then λ g. opPoints o s n (j + 1) then λ t. ok (g .points + t)
 
--- a ring's groups' point counts, less its number of groups, add to its point count
+-- of a ring
 unfoldable pub pointsAdd : Opened → List ℕ → RingRecord → Bool
 pointsAdd o s r = holds (countRule r) (opPoints o s (r .count) (r .first))
 
--- ---- F4
--- the chunk's box covers its points
+-- ---- F4 Each chunk's box covers its points and, within a group, the next chunk's first.
+-- chunk i's box covers its points
 unfoldable pub chunkCovers : Opened → List ℕ → ℕ → Bool
 chunkCovers o s i = holds (λ v. holds (every (inBox (v .bbox))) (chunkPoints o s i)) (chunkAt o s i)
 
--- and the next chunk's first
+-- chunk i's box covers the next chunk's first
 unfoldable pub jointCovers : Opened → List ℕ → ℕ → Bool
 jointCovers o s i = holds (λ v. holds (inBox (v .bbox)) (firstAt o s (i + 1))) (chunkAt o s i)
 
@@ -57,7 +56,7 @@ unfoldable pub jointsCover : Opened → List ℕ → GroupRecord → Bool
 jointsCover o s g = all (jointCovers o s) (g .count - 1) (g .first)
 
 -- ---- F5 and F6
--- a box covers that of chunk, of the group of op, of ring, of polygon j
+-- the box b covers that of chunk j, of the group that op j names, of ring j, of polygon j
 unfoldable pub chunkUnder : Opened → List ℕ → BBox → ℕ → Bool
 chunkUnder o s b j = holds (λ v. covers b (v .bbox)) (chunkAt o s j)
 
@@ -70,15 +69,17 @@ ringUnder o s b j = holds (λ r. covers b (r .bbox)) (ringAt o s j)
 unfoldable pub polyUnder : Opened → List ℕ → BBox → ℕ → Bool
 polyUnder o s b j = holds (λ v. covers b (v .bbox)) (polyAt o s j)
 
--- a group's entry and exit are its first and last point: the first of its first chunk, the last of its last
+-- F5: entry and exit are the group's first and last point: the first of its first chunk, the last of its last
 unfoldable pub endsFit : Opened → List ℕ → GroupRecord → Bool
 endsFit o s g =
     holds (same (g .entry)) (firstAt o s (g .first))
     && holds (λ l. same (g .exit) (lastOf l)) (chunkPoints o s (g .first + (g .count - 1)))
 
+-- F5: the group's box covers its chunks' boxes, and its ends fit
 unfoldable pub groupCovers : Opened → List ℕ → GroupRecord → Bool
 groupCovers o s g = all (chunkUnder o s (g .bbox)) (g .count) (g .first) && endsFit o s g
 
+-- F6: a ring's box covers its groups', a polygon's its rings', a zone's its polygons'
 unfoldable pub ringCovers : Opened → List ℕ → RingRecord → Bool
 ringCovers o s r = all (groupUnder o s (r .bbox)) (r .count) (r .first)
 

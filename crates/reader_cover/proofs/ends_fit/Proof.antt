@@ -1,7 +1,6 @@
 -- `reader_cover::ends_fit` meets its contract: the entry and the exit.
 -- Assumes nothing.
 use native.Mathlib.Omega.{arith}
-use mathlib.Core.Path.{refl}
 use Rattle.reader_cover.specs.Cover.{ends-are}
 use borrow.Author.Needs.{needs}
 use Rattle.reader_cover.proofs.ends_fit.Statement.{statement}

@@ -2,7 +2,7 @@
 -- Assumes nothing.
 use Prim.Native.Nat.{_-_, _≤_, _<_}
 use native.Mathlib.Omega.{arith}
-use mathlib.Core.Path.{_≡_, _∙_}
+use mathlib.Core.Path.{_≡_}
 use Rattle.answer.specs.CheckLaws.{told-yes, told-no}
 use Rattle.reader_cover.specs.Holds.{all, all-start, all-yes, all-no, all-end}
 use Rattle.reader_cover.specs.Cover.{partFits}

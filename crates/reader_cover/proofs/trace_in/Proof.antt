@@ -1,6 +1,5 @@
 -- `reader_cover::trace_in` meets its contract: the range, then the points.
 -- Assumes nothing.
-use native.Mathlib.Omega.{arith}
 use mathlib.Core.Path.{ap, _∙_}
 use Rattle.answer.specs.Answers.{refused}
 use Rattle.reader_chunks.specs.Chunks.{span-none, span-short, span-is, points-no, points-is}
