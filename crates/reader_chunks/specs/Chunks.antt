@@ -1,8 +1,8 @@
 -- Document 01, "Chunk bytes" and "Refusal numbers": where a chunk's bytes stand in the file, and what is read there. For any opened record and any bytes.
 -- Assumes nothing.
-use Prim.Native.Nat.{ℕ, _+_, _-_, _*_, _≤_, _<_}
-use mathlib.Core.Path.{_≡_}
-use mathlib.Core.Bool.{Bool, true, false, cond}
+use Prim.Native.Nat.{ℕ, _+_, _*_, _≤_, _<_}
+use mathlib.Core.Path.{_≡_, refl}
+use mathlib.Core.Bool.{cond}
 use mathlib.Core.List.{List}
 use lib.ListN.{length}
 use lib.Dec.{ltb, leb}
@@ -17,10 +17,23 @@ use Rattle.answer.specs.Walks.{Walk, broken, _yields_}
 use Rattle.fields.specs.Part.{part}
 use Rattle.tzb_core.specs.Points.{firstOf}
 use Rattle.tzb_core.specs.Scan.{scanOf}
-use Rattle.tzb_core.specs.Decode.{pointsOf, outcome, filled}
+use Rattle.tzb_core.specs.Decode.{pointsOf, intoRoom, outcome, filled}
 use Rattle.reader_opened.specs.declared.Opened.{Opened}
 use Rattle.reader_records.specs.declared.ChunkRecord.{ChunkRecord}
 use Rattle.reader_records.specs.Records.{chunkAt}
+use Rattle.reader_chunks.specs.declared.Offset.{Offset}
+use Rattle.reader_chunks.specs.declared.Offset.the-variants as O
+use Rattle.reader_chunks.specs.declared.PointAt.{PointAt}
+use Rattle.reader_chunks.specs.declared.PointAt.the-variants as P
+
+-- what each enum tells
+abbrev pub toldOffset : Offset → Answer ℕ
+toldOffset (O.At e) = ok e
+toldOffset (O.Refused k) = refused k
+
+abbrev pub toldPoint : PointAt → Answer I32Point
+toldPoint (P.At q) = ok q
+toldPoint (P.Refused k) = refused k
 
 -- where a chunk's first byte stands
 unfoldable pub startOf : Opened → ChunkRecord → ℕ
@@ -49,6 +62,10 @@ firstIn s a e = span s a e then λ b. firstOf b then λ t. ok (t .0)
 unfoldable pub scanIn : List ℕ → ℕ → Point → ℕ → ℕ → Walk I32Point
 scanIn s n p a e = span s a e yields λ b. scanOf b n p
 
+-- all n points in the bytes from a to e
+unfoldable pub pointsIn : List ℕ → ℕ → ℕ → ℕ → Answer (List I32Point)
+pointsIn s n a e = span s a e then λ b. pointsOf b n
+
 -- ---- a chunk by its number
 -- its first point alone
 unfoldable pub firstAt : Opened → List ℕ → ℕ → Answer I32Point
@@ -59,12 +76,14 @@ unfoldable pub chunkPoints : Opened → List ℕ → ℕ → Answer (List I32Poi
 chunkPoints o s i = chunkAt o s i then λ v. need 32 (ltb 0 (v .count)) (bytesOf o s i v then λ b. pointsOf b (v .count))
 
 -- the same into lent i32s, two a point: 34, 32 for a count of 0, 46 for room, then 37 and the rest
-unfoldable pub decodeIn : Opened → List ℕ → ℕ → List ℤ → Answer (List I32Point)
-decodeIn o s i out =
-    chunkAt o s i then λ v.
+unfoldable pub decodeBy : Opened → List ℕ → ℕ → List ℤ → ChunkRecord → Answer (List I32Point)
+decodeBy o s i out v =
     need 32 (ltb 0 (v .count))
     (need 46 (leb (2 * v .count) (length out))
     (bytesOf o s i v then λ b. pointsOf b (v .count)))
+
+unfoldable pub decodeIn : Opened → List ℕ → ℕ → List ℤ → Answer (List I32Point)
+decodeIn o s i out = chunkAt o s i then λ v. decodeBy o s i out v
 
 -- what is told, and the lent memory afterwards: the numbers of the points, then the rest as it was; after a refusal all as it was
 abbrev pub decodeAt : Opened → List ℕ → ℕ → List ℤ → Checked
@@ -74,6 +93,10 @@ abbrev pub decodedAt : Opened → List ℕ → ℕ → List ℤ → List ℤ
 decodedAt o s i out = filled out (decodeIn o s i out)
 
 -- ---- laws
+pub start-is : (o : Opened) (v : ChunkRecord) → o .points .off + v .off ≡ startOf o v
+unfolding startOf
+start-is o v = refl
+
 module _ (o : Opened) (s : List ℕ) (i : ℕ) where
   pub end-last : o .chunks .count ≤ i + 1 → ok (o .points .off + o .points .len) ≡ endOf o s i
   unfolding endOf
@@ -113,11 +136,67 @@ module _ (s : List ℕ) (a e : ℕ) where
     unfolding firstIn
     first-is q m k = rw (← h, ← k)
 
-  module _ (n : ℕ) (p : Point) where
-    pub scan-no : (r : Refusal) → refused r ≡ span s a e → broken r ≡ scanIn s n p a e
-    unfolding scanIn
-    scan-no r h = rw (← h)
+  module _ (n : ℕ) where
+    module _ (p : Point) where
+      pub scan-no : (r : Refusal) → refused r ≡ span s a e → broken r ≡ scanIn s n p a e
+      unfolding scanIn
+      scan-no r h = rw (← h)
 
-    pub scan-is : (b : List ℕ) → ok b ≡ span s a e → scanOf b n p ≡ scanIn s n p a e
-    unfolding scanIn
-    scan-is b h = rw (← h)
+      pub scan-is : (b : List ℕ) → ok b ≡ span s a e → scanOf b n p ≡ scanIn s n p a e
+      unfolding scanIn
+      scan-is b h = rw (← h)
+
+    pub points-no : (r : Refusal) → refused r ≡ span s a e → refused r ≡ pointsIn s n a e
+    unfolding pointsIn
+    points-no r h = rw (← h)
+
+    pub points-is : (b : List ℕ) → ok b ≡ span s a e → pointsOf b n ≡ pointsIn s n a e
+    unfolding pointsIn
+    points-is b h = rw (← h)
+
+-- where there is room, points that go into it are the points
+pub into-room : (b : List ℕ) (n : ℕ) (out : List ℤ) → 0 < n → 2 * n ≤ length out → intoRoom b n out ≡ pointsOf b n
+unfolding intoRoom
+into-room b n out h k = rw (lt-ltb 0 n h, le-leb (2 * n) (length out) k)
+
+module _ (o : Opened) (s : List ℕ) (i : ℕ) where
+  pub at-no : (r : Refusal) → refused r ≡ chunkAt o s i → refused r ≡ firstAt o s i
+  unfolding firstAt
+  at-no r h = rw (← h)
+
+  module _ (v : ChunkRecord) (h : ok v ≡ chunkAt o s i) where
+    pub at-far : (r : Refusal) → refused r ≡ endOf o s i → refused r ≡ firstAt o s i
+    unfolding firstAt
+    at-far r k = rw (← h, ← k)
+
+    pub at-is : (e : ℕ) → ok e ≡ endOf o s i → (a : ℕ) → a ≡ startOf o v → firstIn s a e ≡ firstAt o s i
+    unfolding firstAt
+    at-is e k a g = rw (← h, ← k, g)
+
+  module _ (out : List ℤ) where
+    module _ (v : ChunkRecord) where
+      pub by-none : v .count ≡ 0 → no 32 ≡ decodeBy o s i out v
+      unfolding decodeBy
+      by-none z = rw z
+
+      module _ (h : 0 < v .count) where
+        pub by-short : length out < 2 * v .count → no 46 ≡ decodeBy o s i out v
+        unfolding decodeBy
+        by-short l = rw (lt-ltb 0 (v .count) h, lt-leb (2 * v .count) (length out) l)
+
+        module _ (room : 2 * v .count ≤ length out) where
+          pub by-far : (r : Refusal) → refused r ≡ endOf o s i → refused r ≡ decodeBy o s i out v
+          unfolding decodeBy bytesOf
+          by-far r k = rw (lt-ltb 0 (v .count) h, le-leb (2 * v .count) (length out) room, ← k)
+
+          pub by-is : (e : ℕ) → ok e ≡ endOf o s i → (a : ℕ) → a ≡ startOf o v → pointsIn s (v .count) a e ≡ decodeBy o s i out v
+          unfolding decodeBy bytesOf pointsIn
+          by-is e k a g = rw (lt-ltb 0 (v .count) h, le-leb (2 * v .count) (length out) room, ← k, g)
+
+    pub in-no : (r : Refusal) → refused r ≡ chunkAt o s i → refused r ≡ decodeIn o s i out
+    unfolding decodeIn
+    in-no r h = rw (← h)
+
+    pub in-is : (v : ChunkRecord) → ok v ≡ chunkAt o s i → decodeBy o s i out v ≡ decodeIn o s i out
+    unfolding decodeIn
+    in-is v h = rw (← h)

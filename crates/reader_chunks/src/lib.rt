@@ -1,1 +1,163 @@
 // A chunk's bytes in the file: its range, its first point, the scan of its segments, and its points decoded into lent numbers.
+ghost use mathlib.Core.Path.{_≡_};
+ghost use Prim.Native.Nat.{_+_, _*_, _≤_, _<_};
+ghost use lib.ListN.{length};
+ghost use Rattle.tzb_core.specs.Decode.{outcome, filled};
+ghost use Rattle.tzb_core.specs.Scan.{scanned};
+ghost use Rattle.reader_chunks.specs.Chunks.{toldOffset, toldPoint, startOf, endOf, span, firstIn, scanIn, firstAt, pointsIn, decodeBy, decodeAt, decodedAt};
+use answer::Checked;
+use answer::Refusal;
+use plane::I32Point;
+use plane::Point;
+use reader_opened::Opened;
+use reader_records::ChunkAt;
+use reader_records::ChunkRecord;
+use tzb_core::chunk;
+use tzb_core::chunk::Scan;
+use tzb_core::chunk::Spotted;
+
+// A place in the file.
+pub enum Offset {
+    At(usize),
+    Refused(Refusal),
+}
+
+// A point of the file.
+pub enum PointAt {
+    At(I32Point),
+    Refused(Refusal),
+}
+
+// Where a chunk's first byte stands.
+pub fn start_of(o: Opened, v: ChunkRecord) -> usize
+    ensures { λ r. ⌜ (r ≡ startOf o v) × (r < 0x2_0000_0000) ⌝ }
+{
+    reader_head::wide(o.points.off) + reader_head::wide(v.off)
+}
+
+// Where the points end.
+fn points_end(o: Opened) -> usize
+    ensures { λ r. ⌜ r ≡ o .points .off + o .points .len ⌝ }
+{
+    reader_head::wide(o.points.off) + reader_head::wide(o.points.len)
+}
+
+// Where chunk `index` ends: where the next of the file starts, or with the points.
+pub fn end_of(o: Opened, s: &[u8], index: usize) -> Offset
+    ensures { λ r. ⌜ toldOffset r ≡ endOf o (now (s .entry)) index ⌝ }
+{
+    let count = reader_head::wide(o.chunks.count);
+    if count <= index {
+        return Offset::At(points_end(o));
+    }
+    if index + 1 < count {
+        let t = reader_records::chunk_at(o, s, index + 1);
+        match t {
+            ChunkAt::Refused(k) => Offset::Refused(k),
+            ChunkAt::At(v) => Offset::At(start_of(o, v)),
+        }
+    } else {
+        Offset::At(points_end(o))
+    }
+}
+
+// 37 and 44 of the bytes from a to e.
+fn check_span(s: &[u8], a: usize, e: usize) -> Checked
+    ensures { λ r. ⌜ r ≡ outcome (span (now (s .entry)) a e) ⌝ }
+{
+    if e <= a {
+        return answer::fail(37);
+    }
+    if s.len() < e {
+        return answer::fail(44);
+    }
+    Checked::Fine
+}
+
+// The first point alone, of the bytes from a to e.
+pub fn first_in(s: &[u8], a: usize, e: usize) -> PointAt
+    ensures { λ r. ⌜ toldPoint r ≡ firstIn (now (s .entry)) a e ⌝ }
+{
+    let c = check_span(s, a, e);
+    if let Checked::Refused(k) = c {
+        return PointAt::Refused(k);
+    }
+    let b = &s[a..e];
+    let t = chunk::first_point(b);
+    match t {
+        Spotted::Refused(k) => PointAt::Refused(k),
+        Spotted::At(q, _) => PointAt::At(q),
+    }
+}
+
+// Through all segments of the points in the bytes from a to e.
+pub fn scan_in(s: &[u8], count: u16, p: Point, a: usize, e: usize) -> Scan
+    ensures { λ r. ⌜ scanned r ≡ scanIn (now (s .entry)) count p a e ⌝ }
+{
+    let c = check_span(s, a, e);
+    if let Checked::Refused(k) = c {
+        return Scan::Refused(k);
+    }
+    let b = &s[a..e];
+    chunk::scan_chunk(b, count, p)
+}
+
+// The first point alone, of chunk `index`.
+pub fn first_at(o: Opened, s: &[u8], index: usize) -> PointAt
+    ensures { λ r. ⌜ toldPoint r ≡ firstAt o (now (s .entry)) index ⌝ }
+{
+    let t = reader_records::chunk_at(o, s, index);
+    match t {
+        ChunkAt::Refused(k) => PointAt::Refused(k),
+        ChunkAt::At(v) => {
+            let u = end_of(o, s, index);
+            match u {
+                Offset::Refused(k) => PointAt::Refused(k),
+                Offset::At(e) => first_in(s, start_of(o, v), e),
+            }
+        }
+    }
+}
+
+// All points in the bytes from a to e, into lent numbers that have the room.
+fn decode_in(s: &[u8], count: u16, a: usize, e: usize, out: &mut [i32]) -> Checked
+    requires { ⌜ 0 < count ⌝ }
+    requires { ⌜ 2 * count ≤ length (now out) ⌝ }
+    ensures { λ r. ⌜ (r ≡ outcome (pointsIn (now (s .entry)) count a e)) × (now (out .exit) ≡ filled (now (out .entry)) (pointsIn (now (s .entry)) count a e)) ⌝ }
+{
+    let c = check_span(s, a, e);
+    if let Checked::Refused(k) = c {
+        return Checked::Refused(k);
+    }
+    let b = &s[a..e];
+    chunk::decode_points(b, count, out)
+}
+
+// All points of chunk `index`, whose record is v: 32 and 46 before the bytes are sought.
+fn decode_record(o: Opened, s: &[u8], index: usize, v: ChunkRecord, out: &mut [i32]) -> Checked
+    ensures { λ r. ⌜ (r ≡ outcome (decodeBy o (now (s .entry)) index (now (out .entry)) v)) × (now (out .exit) ≡ filled (now (out .entry)) (decodeBy o (now (s .entry)) index (now (out .entry)) v)) ⌝ }
+{
+    if v.count == 0 {
+        return answer::fail(32);
+    }
+    if out.len() < 2 * reader_records::wide16(v.count) {
+        return answer::fail(46);
+    }
+    let t = end_of(o, s, index);
+    match t {
+        Offset::Refused(k) => Checked::Refused(k),
+        Offset::At(e) => decode_in(s, v.count, start_of(o, v), e, out),
+    }
+}
+
+// The points of chunk `index` into lent numbers, two a point. A refusal leaves the lent memory as it was, and what lies behind the points is never touched.
+pub fn decode_chunk_points(o: Opened, s: &[u8], index: usize, out: &mut [i32]) -> Checked
+    ensures { λ r. ⌜ r ≡ decodeAt o (now (s .entry)) index (now (out .entry)) ⌝ }
+    ensures memory { λ r. ⌜ now (out .exit) ≡ decodedAt o (now (s .entry)) index (now (out .entry)) ⌝ }
+{
+    let t = reader_records::chunk_at(o, s, index);
+    match t {
+        ChunkAt::Refused(k) => Checked::Refused(k),
+        ChunkAt::At(v) => decode_record(o, s, index, v, out),
+    }
+}

@@ -21,6 +21,8 @@ use Rattle.reader_records.specs.Records.{chunkAt}
 use Rattle.reader_chunks.specs.Chunks.{startOf, endOf, firstIn, scanIn}
 use Rattle.reader_groups.specs.declared.Went.{Went}
 use Rattle.reader_groups.specs.declared.Went.the-variants as W
+use Rattle.reader_groups.specs.declared.Joined.{Joined}
+use Rattle.reader_groups.specs.declared.Joined.the-variants as J
 use Rattle.reader_groups.specs.declared.Pass.{Pass}
 use Rattle.reader_groups.specs.declared.Pass.the-variants as P
 
@@ -34,10 +36,15 @@ went (W.Refused r) = broken r
 went W.On = on
 went (W.Off b) = off b tt
 
+abbrev pub joined : Joined → Walk One
+joined (J.Refused r) = broken r
+joined J.On = on
+joined (J.Off b k) = off b tt
+
 abbrev pub passed : Pass → Walk ChunkRecord
 passed (P.Refused r) = broken r
 passed P.On = on
-passed (P.Off b v) = off b v
+passed (P.Off b v k) = off b v
 
 -- the first point of chunk i + 1, with record n
 unfoldable pub nextFirst : Opened → List ℕ → ℕ → ChunkRecord → Answer I32Point
@@ -84,41 +91,43 @@ module _ (o : Opened) (s : List ℕ) (i : ℕ) (n : ChunkRecord) where
   unfolding nextFirst
   next-no r h = rw (← h)
 
-  pub next-is : (e : ℕ) → ok e ≡ endOf o s (i + 1) → (a : ℕ) → a ≡ startOf o n → firstIn s a e ≡ nextFirst o s i n
+  pub next-is : (e : ℕ) → ok e ≡ endOf o s (i + 1) → firstIn s (startOf o n) e ≡ nextFirst o s i n
   unfolding nextFirst
-  next-is e h a k = rw (← h, k)
+  next-is e h = rw (← h)
 
 module _ (o : Opened) (s : List ℕ) (p : Point) (i : ℕ) (v : ChunkRecord) where
   module _ (n : ChunkRecord) where
-    pub skip-no : (r : Refusal) → refused r ≡ firstIn s (startOf o v) (startOf o n) → broken r ≡ skipTo o s p i v n
-    unfolding skipTo
-    skip-no r h = rw (← h)
-
-    module _ (a : I32Point) (h : ok a ≡ firstIn s (startOf o v) (startOf o n)) where
-      pub skip-far : (r : Refusal) → refused r ≡ nextFirst o s i n → broken r ≡ skipTo o s p i v n
+    -- e is where it ends: where the next chunk starts
+    module _ (e : ℕ) (g : e ≡ startOf o n) where
+      pub skip-no : (r : Refusal) → refused r ≡ firstIn s (startOf o v) e → broken r ≡ skipTo o s p i v n
       unfolding skipTo
-      skip-far r k = rw (← h, ← k)
+      skip-no r h = rw (← g, ← h)
 
-      pub skip-is : (b : I32Point) → ok b ≡ nextFirst o s i n → (t : Bool) → t ≡ parityOf p a b → off t tt ≡ skipTo o s p i v n
-      unfolding skipTo
-      skip-is b k t e = rw (← h, ← k, e)
+      module _ (a : I32Point) (h : ok a ≡ firstIn s (startOf o v) e) where
+        pub skip-far : (r : Refusal) → refused r ≡ nextFirst o s i n → broken r ≡ skipTo o s p i v n
+        unfolding skipTo
+        skip-far r k = rw (← g, ← h, ← k)
 
-    pub scan-to-no : (r : Refusal) → broken r ≡ scanIn s (v .count) p (startOf o v) (startOf o n) → broken r ≡ scanTo o s p i v n
-    unfolding scanTo
-    scan-to-no r h = rw (← h)
+        pub skip-is : (b : I32Point) → ok b ≡ nextFirst o s i n → (t : Bool) → t ≡ parityOf p a b → off t tt ≡ skipTo o s p i v n
+        unfolding skipTo
+        skip-is b k t m = rw (← g, ← h, ← k, m)
 
-    pub scan-to-on : on ≡ scanIn s (v .count) p (startOf o v) (startOf o n) → on ≡ scanTo o s p i v n
-    unfolding scanTo
-    scan-to-on h = rw (← h)
-
-    module _ (b : Bool) (q : I32Point) (h : off b q ≡ scanIn s (v .count) p (startOf o v) (startOf o n)) where
-      pub scan-to-far : (r : Refusal) → refused r ≡ nextFirst o s i n → broken r ≡ scanTo o s p i v n
-      unfolding scanTo add
-      scan-to-far r k = rw (← h, ← k)
-
-      pub scan-to-is : (t : I32Point) → ok t ≡ nextFirst o s i n → (w : Walk One) → w ≡ past (rayOf q t p) tt → add b w ≡ scanTo o s p i v n
+      pub scan-to-no : (r : Refusal) → broken r ≡ scanIn s (v .count) p (startOf o v) e → broken r ≡ scanTo o s p i v n
       unfolding scanTo
-      scan-to-is t k w e = rw (← h, ← k, e)
+      scan-to-no r h = rw (← g, ← h)
+
+      pub scan-to-on : on ≡ scanIn s (v .count) p (startOf o v) e → on ≡ scanTo o s p i v n
+      unfolding scanTo
+      scan-to-on h = rw (← g, ← h)
+
+      module _ (b : Bool) (q : I32Point) (h : off b q ≡ scanIn s (v .count) p (startOf o v) e) where
+        pub scan-to-far : (r : Refusal) → refused r ≡ nextFirst o s i n → broken r ≡ scanTo o s p i v n
+        unfolding scanTo add
+        scan-to-far r k = rw (← g, ← h, ← k)
+
+        pub scan-to-is : (t : I32Point) → ok t ≡ nextFirst o s i n → (w : Walk One) → w ≡ past (rayOf q t p) tt → add b w ≡ scanTo o s p i v n
+        unfolding scanTo
+        scan-to-is t k w m = rw (← g, ← h, ← k, m)
 
     pub joined-none : relevant (v .bbox) p ≡ false → done tt ≡ joinedTo o s p i v n
     unfolding joinedTo

@@ -2,7 +2,7 @@
 -- Assumes nothing.
 use Prim.Native.Nat.{ℕ, zero, suc, _+_, _-_, _%_, _≤_, _<_}
 use native.Mathlib.Omega.{arith}
-use mathlib.Core.Path.{_≡_, sym, ap, _∙_}
+use mathlib.Core.Path.{_≡_, sym, ap, ap₂, _∙_}
 use mathlib.Core.Bool.{Bool, true, false, cond}
 use mathlib.Core.List.{List}
 use lib.Dec.{ltb}
@@ -212,18 +212,21 @@ unfolding ringEnd
 end-is p r q z h = rw h
 
 module _ (o : Opened) (s : List ℕ) (p : Point) (r : RingRecord) where
-  module _ (t : Turned) (w : Walk Round) (h : w ≡ opsFrom o s p (r .count - 1) (r .first + 1) (record { exit = t .exit; sum = t .group .points })) where
+  module _ (t : Turned) (i n : ℕ) (f : i ≡ r .first) (g : n ≡ t .group .points) (w : Walk Round) (h : w ≡ opsFrom o s p (r .count - 1) (i + 1) (record { exit = t .exit; sum = n })) where
+    rest-from : w ≡ opsFrom o s p (r .count - 1) (r .first + 1) (record { exit = t .exit; sum = t .group .points })
+    rest-from = h ∙ ap₂ (λ (j m : ℕ). opsFrom o s p (r .count - 1) (j + 1) (record { exit = t .exit; sum = m })) f g
+
     pub rest-no : (k : Refusal) → broken k ≡ w → broken k ≡ ringRest o s p r t
     unfolding ringRest
-    rest-no k e = rw (← h, ← e)
+    rest-no k e = rw (← rest-from, ← e)
 
     pub rest-on : on ≡ w → on ≡ ringRest o s p r t
     unfolding ringRest
-    rest-on e = rw (← h, ← e)
+    rest-on e = rw (← rest-from, ← e)
 
     pub rest-is : (b : Bool) (z : Round) → off b z ≡ w → (v : Walk One) → v ≡ ringEnd p r (t .entry) z → add b v ≡ ringRest o s p r t
     unfolding ringRest
-    rest-is b z e v k = rw (← h, ← e, k)
+    rest-is b z e v k = rw (← rest-from, ← e, k)
 
   module _ (i : ℕ) (g : i ≡ r .first) where
     pub ring-no : (k : Refusal) → refused k ≡ turnedAt o s i → broken k ≡ ringOf o s p r

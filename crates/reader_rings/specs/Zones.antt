@@ -1,16 +1,17 @@
 -- Document 01, "Asking": a zone as `timezone_contains` walks it: the first of its polygons that contains the point. A polygon: its first ring does, with its edge, and no other does, without. For any opened record and any bytes.
 -- Assumes nothing.
-use Prim.Native.Nat.{ℕ, zero, suc, _+_, _-_, _<_}
+use Prim.Native.Nat.{ℕ, zero, suc, _+_, _-_, _≤_, _<_}
 use native.Mathlib.Omega.{arith}
 use mathlib.Core.Path.{_≡_, ap}
 use mathlib.Core.Bool.{Bool, true, false, cond}
 use mathlib.Core.List.{List}
 use lib.Dec.{ltb}
+use borrow.Author.Tests.{lt-ltb, le-ltb}
 use Rattle.plane.specs.declared.Point.{Point}
 use Rattle.plane.specs.declared.I32Point.{I32Point}
 use Rattle.plane.specs.Domain.{inDomain}
 use Rattle.answer.specs.declared.Refusal.{Refusal}
-use Rattle.answer.specs.Answers.{Answer, ok, refused, _then_, need}
+use Rattle.answer.specs.Answers.{Answer, ok, refused, no, _then_, need}
 use Rattle.tzb_core.specs.Box.{contains}
 use Rattle.tzb_core.specs.Ray.{pointOf}
 use Rattle.reader_opened.specs.declared.Opened.{Opened}
@@ -98,3 +99,17 @@ module _ (o : Opened) (s : List ℕ) (p : Point) (i : ℕ) where
     pub zone-is : contains (z .bbox) p ≡ true → (j : ℕ) → j ≡ z .first → seek (polyOf o s p) true false (z .count) j ≡ zoneOf o s p i
     unfolding zoneOf
     zone-is e j g = rw (← h, e, ← g)
+
+module _ (o : Opened) (s : List ℕ) (zone : ℕ) (q : I32Point) where
+  pub whole-over : o .zones .count ≤ zone → no 45 ≡ containsAt o s zone q
+  unfolding containsAt
+  whole-over h = rw (le-ltb zone (o .zones .count) h)
+
+  module _ (h : zone < o .zones .count) where
+    pub whole-off : inDomain q ≡ false → ok false ≡ containsAt o s zone q
+    unfolding containsAt
+    whole-off e = rw (lt-ltb zone (o .zones .count) h, e)
+
+    pub whole-is : inDomain q ≡ true → zoneOf o s (pointOf q) zone ≡ containsAt o s zone q
+    unfolding containsAt
+    whole-is e = rw (lt-ltb zone (o .zones .count) h, e)

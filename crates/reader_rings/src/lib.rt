@@ -1,7 +1,26 @@
 // Containment: rings, polygons and zones.
+ghost use mathlib.Core.Path.{_≡_};
+ghost use mathlib.Core.Bool.{true, false};
+ghost use Prim.Native.Nat.{_+_, _-_, _≤_, _<_};
+ghost use Rattle.answer.specs.Walks.{verdict};
+ghost use Rattle.tzb_core.specs.Points.{point};
+ghost use Rattle.tzb_core.specs.Ray.{rayOf};
+ghost use Rattle.tzb_core.specs.Scan.{past};
+ghost use Rattle.reader_groups.specs.Groups.{went};
+ghost use Rattle.reader_rings.specs.Rings.{turned, rounds, sumAfter, judged, turnOf, turnedAt, jointOf, groupWalk, turnWalk, opStep, opsFrom, ringEnd, ringRest, ringOf, ringContains};
+ghost use Rattle.reader_rings.specs.Zones.{seek, holesOut, polyOf, zoneOf, containsAt};
 use answer::Refusal;
 use plane::I32Point;
+use plane::Point;
+use plane::Seen;
+use reader_groups::Went;
+use reader_opened::Opened;
+use reader_records::GroupAt;
 use reader_records::GroupRecord;
+use reader_records::ListAt;
+use reader_records::OpAt;
+use reader_records::RingAt;
+use reader_records::RingRecord;
 
 // A group with its ends as a ring op has them.
 pub struct Turned {
@@ -30,4 +49,353 @@ pub enum Rounds {
 pub enum Verdict {
     Is(bool),
     Refused(Refusal),
+}
+
+// The group of an op's word: the top bit turns it round.
+fn turn(w: usize, g: GroupRecord) -> Turned
+    ensures { λ r. ⌜ r ≡ turnOf w g ⌝ }
+{
+    let a = g.entry;
+    let b = g.exit;
+    if w < 0x8000_0000 {
+        Turned {
+            entry: a,
+            exit: b,
+            group: g,
+        }
+    } else {
+        Turned {
+            entry: b,
+            exit: a,
+            group: g,
+        }
+    }
+}
+
+// The group of op i.
+fn turned_by(o: Opened, s: &[u8], i: usize) -> TurnedAt
+    ensures { λ r. ⌜ turned r ≡ turnedAt o (now (s .entry)) i ⌝ }
+{
+    let t = reader_records::op_at(o, s, i);
+    match t {
+        OpAt::Refused(k) => TurnedAt::Refused(k),
+        OpAt::At(w) => {
+            let u = reader_records::group_at(o, s, w % 0x8000_0000);
+            match u {
+                GroupAt::Refused(k) => TurnedAt::Refused(k),
+                GroupAt::At(g) => TurnedAt::At(turn(w, g)),
+            }
+        }
+    }
+}
+
+// Past the segment from a to b.
+fn past_segment(a: I32Point, b: I32Point, p: Point) -> Went
+    ensures { λ r. ⌜ went r ≡ past (rayOf a b p) tt ⌝ }
+{
+    let e = tzb_core::raycast::raycast_seg(a, b, p);
+    match e {
+        Seen::On => Went::On,
+        Seen::Off(b) => Went::Off(b),
+    }
+}
+
+// Past the segment that joins two ends, where they differ.
+fn joint(p: Point, a: I32Point, b: I32Point) -> Went
+    ensures { λ r. ⌜ went r ≡ jointOf p a b ⌝ }
+{
+    if tzb_core::bbox::same_point(a, b) {
+        Went::Off(false)
+    } else {
+        past_segment(a, b, p)
+    }
+}
+
+// Past a group: nothing, by its ends alone, or through its chunks.
+fn group_walk(o: Opened, s: &[u8], p: Point, g: GroupRecord) -> Went
+    ensures { λ r. ⌜ went r ≡ groupWalk o (now (s .entry)) p g ⌝ }
+{
+    let b = g.bbox;
+    if b.relevant(p) {
+        if b.right(p) {
+            let a = g.entry;
+            let x = g.exit;
+            Went::Off(tzb_core::raycast::endpoint_parity(a, x, p))
+        } else {
+            reader_groups::scan_group(o, s, p, g)
+        }
+    } else {
+        Went::Off(false)
+    }
+}
+
+// Past a group, from the exit a of the group before.
+fn turn_walk(o: Opened, s: &[u8], p: Point, a: I32Point, t: Turned) -> Went
+    ensures { λ r. ⌜ went r ≡ turnWalk o (now (s .entry)) p a t ⌝ }
+{
+    let e = t.entry;
+    let w = joint(p, a, e);
+    match w {
+        Went::Refused(k) => Went::Refused(k),
+        Went::On => Went::On,
+        Went::Off(b) => {
+            let g = t.group;
+            reader_groups::after(b, group_walk(o, s, p, g))
+        }
+    }
+}
+
+// Past op i, after z.
+fn op_step(o: Opened, s: &[u8], p: Point, i: usize, z: Round) -> Rounds
+    requires { ⌜ z .sum < 0x4000_0000_0000_0000 ⌝ }
+    ensures { λ r. ⌜ (rounds r ≡ opStep o (now (s .entry)) p i z) × (sumAfter (z .sum) r ≤ z .sum + 0x1_0000_0000) ⌝ }
+{
+    let u = turned_by(o, s, i);
+    match u {
+        TurnedAt::Refused(k) => Rounds::Refused(k),
+        TurnedAt::At(t) => {
+            let a = z.exit;
+            let w = turn_walk(o, s, p, a, t);
+            match w {
+                Went::Refused(k) => Rounds::Refused(k),
+                Went::On => Rounds::On,
+                Went::Off(b) => {
+                    let x = t.exit;
+                    Rounds::Off(
+                        b,
+                        Round {
+                            exit: x,
+                            sum: z.sum + reader_head::wide(t.group.points),
+                        },
+                    )
+                }
+            }
+        }
+    }
+}
+
+// Past the ops from `from` on, `count` with the first.
+fn ops_from(o: Opened, s: &[u8], p: Point, count: u16, from: usize, so: Round) -> Rounds
+    requires { ⌜ (from < 0x2_0000_0000) × (so .sum < 0x1_0000_0000) ⌝ }
+    ensures { λ r. ⌜ rounds r ≡ opsFrom o (now (s .entry)) p (count - 1) from so ⌝ }
+{
+    let mut i = from;
+    let mut z = so;
+    let mut odd = false;
+    let mut left = count;
+    while 1 < left {
+        let t = op_step(o, s, p, i, z);
+        match t {
+            Rounds::Refused(k) => {
+                return Rounds::Refused(k);
+            }
+            Rounds::On => {
+                return Rounds::On;
+            }
+            Rounds::Off(b, n) => {
+                odd = answer::plus(odd, b);
+                z = n;
+            }
+        }
+        i += 1;
+        left -= 1;
+    }
+    Rounds::Off(odd, z)
+}
+
+// After the last group: 36, then the segment back to the start.
+fn ring_end(p: Point, r: RingRecord, start: I32Point, z: Round) -> Went
+    ensures { λ w. ⌜ went w ≡ ringEnd p r start z ⌝ }
+{
+    if reader_records::count_rule(r, z.sum) {
+        let x = z.exit;
+        joint(p, x, start)
+    } else {
+        Went::Refused(answer::refuse(36))
+    }
+}
+
+// Past the groups after the first, t.
+fn ring_rest(o: Opened, s: &[u8], p: Point, r: RingRecord, t: Turned) -> Went
+    ensures { λ w. ⌜ went w ≡ ringRest o (now (s .entry)) p r t ⌝ }
+{
+    let x = t.exit;
+    let so = Round {
+        exit: x,
+        sum: reader_head::wide(t.group.points),
+    };
+    let w = ops_from(o, s, p, r.count, reader_head::wide(r.first) + 1, so);
+    match w {
+        Rounds::Refused(k) => Went::Refused(k),
+        Rounds::On => Went::On,
+        Rounds::Off(b, z) => {
+            let e = t.entry;
+            reader_groups::after(b, ring_end(p, r, e, z))
+        }
+    }
+}
+
+// Past all groups of a ring, and back to the start.
+fn ring_walk(o: Opened, s: &[u8], p: Point, r: RingRecord) -> Went
+    ensures { λ w. ⌜ went w ≡ ringOf o (now (s .entry)) p r ⌝ }
+{
+    let u = turned_by(o, s, reader_head::wide(r.first));
+    match u {
+        TurnedAt::Refused(k) => Went::Refused(k),
+        TurnedAt::At(t) => {
+            let g = t.group;
+            let w = group_walk(o, s, p, g);
+            match w {
+                Went::Refused(k) => Went::Refused(k),
+                Went::On => Went::On,
+                Went::Off(b) => reader_groups::after(b, ring_rest(o, s, p, r, t)),
+            }
+        }
+    }
+}
+
+// Inside or not, where a point on an edge gets `edge`.
+fn verdict_of(edge: bool, w: Went) -> Verdict
+    ensures { λ r. ⌜ judged r ≡ verdict edge (went w) ⌝ }
+{
+    match w {
+        Went::Refused(k) => Verdict::Refused(k),
+        Went::On => Verdict::Is(edge),
+        Went::Off(b) => Verdict::Is(b),
+    }
+}
+
+// Whether ring `index` contains the point; one on an edge gets `edge`.
+pub fn ring_contains(o: Opened, s: &[u8], p: Point, edge: bool, index: usize) -> Verdict
+    ensures { λ r. ⌜ judged r ≡ ringContains o (now (s .entry)) p edge index ⌝ }
+{
+    let t = reader_records::ring_at(o, s, index);
+    match t {
+        RingAt::Refused(k) => Verdict::Refused(k),
+        RingAt::At(r) => {
+            let b = r.bbox;
+            if b.contains(p) {
+                verdict_of(edge, ring_walk(o, s, p, r))
+            } else {
+                Verdict::Is(false)
+            }
+        }
+    }
+}
+
+// Whether the point is in none of the holes: the rings from `from` on, `count` with the outer one.
+fn holes_out(o: Opened, s: &[u8], p: Point, count: u16, from: usize) -> Verdict
+    requires { ⌜ from < 0x2_0000_0000 ⌝ }
+    ensures { λ r. ⌜ judged r ≡ holesOut o (now (s .entry)) p (count - 1) from ⌝ }
+{
+    let mut i = from;
+    let mut left = count;
+    while 1 < left {
+        let t = ring_contains(o, s, p, false, i);
+        match t {
+            Verdict::Refused(k) => {
+                return Verdict::Refused(k);
+            }
+            Verdict::Is(b) => {
+                if b {
+                    return Verdict::Is(false);
+                }
+            }
+        }
+        i += 1;
+        left -= 1;
+    }
+    Verdict::Is(true)
+}
+
+// Whether polygon i contains the point: its first ring does, and no hole.
+fn poly_contains(o: Opened, s: &[u8], p: Point, i: usize) -> Verdict
+    ensures { λ r. ⌜ judged r ≡ polyOf o (now (s .entry)) p i ⌝ }
+{
+    let t = reader_records::poly_at(o, s, i);
+    match t {
+        ListAt::Refused(k) => Verdict::Refused(k),
+        ListAt::At(q) => {
+            let b = q.bbox;
+            if b.contains(p) {
+                let from = reader_head::wide(q.first);
+                let u = ring_contains(o, s, p, true, from);
+                match u {
+                    Verdict::Refused(k) => Verdict::Refused(k),
+                    Verdict::Is(y) => {
+                        if y {
+                            holes_out(o, s, p, q.count, from + 1)
+                        } else {
+                            Verdict::Is(false)
+                        }
+                    }
+                }
+            } else {
+                Verdict::Is(false)
+            }
+        }
+    }
+}
+
+// Whether one of the polygons does.
+fn polys_from(o: Opened, s: &[u8], p: Point, count: u16, from: usize) -> Verdict
+    requires { ⌜ from < 0x1_0000_0000 ⌝ }
+    ensures { λ r. ⌜ judged r ≡ seek (polyOf o (now (s .entry)) p) true false count from ⌝ }
+{
+    let mut i = from;
+    let mut left = count;
+    while 0 < left {
+        let t = poly_contains(o, s, p, i);
+        match t {
+            Verdict::Refused(k) => {
+                return Verdict::Refused(k);
+            }
+            Verdict::Is(b) => {
+                if b {
+                    return Verdict::Is(true);
+                }
+            }
+        }
+        i += 1;
+        left -= 1;
+    }
+    Verdict::Is(false)
+}
+
+// Whether zone `index` contains the point.
+pub fn timezone_contains(o: Opened, s: &[u8], p: Point, index: usize) -> Verdict
+    ensures { λ r. ⌜ judged r ≡ zoneOf o (now (s .entry)) p index ⌝ }
+{
+    let t = reader_records::tz_at(o, s, index);
+    match t {
+        ListAt::Refused(k) => Verdict::Refused(k),
+        ListAt::At(z) => {
+            let b = z.bbox;
+            if b.contains(p) {
+                polys_from(o, s, p, z.count, reader_head::wide(z.first))
+            } else {
+                Verdict::Is(false)
+            }
+        }
+    }
+}
+
+// Whether the zone contains the point of whole numbers: a zone number too large is 45, then a point outside the domain is no.
+pub fn contains(o: Opened, s: &[u8], zone: u32, x: i32, y: i32) -> Verdict
+    ensures { λ r. ⌜ judged r ≡ containsAt o (now (s .entry)) zone (point x y) ⌝ }
+{
+    if o.zones.count <= zone {
+        return Verdict::Refused(answer::refuse(45));
+    }
+    let q = I32Point { x, y };
+    if tzb_core::bbox::point_in_domain(q) {
+        timezone_contains(
+            o,
+            s,
+            tzb_core::raycast::to_point(q),
+            reader_head::wide(zone),
+        )
+    } else {
+        Verdict::Is(false)
+    }
 }

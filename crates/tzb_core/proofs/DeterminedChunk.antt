@@ -24,13 +24,13 @@ one-point x y p q e =
     let t : _≡_ {A = I32Point × ℕ} (x, p .at) (y, q .at) = cc in
     ap₂ (λ (z : I32Point) (n : ℕ). S.At z (record { at = n })) (ap (λ (u : I32Point × ℕ). u .0) t) (ap (λ (u : I32Point × ℕ). u .1) t)
 
-one-spotted : (a b : Spotted) (x : Answer (I32Point × ℕ)) → spotted a ≡ x → spotted b ≡ x → a ≡ b
+pub one-spotted : (a b : Spotted) (x : Answer (I32Point × ℕ)) → spotted a ≡ x → spotted b ≡ x → a ≡ b
 one-spotted (S.At x p) (S.At y q) z e f = one-point x y p q (e ∙ sym f)
 one-spotted (S.At x p) (S.Refused k) z e f = cc
 one-spotted (S.Refused k) (S.At x p) z e f = cc
 one-spotted (S.Refused k) (S.Refused l) z e f = cc
 
-one-scan : (a b : Scan) (x : Walk I32Point) → scanned a ≡ x → scanned b ≡ x → a ≡ b
+pub one-scan : (a b : Scan) (x : Walk I32Point) → scanned a ≡ x → scanned b ≡ x → a ≡ b
 one-scan (W.Refused k) (W.Refused l) z e f = cc
 one-scan (W.Refused k) W.On z e f = cc
 one-scan (W.Refused k) (W.Off b q) z e f = cc

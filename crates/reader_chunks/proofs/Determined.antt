@@ -1,0 +1,53 @@
+-- Any two answers that a promise allows are equal, and so is the lent memory: stated over the contracts themselves. Two values of an enum that tell the same are the same.
+-- Assumes nothing.
+use Prim.Native.Nat.{ℕ}
+use mathlib.Core.Path.{_≡_, sym, _∙_}
+use Rattle.basics.specs.Determined.{Determined, DeterminedMemory}
+use Rattle.answer.specs.Answers.{Answer}
+use Rattle.plane.specs.declared.I32Point.{I32Point}
+use Rattle.tzb_core.proofs.DeterminedChunk.{one-scan}
+use Rattle.reader_chunks.specs.Chunks.{toldOffset, toldPoint}
+use Rattle.reader_chunks.specs.declared.Offset.{Offset}
+use Rattle.reader_chunks.specs.declared.Offset.the-variants as O
+use Rattle.reader_chunks.specs.declared.PointAt.{PointAt}
+use Rattle.reader_chunks.specs.declared.PointAt.the-variants as P
+use Rattle.reader_chunks.proofs.start_of.Reads as start-of-reads
+use Rattle.reader_chunks.proofs.end_of.Reads as end-of-reads
+use Rattle.reader_chunks.proofs.first_in.Reads as first-in-reads
+use Rattle.reader_chunks.proofs.scan_in.Reads as scan-in-reads
+use Rattle.reader_chunks.proofs.first_at.Reads as first-at-reads
+use Rattle.reader_chunks.proofs.decode_chunk_points.Reads as decode-chunk-points-reads
+
+one-offset : (a b : Offset) (x : Answer ℕ) → toldOffset a ≡ x → toldOffset b ≡ x → a ≡ b
+one-offset (O.At v) (O.At w) x e f = cc
+one-offset (O.At v) (O.Refused k) x e f = cc
+one-offset (O.Refused k) (O.At w) x e f = cc
+one-offset (O.Refused k) (O.Refused l) x e f = cc
+
+one-point : (a b : PointAt) (x : Answer I32Point) → toldPoint a ≡ x → toldPoint b ≡ x → a ≡ b
+one-point (P.At v) (P.At w) x e f = cc
+one-point (P.At v) (P.Refused k) x e f = cc
+one-point (P.Refused k) (P.At w) x e f = cc
+one-point (P.Refused k) (P.Refused l) x e f = cc
+
+pub start-of : Determined start-of-reads.Learnt
+start-of κ a r r' e e' p q = p .0 ∙ sym (q .0)
+
+pub end-of : Determined end-of-reads.Learnt
+end-of κ a r r' e e' p q = one-offset r r' _ p q
+
+pub first-in : Determined first-in-reads.Learnt
+first-in κ a r r' e e' p q = one-point r r' _ p q
+
+pub scan-in : Determined scan-in-reads.Learnt
+scan-in κ a r r' e e' p q = one-scan r r' _ p q
+
+pub first-at : Determined first-at-reads.Learnt
+first-at κ a r r' e e' p q = one-point r r' _ p q
+
+pub decode-chunk-points : Determined decode-chunk-points-reads.Learnt
+decode-chunk-points κ a r r' e e' p q = p .0 ∙ sym (q .0)
+
+-- the lent numbers at exit
+pub decode-chunk-points-memory : DeterminedMemory decode-chunk-points-reads.Learnt (λ κ e. e .1 .1 .1 .0 .now)
+decode-chunk-points-memory κ a r r' e e' p q = p .1 ∙ sym (q .1)

@@ -1,0 +1,4 @@
+-- What follows from the promises: answers are determined; what decoding accepts.
+pub mod Ranges
+pub mod Determined
+pub mod Decodes

@@ -1,0 +1,39 @@
+-- What a range that is not refused tells: it holds a byte, and lies within the bytes. A chunk that another follows ends where that one starts.
+-- Assumes nothing.
+use Prim.Native.Nat.{ℕ, _+_, _≤_, _<_}
+use mathlib.Core.Path.{_≡_}
+use mathlib.Core.List.{List}
+use lib.ListN.{length}
+use lib.Dec.{ltb, leb}
+use borrow.Author.Tests.{ltb-true, leb-true}
+use Rattle.answer.specs.declared.Checked.the-variants.{Fine}
+use Rattle.answer.specs.Answers.{ok, need}
+use Rattle.fields.specs.Part.{part}
+use Rattle.fields.specs.Loads.{inside}
+use Rattle.tzb_core.specs.Decode.{outcome}
+use Rattle.tzb_core.proofs.Decoded.{outcome-fine, then-inv, need-inv}
+use Rattle.reader_opened.specs.declared.Opened.{Opened}
+use Rattle.reader_records.specs.declared.ChunkRecord.{ChunkRecord}
+use Rattle.reader_records.specs.Records.{place, recordAt, ruled, chunkIn, chunkRule, chunkAt}
+use Rattle.reader_chunks.specs.Chunks.{span, startOf, endOf, end-is}
+
+pub span-in : (s : List ℕ) (a e : ℕ) (b : List ℕ) → ok b ≡ span s a e → (a < e) × (e ≤ length s)
+unfolding span
+span-in s a e b h =
+    let f = need-inv 37 (ltb a e) (need 44 (leb e (length s)) (ok (part s a e))) b h in
+    let g = need-inv 44 (leb e (length s)) (ok (part s a e)) b (f .1) in
+    (ltb-true a e (f .0), leb-true e (length s) (g .0))
+
+pub span-fine : (s : List ℕ) (a e : ℕ) → Fine ≡ outcome (span s a e) → (a < e) × (e ≤ length s)
+span-fine s a e h = let f = outcome-fine (span s a e) h in span-in s a e (f .0) (f .1)
+
+-- a chunk that there is has its index in the directory
+pub chunk-inside : (o : Opened) (s : List ℕ) (i : ℕ) (n : ChunkRecord) → ok n ≡ chunkAt o s i → i < o .chunks .count
+unfolding chunkAt ruled recordAt
+chunk-inside o s i n e =
+    let h = then-inv (recordAt s (o .chunks) 24 i) (λ p. need 34 (chunkRule (chunkIn s p)) (ok (chunkIn s p))) n e in
+    let g = need-inv 34 (ltb i (o .chunks .count)) (need 44 (inside 24 s (place (o .chunks) 24 i)) (ok (place (o .chunks) 24 i))) (h .0) (h .1) in
+    ltb-true i (o .chunks .count) (g .0)
+
+pub end-next : (o : Opened) (s : List ℕ) (i : ℕ) (n : ChunkRecord) → ok n ≡ chunkAt o s (i + 1) → ok (startOf o n) ≡ endOf o s i
+end-next o s i n e = end-is o s i (chunk-inside o s (i + 1) n e) n e

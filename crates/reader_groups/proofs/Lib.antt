@@ -1,0 +1,3 @@
+-- What is known of a first point; that answers are determined.
+pub mod Remembering
+pub mod Determined

@@ -1,0 +1,32 @@
+-- `reader_groups::join` meets its contract: what the ray test sees, after a stretch.
+-- Assumes nothing.
+use mathlib.Core.Path.{refl, sym, ap, _∙_}
+use Rattle.plane.specs.declared.Seen.{Seen}
+use Rattle.answer.specs.Walks.{add-on, add-off}
+use Rattle.tzb_core.specs.Scan.{past}
+use borrow.Author.Needs.{needs}
+use Rattle.reader_groups.proofs.join.Statement.{statement}
+use Rattle.reader_groups.proofs.join.Tie as tie
+
+raycast-seg-requires : tie.Need-raycast-seg-requires
+raycast-seg-requires c κs = search needs
+
+enum-told : tie.Need-enum-told
+enum-told c = search needs
+
+enum-known-e : tie.Need-enum-known-e
+enum-known-e c = search needs
+
+plus-requires : tie.Need-plus-requires
+plus-requires c κs = search needs
+
+returns : tie.Need-returns
+returns c = (add-on _ _ (ap (λ (e : Seen). past e tt) (sym (c .enum-told .given .1) ∙ c .before .before .raycast-seg .ensures .0)), tt)
+
+returns-2 : tie.Need-returns-2
+returns-2 c = (add-off _ _ _ _ _ (c .plus .ensures) (ap (λ (e : Seen). past e tt) (sym (c .before .before .e .given .1) ∙ c .before .before .before .before .raycast-seg .ensures .0)), refl)
+
+pub join-spec : {M : Type 1} → statement M
+join-spec =
+    tie.close
+    (tie.spec raycast-seg-requires enum-told enum-known-e plus-requires returns returns-2)

@@ -1,0 +1,38 @@
+-- The code remembers a chunk's first point where it was read as the end of the chunk before. What is known is what reading would give.
+-- Assumes nothing.
+use Prim.Native.Nat.{ℕ, _+_}
+use mathlib.Core.Path.{_≡_}
+use mathlib.Core.List.{List}
+use Rattle.plane.specs.declared.I32Point.{I32Point}
+use Rattle.answer.specs.Answers.{Answer, ok, _then_}
+use Rattle.reader_opened.specs.declared.Opened.{Opened}
+use Rattle.reader_records.specs.declared.ChunkRecord.{ChunkRecord}
+use Rattle.reader_chunks.specs.Chunks.{startOf, endOf, firstIn}
+use Rattle.reader_groups.specs.Groups.{One}
+use Rattle.reader_groups.specs.declared.Known.{Known}
+use Rattle.reader_groups.specs.declared.Known.the-variants as K
+use Rattle.reader_groups.specs.declared.Joined.{Joined}
+use Rattle.reader_groups.specs.declared.Joined.the-variants as J
+use Rattle.reader_groups.specs.declared.Pass.{Pass}
+use Rattle.reader_groups.specs.declared.Pass.the-variants as P
+
+-- the first point of chunk i, with record v
+unfoldable pub ownFirst : Opened → List ℕ → ℕ → ChunkRecord → Answer I32Point
+ownFirst o s i v = endOf o s i then λ e. firstIn s (startOf o v) e
+
+-- what is known of an answer
+abbrev pub Kept : Known → Answer I32Point → Type 0
+Kept K.Unread x = One
+Kept (K.Read q) x = ok q ≡ x
+
+-- what a chunk leaves known of x
+abbrev pub Leaves : Answer I32Point → Joined → Type 0
+Leaves x (J.Refused r) = One
+Leaves x J.On = One
+Leaves x (J.Off b k) = Kept k x
+
+-- what is known of the next chunk's first point, past chunk i
+abbrev pub Hands : Opened → List ℕ → ℕ → Pass → Type 0
+Hands o s i (P.Refused r) = One
+Hands o s i P.On = One
+Hands o s i (P.Off b v k) = Kept k (ownFirst o s (i + 1) v)
