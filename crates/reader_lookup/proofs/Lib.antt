@@ -1,0 +1,7 @@
+-- Laws of the two questions.
+pub mod Listed
+pub mod Named
+pub mod Gathered
+pub mod Copied
+pub mod Placed
+pub mod Determined
