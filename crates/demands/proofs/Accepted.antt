@@ -9,7 +9,7 @@ use Rattle.tzb_core.proofs.Decoded.{ok-inv}
 use Rattle.reader_opened.specs.declared.Opened.{Opened}
 use Rattle.reader_check.specs.FullCheck as Rules
 use Rattle.reader_check.specs.FullCheck.{accepted}
-use Rattle.reader_check.proofs.Lowest.{Holding, accepted-holds, holds-accepted}
+use Rattle.reader_check.proofs.Lowest.{accepted-holds, holds-accepted}
 use Rattle.tzb.specs.Opening.{openOf}
 use Rattle.tzb.specs.FullCheck.{fullCheckOf}
 use Rattle.demands.specs.Accepted.{Accepted}

@@ -1,9 +1,9 @@
 -- A ring's point counts added up as answers (reader_cover) and as numbers (reader_exact): where no group is refused the sums are one.
 -- Assumes nothing.
 use Prim.Native.Nat.{ℕ, zero, suc, _+_, _%_}
-use mathlib.Core.Path.{_≡_, refl, sym, ap, ap₂, _∙_}
+use mathlib.Core.Path.{_≡_, sym, ap, ap₂, _∙_}
 use mathlib.Core.List.{List}
-use Rattle.answer.specs.Answers.{Answer, ok, _then_}
+use Rattle.answer.specs.Answers.{ok, _then_}
 use Rattle.tzb_core.proofs.Decoded.{then-inv, ok-inv}
 use Rattle.reader_opened.specs.declared.Opened.{Opened}
 use Rattle.reader_records.specs.declared.GroupRecord.{GroupRecord}

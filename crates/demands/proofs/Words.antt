@@ -1,17 +1,33 @@
--- A zone's exact meaning as a test (shapes, `zoneIn`) and in words (specs/Words, `InZone`): the one says yes exactly when the other holds.
+-- A position lies in document 01's domain. A zone's exact meaning as a test (shapes, `zoneIn`) and in words (specs/Words, `InZone`): the one says yes exactly when the other holds.
 -- Assumes nothing.
+use Prim.Native.Nat.{ℕ, suc, _≤_}
+use native.Mathlib.Omega.{arith}
 use mathlib.Core.Path.{_≡_, refl, sym, ap, _∙_}
 use mathlib.Core.Bool.{Bool, true, false, not, _&&_, _||_, cond, false≢true}
 use mathlib.Core.List.{List, [], _∷_, List·Memᴰ, List·Memᴰ·head, List·Memᴰ·tail, List·Memᴰ·not-nil, List·Memᴰ·cases-cons}
 use mathlib.Core.Logic.{_↔_, _⊎_, inl, inr}
+use borrow.Author.Tests.{le-leb}
+use lib.IntN.{ℤ, pos, negsuc, natAbs}
 use Rattle.basics.specs.Truth.{and-i, and-l, and-r}
 use Rattle.plane.specs.declared.I32Point.{I32Point}
 use Rattle.plane.specs.Segment.{seg}
+use Rattle.plane.specs.Domain.{within, inDomain}
 use Rattle.plane.specs.Lines.{some}
 use Rattle.shapes.specs.Shapes.{Ring, Polygon, Zone, ringIn, polygonIn, zoneIn}
 use Rattle.shapes.specs.Words.{ringSides, onAny, counted, odd}
 use Rattle.shapes.proofs.Words.{ring-in-words}
-use Rattle.demands.specs.Words.{OnRing, Inside, InPolygon, InZone}
+use Rattle.demands.specs.Words.{Position, OnRing, Inside, InPolygon, InZone}
+
+-- ---- a position lies in the domain
+in-span : (n : ℕ) (z : ℤ) → natAbs z ≤ suc n → within n z ≡ true
+in-span n (pos m) h = le-leb m (suc n) h
+in-span n (negsuc m) h = rw (le-leb m n (omega arith))
+
+pub position-in : (p : Position) → inDomain (p .at) ≡ true
+unfolding inDomain
+position-in p =
+    let q = p .at in
+    and-i (within 17_999_999 (q .x)) (within 8_999_999 (q .y)) (in-span 17_999_999 (q .x) (p .longitude)) (in-span 8_999_999 (q .y) (p .latitude))
 
 -- ---- some element of a list
 module _ {A : Type 0} (P : A → Bool) where
