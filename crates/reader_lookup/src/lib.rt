@@ -179,11 +179,11 @@ fn gather(o: Opened, s: &[u8], p: Point, grid: bool, n: u32, from: u32, held: &m
     let mut names = Checked::Fine;
     let mut k: u32 = 0;
     let mut place = from;
-    let mut left = n;
-    while 0 < left {
+    let mut rest = n;
+    while 0 < rest {
         let h = hit_at(o, s, p, grid, place);
         place += 1;
-        left -= 1;
+        rest -= 1;
         match h {
             Found::None => {}
             Found::Zone(zone) => {
