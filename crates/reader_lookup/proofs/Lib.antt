@@ -4,4 +4,5 @@ pub mod Named
 pub mod Gathered
 pub mod Copied
 pub mod Placed
+pub mod Meaning
 pub mod Determined

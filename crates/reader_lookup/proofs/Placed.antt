@@ -21,7 +21,7 @@ use Rattle.reader_lookup.specs.Asking.{Sought, also, allHits, namesRead,
 use Rattle.reader_lookup.specs.Gather.{seen, seenOn, tally, Kept}
 
 -- what an answer after a check was made of
-before-inv : {A : Type 0} (c : Checked) (x : Answer A) (a : A) → ok a ≡ (c before x) → (c ≡ Fine) × (ok a ≡ x)
+pub before-inv : {A : Type 0} (c : Checked) (x : Answer A) (a : A) → ok a ≡ (c before x) → (c ≡ Fine) × (ok a ≡ x)
 before-inv Fine x a e = (refl, e)
 before-inv (Refused k) x a e = let z : _≡_ {A = ℕ} 0 1 = cc in absurd (zero-one z)
 

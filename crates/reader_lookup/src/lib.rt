@@ -179,11 +179,11 @@ fn gather(o: Opened, s: &[u8], p: Point, grid: bool, n: u32, from: u32, held: &m
     let mut names = Checked::Fine;
     let mut k: u32 = 0;
     let mut place = from;
-    let mut left = n;
-    while 0 < left {
+    let mut rest = n;
+    while 0 < rest {
         let h = hit_at(o, s, p, grid, place);
         place += 1;
-        left -= 1;
+        rest -= 1;
         match h {
             Found::None => {}
             Found::Zone(zone) => {
@@ -263,19 +263,36 @@ fn place_hits(
     Listing::Zones(k)
 }
 
-// The zones of n candidates from a place on that contain the point, in the order of their names. All tests are made, all names read and the places counted before the first zone is written.
-// A cell has at most 15 candidates, so 16 places keep all of its zones. Without GRID a position may lie in as many zones as the record has: where there are more than 16, they are asked a second time. So no array of 65,536 is needed, and a record made by hand with still more zones is answered too.
+// The zones of n candidates from a place on that contain the point, in the order of their names. All tests are made, all names read and the places counted before the first zone is written: until then the zones stay in `held`.
+fn list_with(
+    o: Opened,
+    s: &[u8],
+    p: Point,
+    grid: bool,
+    n: u32,
+    from: u32,
+    held: &mut [u32],
+    out: &mut [u32],
+) -> Listing
+    requires { ⌜ from + n < 0x1_0000_0000 ⌝ }
+    ensures { λ r. ⌜ counted r ≡ howMany (allHits (hitAt o (now (s .entry)) p grid) n from then listFor o (now (s .entry)) (length (now (out .entry)))) ⌝ }
+    ensures memory { λ r. ⌜ now (out .exit) ≡ filled (now (out .entry)) (allHits (hitAt o (now (s .entry)) p grid) n from then listFor o (now (s .entry)) (length (now (out .entry)))) ⌝ }
+{
+    let t = gather(o, s, p, grid, n, from, held);
+    match t {
+        Listing::Zones(k) => place_hits(o, s, p, grid, n, from, held, k, out),
+        Listing::Refused(r) => Listing::Refused(r),
+    }
+}
+
+// The same with memory of its own. A cell has at most 15 candidates, so 16 places hold all of its zones. Without GRID a position may lie in as many zones as the record has: where there are more than 16, they are asked a second time. So no array of 65,536 is needed, and a record made by hand with still more zones is answered too.
 fn list_in(o: Opened, s: &[u8], p: Point, grid: bool, n: u32, from: u32, out: &mut [u32]) -> Listing
     requires { ⌜ from + n < 0x1_0000_0000 ⌝ }
     ensures { λ r. ⌜ counted r ≡ howMany (allHits (hitAt o (now (s .entry)) p grid) n from then listFor o (now (s .entry)) (length (now (out .entry)))) ⌝ }
     ensures memory { λ r. ⌜ now (out .exit) ≡ filled (now (out .entry)) (allHits (hitAt o (now (s .entry)) p grid) n from then listFor o (now (s .entry)) (length (now (out .entry)))) ⌝ }
 {
     let mut held = [0u32; 16];
-    let t = gather(o, s, p, grid, n, from, &mut held);
-    match t {
-        Listing::Zones(k) => place_hits(o, s, p, grid, n, from, &held, k, out),
-        Listing::Refused(r) => Listing::Refused(r),
-    }
+    list_with(o, s, p, grid, n, from, &mut held, out)
 }
 
 // All zones that a position lies in, in the order of their names, into the first places of `out`: how many there are. A refusal leaves the lent memory as it was, and places behind the zones are never touched.

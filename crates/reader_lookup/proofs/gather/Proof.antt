@@ -8,10 +8,10 @@ use Rattle.reader_lookup.proofs.gather.Statement.{statement}
 use Rattle.reader_lookup.proofs.gather.Tie as tie
 
 abbrev Inv-loop : tie.InvT-loop
-Inv-loop o s p grid n from held₀ names₀ k₀ place₀ left₀ held names k place left = Gathering o s (hitAt o s p grid) n from held₀ held names k place left
+Inv-loop o s p grid n from held₀ names₀ k₀ place₀ rest₀ held names k place rest = Gathering o s (hitAt o s p grid) n from held₀ held names k place rest
 
 abbrev μ-loop : tie.MeasureT-loop
-μ-loop o s p grid n from held₀ names₀ k₀ place₀ left₀ held names k place left = left
+μ-loop o s p grid n from held₀ names₀ k₀ place₀ rest₀ held names k place rest = rest
 
 loop-holds : tie.Need-loop-holds Inv-loop μ-loop
 loop-holds c = gather-start _ _ _ _ _ _ (c .before .before .pre)
@@ -22,8 +22,8 @@ hit-at-requires c κs = search needs
 add-place : tie.Need-add-place Inv-loop μ-loop
 add-place c = search needs
 
-sub-left : tie.Need-sub-left Inv-loop μ-loop
-sub-left c = search needs
+sub-rest : tie.Need-sub-rest Inv-loop μ-loop
+sub-rest c = search needs
 
 enum-told : tie.Need-enum-told Inv-loop μ-loop
 enum-told c = search needs
@@ -96,7 +96,7 @@ gather-spec =
     loop-holds
     hit-at-requires
     add-place
-    sub-left
+    sub-rest
     enum-told
     loop-less
     loop-again

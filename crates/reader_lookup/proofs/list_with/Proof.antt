@@ -1,63 +1,77 @@
--- `list_in` meets its contract: what is refused before the first zone is written, and the list.
+-- `list_with` meets its contract: what is refused before the first zone is written, and the list.
 -- Assumes nothing.
 use mathlib.Core.Path.{sym, ap, _∙_}
 use Rattle.reader_lookup.specs.Asking.{counted, howMany, filled}
 use Rattle.reader_lookup.proofs.Placed.{list-no, list-is, list-kept}
+use native.Mathlib.Omega.{arith}
 use borrow.Author.Needs.{needs}
-use Rattle.reader_lookup.proofs.list_in.Statement.{statement}
-use Rattle.reader_lookup.proofs.list_in.Tie as tie
+use Rattle.reader_lookup.proofs.list_with.Statement.{statement}
+use Rattle.reader_lookup.proofs.list_with.Tie as tie
+use Rattle.reader_lookup.proofs.list_with.Reads as reads
+use Rattle.reader_lookup.proofs.list_with.Lts as lts
+use Rattle.reader_lookup.proofs.gather.Reads as gather-reads
+use Rattle.reader_lookup.proofs.place_hits.Reads as place-hits-reads
 
-slice-aggregate-gather : tie.Need-slice-aggregate-gather
-slice-aggregate-gather c = search needs
-
+-- src/lib.rt:281:9
 gather-requires : tie.Need-gather-requires
-gather-requires c κs = c .before .before .before .pre
+gather-requires c κs = c .before .before .before .before .pre
 
+-- src/lib.rt:283:24
 enum-known-t : tie.Need-enum-known-t
 enum-known-t c = search needs
 
-slice-aggregate-place-hits : tie.Need-slice-aggregate-place-hits
-slice-aggregate-place-hits c = search needs
-
+-- src/lib.rt:283:30
 place-hits-requires : tie.Need-place-hits-requires
 place-hits-requires c κs =
     let t = c .before .before .before in
-    let g = t .before .before .before in
-    let start = g .before .before .before .before in
+    let g = t .before .before .before .before in
+    let start = g .before .before .before .before .before in
     (start .pre, list-kept _ _ _ _ _ _ (sym (ap counted (t .t .given .1)) ∙ g .gather .ensures .0) _ _ (g .gather .ensures .1))
 
+-- src/lib.rt:284:26
 enum-known-t-2 : tie.Need-enum-known-t-2
 enum-known-t-2 c = search needs
 
+-- src/lib.rt:267:1
 same-length : tie.Need-same-length
 same-length c = search needs
 
+-- src/lib.rt:267:1
+same-length-2 : tie.Need-same-length-2
+same-length-2 c = search needs
+
+-- src/lib.rt:267:1
 returns : tie.Need-returns
 returns c =
     let w = c .before .before in
     let t = w .before .before .before .before in
-    let g = t .before .before .before in
-    let start = g .before .before .before .before in
+    let g = t .before .before .before .before in
+    let start = g .before .before .before .before .before in
     let e = list-is _ _ _ _ _ _ (sym (ap counted (t .t .given .1)) ∙ g .gather .ensures .0) _ in
     (w .place-hits .ensures .0 ∙ ap howMany e, w .place-hits .ensures .1 ∙ ap (filled (start .args .out .now)) e)
 
+-- src/lib.rt:267:1
+same-length-3 : tie.Need-same-length-3
+same-length-3 c = search needs
+
+-- src/lib.rt:267:1
 returns-2 : tie.Need-returns-2
 returns-2 c =
-    let g = c .before .before .before .before in
-    let start = g .before .before .before .before in
+    let g = c .before .before .before .before .before in
+    let start = g .before .before .before .before .before in
     let e = list-no _ _ _ _ _ _ _ (sym (ap counted (c .before .t2 .given .1)) ∙ g .gather .ensures .0) in
     (ap howMany e, ap (filled (start .args .out .now)) e)
 
-pub list-in-spec : {M : Type 1} → statement M
-list-in-spec =
+pub list-with-spec : {M : Type 1} → statement M
+list-with-spec =
     tie.close
     (tie.spec
-    slice-aggregate-gather
     gather-requires
     enum-known-t
-    slice-aggregate-place-hits
     place-hits-requires
     enum-known-t-2
     same-length
+    same-length-2
     returns
+    same-length-3
     returns-2)
