@@ -3,24 +3,16 @@
 use mathlib.Core.Path.{sym, ap, _∙_}
 use Rattle.reader_lookup.specs.Asking.{counted, howMany, filled}
 use Rattle.reader_lookup.proofs.Placed.{list-no, list-is, list-kept}
-use native.Mathlib.Omega.{arith}
 use borrow.Author.Needs.{needs}
 use Rattle.reader_lookup.proofs.list_with.Statement.{statement}
 use Rattle.reader_lookup.proofs.list_with.Tie as tie
-use Rattle.reader_lookup.proofs.list_with.Reads as reads
-use Rattle.reader_lookup.proofs.list_with.Lts as lts
-use Rattle.reader_lookup.proofs.gather.Reads as gather-reads
-use Rattle.reader_lookup.proofs.place_hits.Reads as place-hits-reads
 
--- src/lib.rt:281:9
 gather-requires : tie.Need-gather-requires
 gather-requires c κs = c .before .before .before .before .pre
 
--- src/lib.rt:283:24
 enum-known-t : tie.Need-enum-known-t
 enum-known-t c = search needs
 
--- src/lib.rt:283:30
 place-hits-requires : tie.Need-place-hits-requires
 place-hits-requires c κs =
     let t = c .before .before .before in
@@ -28,19 +20,15 @@ place-hits-requires c κs =
     let start = g .before .before .before .before .before in
     (start .pre, list-kept _ _ _ _ _ _ (sym (ap counted (t .t .given .1)) ∙ g .gather .ensures .0) _ _ (g .gather .ensures .1))
 
--- src/lib.rt:284:26
 enum-known-t-2 : tie.Need-enum-known-t-2
 enum-known-t-2 c = search needs
 
--- src/lib.rt:267:1
 same-length : tie.Need-same-length
 same-length c = search needs
 
--- src/lib.rt:267:1
 same-length-2 : tie.Need-same-length-2
 same-length-2 c = search needs
 
--- src/lib.rt:267:1
 returns : tie.Need-returns
 returns c =
     let w = c .before .before in
@@ -50,11 +38,9 @@ returns c =
     let e = list-is _ _ _ _ _ _ (sym (ap counted (t .t .given .1)) ∙ g .gather .ensures .0) _ in
     (w .place-hits .ensures .0 ∙ ap howMany e, w .place-hits .ensures .1 ∙ ap (filled (start .args .out .now)) e)
 
--- src/lib.rt:267:1
 same-length-3 : tie.Need-same-length-3
 same-length-3 c = search needs
 
--- src/lib.rt:267:1
 returns-2 : tie.Need-returns-2
 returns-2 c =
     let g = c .before .before .before .before .before in
