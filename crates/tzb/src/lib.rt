@@ -4,6 +4,7 @@ ghost use Rattle.reader_opened.specs.Opened.{openedOf};
 ghost use Rattle.tzb.specs.Opening.{tableCheck, sizesCheck, namesIn, gridIn, contentsCheck, openOf, told, Placed};
 use answer::Checked;
 use answer::Refusal;
+pub use reader_chunks::decode_chunk_points;
 pub use reader_grid::candidate_at;
 pub use reader_grid::candidates;
 pub use reader_names::name;
@@ -17,6 +18,7 @@ pub use reader_records::op_at;
 pub use reader_records::poly_at;
 pub use reader_records::ring_at;
 pub use reader_records::tz_at;
+pub use reader_rings::contains;
 
 pub enum Opening {
     Done(Opened),

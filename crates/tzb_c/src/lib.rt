@@ -7,8 +7,11 @@ ghost use mathlib.Core.List.{[]};
 ghost use Rattle.tzb_core.specs.Box.{contains, relevant};
 ghost use Rattle.tzb_core.specs.Ray.{rayOf, parityOf};
 ghost use Rattle.tzb_core.specs.Varint.{numberAt};
-ghost use Rattle.tzb_c.specs.Asked.{nameTold, choiceTold, candidateTold, openInto, keptIn, zonesAsked, nameAsked, choiceAsked, candidateAsked, openCode, numberCode, startCode, endCode, kindCode, listedOf};
-ghost use Rattle.tzb_c.specs.Exports.{bitOf, refusalCode, numberOf, lengthFrom, boxOf, pointOf, placeOf, seenCode};
+ghost use Rattle.tzb_core.specs.Points.{point};
+ghost use Rattle.tzb_core.specs.Decode.{filled};
+ghost use Rattle.tzb_asked.specs.Asked.{verdictTold, zonesAsked, nameAsked, choiceAsked, candidateAsked, containsAsked, decodeAsked, howMany};
+ghost use Rattle.tzb_c.specs.Opens.{openInto, keptIn, openCode};
+ghost use Rattle.tzb_c.specs.Exports.{bitOf, refusalCode, numberCode, startCode, endCode, kindCode, listedOf, insideCode, numberOf, lengthFrom, boxOf, pointOf, placeOf, seenCode};
 use answer::Checked;
 use answer::Refusal;
 use plane::I32Point;
@@ -17,7 +20,9 @@ use plane::Seen;
 use reader_grid::Candidate;
 use reader_grid::Choice;
 use reader_names::Bounds;
+use reader_rings::Verdict;
 use tzb::Opening;
+use tzb_asked::Count;
 use tzb_core::bbox::BBox;
 use tzb_core::varint::Place;
 use tzb_core::varint::Read;
@@ -77,22 +82,12 @@ pub extern "C" fn tzb_zone_count(record: &[u8]) -> i64
     }
 }
 
-fn name_of(record: &[u8], file: &[u8], zone: u32) -> Bounds
-    ensures { λ r. ⌜ nameTold r ≡ nameAsked (now («record» .entry)) (now (file .entry)) zone ⌝ }
-{
-    let a = tzb_record::read_record(record);
-    match a {
-        RecordRead::Refused(k) => Bounds::Refused(k),
-        RecordRead::Is(o) => reader_names::name_bounds(file, o.names.off, o.zones.count, zone),
-    }
-}
-
 // Where a zone's name starts in the file, or -1000 - n for refusal n.
 #[no_mangle]
 pub extern "C" fn tzb_name_start(record: &[u8], file: &[u8], zone: u32) -> i64
     ensures { λ r. ⌜ r ≡ startCode (nameAsked (now («record» .entry)) (now (file .entry)) zone) ⌝ }
 {
-    let a = name_of(record, file, zone);
+    let a = tzb_asked::name_bounds(record, file, zone);
     match a {
         Bounds::Refused(k) => refusal_code64(k),
         Bounds::At(from, _) => from as i64,
@@ -104,20 +99,10 @@ pub extern "C" fn tzb_name_start(record: &[u8], file: &[u8], zone: u32) -> i64
 pub extern "C" fn tzb_name_end(record: &[u8], file: &[u8], zone: u32) -> i64
     ensures { λ r. ⌜ r ≡ endCode (nameAsked (now («record» .entry)) (now (file .entry)) zone) ⌝ }
 {
-    let a = name_of(record, file, zone);
+    let a = tzb_asked::name_bounds(record, file, zone);
     match a {
         Bounds::Refused(k) => refusal_code64(k),
         Bounds::At(_, to) => to as i64,
-    }
-}
-
-fn choice_of(record: &[u8], file: &[u8], lng: f64, lat: f64) -> Choice
-    ensures { λ r. ⌜ choiceTold r ≡ choiceAsked (now («record» .entry)) (now (file .entry)) lng lat ⌝ }
-{
-    let a = tzb_record::read_record(record);
-    match a {
-        RecordRead::Refused(k) => Choice::Refused(k),
-        RecordRead::Is(o) => reader_grid::candidates(o, file, lng, lat),
     }
 }
 
@@ -132,7 +117,7 @@ fn wide(x: u32) -> u64
 pub extern "C" fn tzb_choice(record: &[u8], file: &[u8], lng: f64, lat: f64) -> i32
     ensures { λ r. ⌜ r ≡ kindCode (choiceAsked (now («record» .entry)) (now (file .entry)) lng lat) ⌝ }
 {
-    let a = choice_of(record, file, lng, lat);
+    let a = tzb_asked::candidates(record, file, lng, lat);
     match a {
         Choice::None => 0,
         Choice::All(_) => 1,
@@ -146,7 +131,7 @@ pub extern "C" fn tzb_choice(record: &[u8], file: &[u8], lng: f64, lat: f64) -> 
 pub extern "C" fn tzb_listed(record: &[u8], file: &[u8], lng: f64, lat: f64) -> u64
     ensures { λ r. ⌜ r ≡ listedOf (choiceAsked (now («record» .entry)) (now (file .entry)) lng lat) ⌝ }
 {
-    let a = choice_of(record, file, lng, lat);
+    let a = tzb_asked::candidates(record, file, lng, lat);
     match a {
         Choice::None => 0,
         Choice::All(n) => wide(n),
@@ -155,25 +140,45 @@ pub extern "C" fn tzb_listed(record: &[u8], file: &[u8], lng: f64, lat: f64) -> 
     }
 }
 
-fn candidate_of(record: &[u8], file: &[u8], place: u32) -> Candidate
-    ensures { λ r. ⌜ candidateTold r ≡ candidateAsked (now («record» .entry)) (now (file .entry)) place ⌝ }
-{
-    let a = tzb_record::read_record(record);
-    match a {
-        RecordRead::Refused(k) => Candidate::Refused(k),
-        RecordRead::Is(o) => reader_grid::candidate_at(o, file, place),
-    }
-}
-
 // The zone at a place of the candidate list, or -1000 - n for refusal n.
 #[no_mangle]
 pub extern "C" fn tzb_candidate(record: &[u8], file: &[u8], place: u32) -> i64
     ensures { λ r. ⌜ r ≡ numberCode (candidateAsked (now («record» .entry)) (now (file .entry)) place) ⌝ }
 {
-    let a = candidate_of(record, file, place);
+    let a = tzb_asked::candidate_at(record, file, place);
     match a {
         Candidate::Refused(k) => refusal_code64(k),
         Candidate::Zone(z) => z as i64,
+    }
+}
+
+fn inside_code(v: Verdict) -> i32
+    ensures { λ r. ⌜ r ≡ insideCode (verdictTold v) ⌝ }
+{
+    match v {
+        Verdict::Refused(k) => refusal_code(k),
+        Verdict::Is(inside) => { if inside { 1 } else { 0 } }
+    }
+}
+
+// Whether a zone contains a point of whole numbers, in hundred-thousandths of a degree: 1, 0, or -1000 - n for refusal n.
+#[no_mangle]
+pub extern "C" fn tzb_contains(record: &[u8], file: &[u8], zone: u32, x: i32, y: i32) -> i32
+    ensures { λ r. ⌜ r ≡ insideCode (containsAsked (now («record» .entry)) (now (file .entry)) zone (point x y)) ⌝ }
+{
+    inside_code(tzb_asked::contains(record, file, zone, x, y))
+}
+
+// The points of a chunk into lent numbers, two a point: how many points, or -1000 - n for refusal n, and then nothing is written.
+#[no_mangle]
+pub extern "C" fn tzb_decode(record: &[u8], file: &[u8], chunk: u32, out: &mut [i32]) -> i64
+    ensures { λ r. ⌜ r ≡ numberCode (howMany (decodeAsked (now («record» .entry)) (now (file .entry)) chunk (now (out .entry)))) ⌝ }
+    ensures memory { λ r. ⌜ now (out .exit) ≡ filled (now (out .entry)) (decodeAsked (now («record» .entry)) (now (file .entry)) chunk (now (out .entry))) ⌝ }
+{
+    let a = tzb_asked::decode(record, file, chunk, out);
+    match a {
+        Count::Refused(k) => refusal_code64(k),
+        Count::Is(n) => n as i64,
     }
 }
 
