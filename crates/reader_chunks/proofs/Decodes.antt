@@ -2,8 +2,8 @@
 -- Assumes nothing.
 use Prim.Native.Nat.{ℕ, _*_, _≤_, _<_}
 use native.Mathlib.Omega.{arith}
-use mathlib.Core.Path.{_≡_, refl, sym, ap, _∙_}
-use mathlib.Core.Bool.{true, false}
+use mathlib.Core.Path.{_≡_, sym, ap}
+use mathlib.Core.Bool.{true}
 use mathlib.Core.List.{List, [], _∷_, _++_}
 use lib.ListN.{length, drop}
 use lib.Dec.{ltb, leb}
@@ -11,7 +11,7 @@ use lib.IntN.{ℤ}
 use borrow.Author.Tests.{le-leb, lt-leb}
 use Rattle.plane.specs.declared.I32Point.{I32Point}
 use Rattle.answer.specs.declared.Checked.the-variants.{Fine}
-use Rattle.answer.specs.Answers.{Answer, ok, no, _then_, need}
+use Rattle.answer.specs.Answers.{ok, no, _then_, need}
 use Rattle.tzb_core.specs.Decode.{pointsOf, flat, filled}
 use Rattle.tzb_core.proofs.Decoded.{then-inv, need-inv, outcome-fine}
 use Rattle.tzb_core.proofs.Neighbours.{count-list, never-empty}

@@ -21,8 +21,6 @@ use Rattle.reader_records.specs.Records.{chunkAt}
 use Rattle.reader_chunks.specs.Chunks.{startOf, endOf, firstIn, scanIn}
 use Rattle.reader_groups.specs.declared.Went.{Went}
 use Rattle.reader_groups.specs.declared.Went.the-variants as W
-use Rattle.reader_groups.specs.declared.Known.{Known}
-use Rattle.reader_groups.specs.declared.Known.the-variants as K
 use Rattle.reader_groups.specs.declared.Joined.{Joined}
 use Rattle.reader_groups.specs.declared.Joined.the-variants as J
 use Rattle.reader_groups.specs.declared.Pass.{Pass}

@@ -1,14 +1,14 @@
 -- The code remembers a chunk's first point where it was read as the end of the chunk before. What is known is what reading would give.
 -- Assumes nothing.
 use Prim.Native.Nat.{ℕ, _+_}
-use mathlib.Core.Path.{_≡_, refl, ap, _∙_}
+use mathlib.Core.Path.{_≡_}
 use mathlib.Core.List.{List}
 use Rattle.plane.specs.declared.I32Point.{I32Point}
 use Rattle.answer.specs.Answers.{Answer, ok, _then_}
 use Rattle.reader_opened.specs.declared.Opened.{Opened}
 use Rattle.reader_records.specs.declared.ChunkRecord.{ChunkRecord}
 use Rattle.reader_chunks.specs.Chunks.{startOf, endOf, firstIn}
-use Rattle.reader_groups.specs.Groups.{One, nextFirst}
+use Rattle.reader_groups.specs.Groups.{One}
 use Rattle.reader_groups.specs.declared.Known.{Known}
 use Rattle.reader_groups.specs.declared.Known.the-variants as K
 use Rattle.reader_groups.specs.declared.Joined.{Joined}

@@ -2,7 +2,7 @@
 -- Assumes nothing.
 use mathlib.Core.Path.{_≡_, refl, sym, ap, _∙_}
 use mathlib.Core.Bool.{true, false}
-use Prim.Native.Nat.{_+_, _-_, _<_}
+use Prim.Native.Nat.{_+_, _<_}
 use Rattle.reader_rings.specs.Rings.{judged}
 use Rattle.reader_rings.specs.Zones.{polyOf, seek, seek-no, seek-yes, seek-on, seek-end}
 use native.Mathlib.Omega.{arith}

@@ -1,0 +1,8 @@
+-- Laws of the two questions.
+pub mod Listed
+pub mod Named
+pub mod Gathered
+pub mod Copied
+pub mod Placed
+pub mod Meaning
+pub mod Determined

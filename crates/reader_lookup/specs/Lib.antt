@@ -1,0 +1,3 @@
+-- The two questions for a position.
+pub mod Asking
+pub mod Gather

@@ -1,0 +1,6 @@
+-- Laws of the order of names, and what the sort gives.
+pub mod Bytes
+pub mod Sorted
+pub mod Only
+pub mod Shift
+pub mod Determined

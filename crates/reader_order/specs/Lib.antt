@@ -1,0 +1,2 @@
+-- Zones in the order of their names.
+pub mod Order
