@@ -43,6 +43,7 @@ pub record Holds (o : Opened) (s : List ℕ) (i : ℕ) : Type 0 where
   pub bytes : List ℕ
   pub spans : ok bytes ≡ span s (startOf o found) end
   pub decodes : ok (chunkShape o s i .first ∷ chunkShape o s i .rest) ≡ pointsOf bytes (found .count)
+  pub points : ok (chunkShape o s i .first ∷ chunkShape o s i .rest) ≡ chunkPoints o s i
 
 -- the shape is made of the record and the points
 pub shape-is : (o : Opened) (s : List ℕ) (i : ℕ) (l : List I32Point) (v : ChunkRecord) → ok l ≡ chunkPoints o s i → ok v ≡ chunkAt o s i → chunkShape o s i ≡ chunkOf (v .bbox) l
@@ -72,6 +73,7 @@ holds o s i g =
           bytes = b;
           spans = n;
           decodes = ap (λ (c : Chunk). ok (c .first ∷ c .rest)) shape ∙ d;
+          points = ap (λ (c : Chunk). ok (c .first ∷ c .rest)) shape ∙ p;
         }
 
 -- the segments between the points of a chunk, and its last point

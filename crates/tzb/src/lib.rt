@@ -1,6 +1,7 @@
 // The reader. Opening answers an opened record, by value; every question takes it beside the file's bytes.
 ghost use mathlib.Core.Path.{_≡_};
 ghost use Rattle.reader_opened.specs.Opened.{openedOf};
+ghost use Rattle.tzb.specs.FullCheck.{fullCheckOf, checkTold};
 ghost use Rattle.tzb.specs.Opening.{tableCheck, sizesCheck, namesIn, gridIn, contentsCheck, openOf, told, Placed};
 use answer::Checked;
 use answer::Refusal;
@@ -124,4 +125,28 @@ pub fn open(file: &[u8]) -> Opening
         return Opening::Refused(k);
     }
     Opening::Done(o)
+}
+
+// What the full check says: accepted; opening's refusal; or 47 with the lowest broken rule, 2 to 6.
+pub enum FullCheck {
+    Accepted,
+    Refused(Refusal),
+    Broken(Refusal, u32),
+}
+
+// Looks at everything in the file once. Of a file that it accepts no question is refused.
+pub fn full_check(s: &[u8]) -> FullCheck
+    ensures { λ r. ⌜ checkTold r ≡ fullCheckOf (now (s .entry)) ⌝ }
+{
+    let a = open(s);
+    match a {
+        Opening::Refused(k) => FullCheck::Refused(k),
+        Opening::Done(o) => {
+            let n = reader_check::broken_rule(o, s);
+            if n == 0 {
+                return FullCheck::Accepted;
+            }
+            FullCheck::Broken(answer::refuse(47), n)
+        }
+    }
 }

@@ -1,0 +1,3 @@
+-- The words of demand 3.
+pub mod Accepted
+pub mod Words

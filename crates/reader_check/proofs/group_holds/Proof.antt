@@ -1,0 +1,33 @@
+-- `reader_check::group_holds` meets its contract: the group, then its boxes and ends.
+-- Assumes nothing.
+use mathlib.Core.Path.{sym, ap, _∙_}
+use Rattle.reader_records.specs.Records.{toldGroup}
+use Rattle.reader_cover.specs.Holds.{holds-no, holds-ok}
+use borrow.Author.Needs.{needs}
+use Rattle.reader_check.proofs.group_holds.Statement.{statement}
+use Rattle.reader_check.proofs.group_holds.Tie as tie
+
+group-at-requires : tie.Need-group-at-requires
+group-at-requires c κs = search needs
+
+enum-told : tie.Need-enum-told
+enum-told c = search needs
+
+enum-known-t : tie.Need-enum-known-t
+enum-known-t c = search needs
+
+group-covers-requires : tie.Need-group-covers-requires
+group-covers-requires c κs = search needs
+
+returns : tie.Need-returns
+returns c = holds-no _ _ _ (sym (ap toldGroup (c .enum-told .given .1)) ∙ c .before .before .group-at .ensures)
+
+returns-2 : tie.Need-returns-2
+returns-2 c =
+    let t = c .before .before in
+    holds-ok _ _ _ (sym (ap toldGroup (t .t .given .1)) ∙ t .before .before .group-at .ensures) _ (c .group-covers .ensures)
+
+pub group-holds-spec : {M : Type 1} → statement M
+group-holds-spec =
+    tie.close
+    (tie.spec group-at-requires enum-told enum-known-t group-covers-requires returns returns-2)

@@ -1,0 +1,41 @@
+-- `reader_check::ring_holds` meets its contract: the ring, then the boxes of its groups.
+-- Assumes nothing.
+use mathlib.Core.Path.{sym, ap, _∙_}
+use Rattle.reader_records.specs.Records.{toldRing}
+use Rattle.reader_cover.specs.Holds.{holds-no, holds-ok}
+use Rattle.reader_cover.specs.Cover.{ringCovers}
+use borrow.Author.Needs.{needs}
+use Rattle.reader_check.proofs.ring_holds.Statement.{statement}
+use Rattle.reader_check.proofs.ring_holds.Tie as tie
+
+ring-at-requires : tie.Need-ring-at-requires
+ring-at-requires c κs = search needs
+
+enum-told : tie.Need-enum-told
+enum-told c = search needs
+
+enum-known-t : tie.Need-enum-known-t
+enum-known-t c = search needs
+
+parts-fit-requires : tie.Need-parts-fit-requires
+parts-fit-requires c κs = search needs
+
+returns : tie.Need-returns
+returns c = holds-no _ _ _ (sym (ap toldRing (c .enum-told .given .1)) ∙ c .before .before .ring-at .ensures)
+
+returns-2 : tie.Need-returns-2
+unfolding ringCovers
+returns-2 c =
+    let t = c .before .before .before in
+    holds-ok _ _ _ (sym (ap toldRing (t .t .given .1)) ∙ t .before .before .ring-at .ensures) _ (c .parts-fit .ensures)
+
+pub ring-holds-spec : {M : Type 1} → statement M
+ring-holds-spec =
+    tie.close
+    (tie.spec
+    ring-at-requires
+    enum-told
+    enum-known-t
+    parts-fit-requires
+    returns
+    returns-2)

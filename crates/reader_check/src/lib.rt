@@ -1,0 +1,248 @@
+// The full check after opening: F2 to F6, rule by rule, over every record of every directory.
+ghost use mathlib.Core.Path.{_≡_};
+ghost use Rattle.reader_records.specs.Records.{zoneAt, polyAt, ringAt, opAt, groupAt};
+ghost use Rattle.reader_chunks.specs.Chunks.{chunkPoints};
+ghost use Rattle.reader_cover.specs.Holds.{holds, answered, all};
+ghost use Rattle.reader_cover.specs.Cover.{pointsAdd, chunkCovers, jointsCover, groupCovers, ringCovers, polyCovers, zoneCovers};
+ghost use Rattle.reader_check.specs.FullCheck.{demanded, recordsHold, chunksDecode, chunkBoxesCover, groupsCover, boxesCover, lowestBroken};
+use reader_cover::Part;
+use reader_cover::Traced;
+use reader_opened::Opened;
+use reader_records::GroupAt;
+use reader_records::ListAt;
+use reader_records::OpAt;
+use reader_records::RingAt;
+
+// What is asked of each record of a directory.
+enum Demand {
+    // F2: a zone, a polygon, an op meets its rule; a ring does, and its points add.
+    Zone,
+    Polygon,
+    Op,
+    Ring,
+    // F3: a chunk decodes.
+    Decode,
+    // F4: a chunk's box covers its points; within a group, the next chunk's first.
+    Chunk,
+    Joints,
+    // F5: a group's box covers its chunks', and its ends are its first and last point.
+    Group,
+    // F6: the box covers those below it.
+    RingBox,
+    PolygonBox,
+    ZoneBox,
+}
+
+fn zone_there(o: Opened, s: &[u8], index: usize) -> bool
+    ensures { λ r. ⌜ r ≡ answered (zoneAt o (now (s .entry)) index) ⌝ }
+{
+    let t = reader_records::tz_at(o, s, index);
+    match t {
+        ListAt::Refused(_) => false,
+        ListAt::At(_) => true,
+    }
+}
+
+fn poly_there(o: Opened, s: &[u8], index: usize) -> bool
+    ensures { λ r. ⌜ r ≡ answered (polyAt o (now (s .entry)) index) ⌝ }
+{
+    let t = reader_records::poly_at(o, s, index);
+    match t {
+        ListAt::Refused(_) => false,
+        ListAt::At(_) => true,
+    }
+}
+
+fn op_there(o: Opened, s: &[u8], index: usize) -> bool
+    ensures { λ r. ⌜ r ≡ answered (opAt o (now (s .entry)) index) ⌝ }
+{
+    let t = reader_records::op_at(o, s, index);
+    match t {
+        OpAt::Refused(_) => false,
+        OpAt::At(_) => true,
+    }
+}
+
+fn ring_adds(o: Opened, s: &[u8], index: usize) -> bool
+    ensures { λ r. ⌜ r ≡ holds (pointsAdd o (now (s .entry))) (ringAt o (now (s .entry)) index) ⌝ }
+{
+    let t = reader_records::ring_at(o, s, index);
+    match t {
+        RingAt::Refused(_) => false,
+        RingAt::At(v) => reader_cover::points_add(o, s, v),
+    }
+}
+
+fn chunk_decodes(o: Opened, s: &[u8], index: usize) -> bool
+    ensures { λ r. ⌜ r ≡ answered (chunkPoints o (now (s .entry)) index) ⌝ }
+{
+    let t = reader_cover::trace_at(o, s, index);
+    match t {
+        Traced::Refused(_) => false,
+        Traced::Points(_, _) => true,
+    }
+}
+
+fn chunk_covers(o: Opened, s: &[u8], index: usize) -> bool
+    ensures { λ r. ⌜ r ≡ chunkCovers o (now (s .entry)) index ⌝ }
+{
+    let t = reader_cover::trace_at(o, s, index);
+    match t {
+        Traced::Refused(_) => false,
+        Traced::Points(inside, _) => inside,
+    }
+}
+
+fn group_joined(o: Opened, s: &[u8], index: usize) -> bool
+    ensures { λ r. ⌜ r ≡ holds (jointsCover o (now (s .entry))) (groupAt o (now (s .entry)) index) ⌝ }
+{
+    let t = reader_records::group_at(o, s, index);
+    match t {
+        GroupAt::Refused(_) => false,
+        GroupAt::At(v) => reader_cover::joints_cover(o, s, v),
+    }
+}
+
+fn group_holds(o: Opened, s: &[u8], index: usize) -> bool
+    ensures { λ r. ⌜ r ≡ holds (groupCovers o (now (s .entry))) (groupAt o (now (s .entry)) index) ⌝ }
+{
+    let t = reader_records::group_at(o, s, index);
+    match t {
+        GroupAt::Refused(_) => false,
+        GroupAt::At(v) => reader_cover::group_covers(o, s, v),
+    }
+}
+
+fn ring_holds(o: Opened, s: &[u8], index: usize) -> bool
+    ensures { λ r. ⌜ r ≡ holds (ringCovers o (now (s .entry))) (ringAt o (now (s .entry)) index) ⌝ }
+{
+    let t = reader_records::ring_at(o, s, index);
+    match t {
+        RingAt::Refused(_) => false,
+        RingAt::At(v) => {
+            let b = v.bbox;
+            reader_cover::parts_fit(o, s, Part::Group(b), v.first, v.count)
+        }
+    }
+}
+
+fn poly_holds(o: Opened, s: &[u8], index: usize) -> bool
+    ensures { λ r. ⌜ r ≡ holds (polyCovers o (now (s .entry))) (polyAt o (now (s .entry)) index) ⌝ }
+{
+    let t = reader_records::poly_at(o, s, index);
+    match t {
+        ListAt::Refused(_) => false,
+        ListAt::At(v) => {
+            let b = v.bbox;
+            reader_cover::parts_fit(o, s, Part::Ring(b), v.first, v.count)
+        }
+    }
+}
+
+fn zone_holds(o: Opened, s: &[u8], index: usize) -> bool
+    ensures { λ r. ⌜ r ≡ holds (zoneCovers o (now (s .entry))) (zoneAt o (now (s .entry)) index) ⌝ }
+{
+    let t = reader_records::tz_at(o, s, index);
+    match t {
+        ListAt::Refused(_) => false,
+        ListAt::At(v) => {
+            let b = v.bbox;
+            reader_cover::parts_fit(o, s, Part::Polygon(b), v.first, v.count)
+        }
+    }
+}
+
+fn is_met(o: Opened, s: &[u8], demand: Demand, index: usize) -> bool
+    ensures { λ r. ⌜ r ≡ demanded o (now (s .entry)) demand index ⌝ }
+{
+    match demand {
+        Demand::Zone => zone_there(o, s, index),
+        Demand::Polygon => poly_there(o, s, index),
+        Demand::Op => op_there(o, s, index),
+        Demand::Ring => ring_adds(o, s, index),
+        Demand::Decode => chunk_decodes(o, s, index),
+        Demand::Chunk => chunk_covers(o, s, index),
+        Demand::Joints => group_joined(o, s, index),
+        Demand::Group => group_holds(o, s, index),
+        Demand::RingBox => ring_holds(o, s, index),
+        Demand::PolygonBox => poly_holds(o, s, index),
+        Demand::ZoneBox => zone_holds(o, s, index),
+    }
+}
+
+// Every record of a directory.
+fn all_meet(o: Opened, s: &[u8], demand: Demand, count: u32) -> bool
+    ensures { λ r. ⌜ r ≡ all (demanded o (now (s .entry)) demand) count 0 ⌝ }
+{
+    let n = reader_head::wide(count);
+    let mut i = 0;
+    while i < n {
+        if !is_met(o, s, demand, i) {
+            return false;
+        }
+        i += 1;
+    }
+    true
+}
+
+// F2.
+fn records_hold(o: Opened, s: &[u8]) -> bool
+    ensures { λ r. ⌜ r ≡ recordsHold o (now (s .entry)) ⌝ }
+{
+    all_meet(o, s, Demand::Zone, o.zones.count)
+        & all_meet(o, s, Demand::Polygon, o.polys.count)
+        & all_meet(o, s, Demand::Op, o.ops.count)
+        & all_meet(o, s, Demand::Ring, o.rings.count)
+}
+
+// F3.
+fn chunks_decode(o: Opened, s: &[u8]) -> bool
+    ensures { λ r. ⌜ r ≡ chunksDecode o (now (s .entry)) ⌝ }
+{
+    all_meet(o, s, Demand::Decode, o.chunks.count)
+}
+
+// F4.
+fn chunk_boxes_cover(o: Opened, s: &[u8]) -> bool
+    ensures { λ r. ⌜ r ≡ chunkBoxesCover o (now (s .entry)) ⌝ }
+{
+    all_meet(o, s, Demand::Chunk, o.chunks.count) & all_meet(o, s, Demand::Joints, o.groups.count)
+}
+
+// F5.
+fn groups_cover(o: Opened, s: &[u8]) -> bool
+    ensures { λ r. ⌜ r ≡ groupsCover o (now (s .entry)) ⌝ }
+{
+    all_meet(o, s, Demand::Group, o.groups.count)
+}
+
+// F6.
+fn boxes_cover(o: Opened, s: &[u8]) -> bool
+    ensures { λ r. ⌜ r ≡ boxesCover o (now (s .entry)) ⌝ }
+{
+    all_meet(o, s, Demand::RingBox, o.rings.count)
+        & all_meet(o, s, Demand::PolygonBox, o.polys.count)
+        & all_meet(o, s, Demand::ZoneBox, o.zones.count)
+}
+
+// The lowest broken rule, 2 to 6; 0 where none is.
+pub fn broken_rule(o: Opened, s: &[u8]) -> u32
+    ensures { λ r. ⌜ r ≡ lowestBroken o (now (s .entry)) ⌝ }
+{
+    if !records_hold(o, s) {
+        return 2;
+    }
+    if !chunks_decode(o, s) {
+        return 3;
+    }
+    if !chunk_boxes_cover(o, s) {
+        return 4;
+    }
+    if !groups_cover(o, s) {
+        return 5;
+    }
+    if !boxes_cover(o, s) {
+        return 6;
+    }
+    0
+}

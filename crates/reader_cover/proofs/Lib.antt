@@ -1,0 +1,4 @@
+-- What the proofs of the functions lean on, and that answers are determined.
+pub mod Sums
+pub mod Traces
+pub mod Determined

@@ -1,0 +1,33 @@
+-- `reader_cover::next_in_box` meets its contract: the point, then the box.
+-- Assumes nothing.
+use mathlib.Core.Path.{sym, ap, _∙_}
+use Rattle.reader_chunks.specs.Chunks.{toldPoint}
+use Rattle.reader_cover.specs.Holds.{holds-no, holds-ok}
+use borrow.Author.Needs.{needs}
+use Rattle.reader_cover.proofs.next_in_box.Statement.{statement}
+use Rattle.reader_cover.proofs.next_in_box.Tie as tie
+
+first-at-requires : tie.Need-first-at-requires
+first-at-requires c κs = search needs
+
+enum-told : tie.Need-enum-told
+enum-told c = search needs
+
+enum-known-t : tie.Need-enum-known-t
+enum-known-t c = search needs
+
+in-box-requires : tie.Need-in-box-requires
+in-box-requires c κs = search needs
+
+returns : tie.Need-returns
+returns c = holds-no _ _ _ (sym (ap toldPoint (c .enum-told .given .1)) ∙ c .before .before .first-at .ensures)
+
+returns-2 : tie.Need-returns-2
+returns-2 c =
+    let t = c .before .before in
+    holds-ok _ _ _ (sym (ap toldPoint (t .t .given .1)) ∙ t .before .before .first-at .ensures) _ (c .in-box .ensures)
+
+pub next-in-box-spec : {M : Type 1} → statement M
+next-in-box-spec =
+    tie.close
+    (tie.spec first-at-requires enum-told enum-known-t in-box-requires returns returns-2)
