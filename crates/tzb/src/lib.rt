@@ -8,6 +8,8 @@ use answer::Refusal;
 pub use reader_chunks::decode_chunk_points;
 pub use reader_grid::candidate_at;
 pub use reader_grid::candidates;
+pub use reader_lookup::lookup;
+pub use reader_lookup::lookup_into;
 pub use reader_names::name;
 pub use reader_names::name_refusal;
 use reader_opened::Grid;

@@ -7,6 +7,7 @@ use Rattle.answer.specs.Answers.{Answer}
 use Rattle.reader_names.proofs.Determined.{one-bounds}
 use Rattle.reader_grid.proofs.Determined.{one-choice, one-zone}
 use Rattle.reader_rings.proofs.Determined.{one-verdict}
+use Rattle.reader_lookup.proofs.Determined.{one-found, one-listing}
 use Rattle.tzb_asked.specs.Asked.{countTold}
 use Rattle.tzb_asked.specs.declared.Count.{Count}
 use Rattle.tzb_asked.specs.declared.Count.the-variants as C
@@ -15,6 +16,8 @@ use Rattle.tzb_asked.proofs.candidates.Reads as candidates-reads
 use Rattle.tzb_asked.proofs.candidate_at.Reads as candidate-at-reads
 use Rattle.tzb_asked.proofs.contains.Reads as contains-reads
 use Rattle.tzb_asked.proofs.decode.Reads as decode-reads
+use Rattle.tzb_asked.proofs.lookup.Reads as lookup-reads
+use Rattle.tzb_asked.proofs.lookup_into.Reads as lookup-into-reads
 
 pub one-count : (a b : Count) (x : Answer ℕ) → countTold a ≡ x → countTold b ≡ x → a ≡ b
 one-count (C.Is n) (C.Is m) x e f = cc
@@ -40,3 +43,13 @@ decode κ a r r' e e' p q = one-count r r' _ (p .0) (q .0)
 -- the lent numbers at exit
 pub decode-memory : DeterminedMemory decode-reads.Learnt (λ κ e. e .1 .1 .1 .0 .now)
 decode-memory κ a r r' e e' p q = p .1 ∙ sym (q .1)
+
+pub lookup : Determined lookup-reads.Learnt
+lookup κ a r r' e e' p q = one-found r r' _ p q
+
+pub lookup-into : Determined lookup-into-reads.Learnt
+lookup-into κ a r r' e e' p q = one-listing r r' _ (p .0) (q .0)
+
+-- the lent places at exit
+pub lookup-into-memory : DeterminedMemory lookup-into-reads.Learnt (λ κ e. e .1 .1 .1 .1 .0 .now)
+lookup-into-memory κ a r r' e e' p q = p .1 ∙ sym (q .1)

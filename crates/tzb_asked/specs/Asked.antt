@@ -23,6 +23,10 @@ use Rattle.reader_chunks.specs.Chunks.{decodeIn}
 use Rattle.reader_rings.specs.declared.Verdict.{Verdict}
 use Rattle.reader_rings.specs.Rings as R
 use Rattle.reader_rings.specs.Zones.{containsAt}
+use Rattle.reader_lookup.specs.declared.Found.{Found}
+use Rattle.reader_lookup.specs.declared.Listing.{Listing}
+use Rattle.reader_lookup.specs.Asking as L
+use Rattle.reader_lookup.specs.Asking.{Sought, lookupOf, listOf}
 use Rattle.tzb_record.specs.Layout.{recordOf}
 use Rattle.tzb_asked.specs.declared.Count.{Count}
 use Rattle.tzb_asked.specs.declared.Count.the-variants as C
@@ -39,6 +43,12 @@ candidateTold = G.toldZone
 
 abbrev pub verdictTold : Verdict → Answer Bool
 verdictTold = R.judged
+
+abbrev pub foundTold : Found → Answer Sought
+foundTold = L.found
+
+abbrev pub listingTold : Listing → Answer ℕ
+listingTold = L.counted
 
 abbrev pub countTold : Count → Answer ℕ
 countTold (C.Is n) = ok n
@@ -68,6 +78,18 @@ containsAsked b s zone q = recordOf b then λ o. containsAt o s zone q
 -- the points of a chunk, into lent numbers
 unfoldable pub decodeAsked : List ℕ → List ℕ → ℕ → List ℤ → Answer (List I32Point)
 decodeAsked b s chunk out = recordOf b then λ o. decodeIn o s chunk out
+
+-- the zone that a position lies in
+unfoldable pub lookupAsked : List ℕ → List ℕ → Float → Float → Answer Sought
+lookupAsked b s lng lat = recordOf b then λ o. lookupOf o s lng lat
+
+-- all zones that it lies in, in the order of their names, into that many places
+unfoldable pub listAsked : List ℕ → List ℕ → Float → Float → ℕ → Answer (List ℕ)
+listAsked b s lng lat places = recordOf b then λ o. listOf o s lng lat places
+
+-- lent places afterwards
+abbrev pub listed : List ℕ → Answer (List ℕ) → List ℕ
+listed = L.filled
 
 -- how many they are
 unfoldable pub howMany : {A : Type 0} → Answer (List A) → Answer ℕ
@@ -99,6 +121,21 @@ module _ (b s : List ℕ) (chunk : ℕ) (out : List ℤ) where
   pub decode-asked : (o : Opened) → ok o ≡ recordOf b → decodeIn o s chunk out ≡ decodeAsked b s chunk out
   unfolding decodeAsked
   decode-asked o e = rw (← e)
+
+module _ (b s : List ℕ) (lng lat : Float) (places : ℕ) where
+  pub list-barred : (k : Refusal) → refused k ≡ recordOf b → refused k ≡ listAsked b s lng lat places
+  unfolding listAsked
+  list-barred k e = rw (← e)
+
+  pub list-asked : (o : Opened) → ok o ≡ recordOf b → listOf o s lng lat places ≡ listAsked b s lng lat places
+  unfolding listAsked
+  list-asked o e = rw (← e)
+
+-- how many, as the list's own promise has it
+pub many-same : (x : Answer (List ℕ)) → L.howMany x ≡ howMany x
+unfolding howMany
+many-same (ok l) = refl
+many-same (refused k) = refl
 
 module _ {A : Type 0} (x : Answer (List A)) where
   pub many-no : (k : Refusal) → refused k ≡ x → refused k ≡ howMany x

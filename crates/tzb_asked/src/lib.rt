@@ -1,13 +1,16 @@
 // Every question, asked with the opened record as bytes beside the file's bytes. A record that cannot be read is refused first; none is trusted.
 ghost use mathlib.Core.Path.{_≡_};
+ghost use lib.ListN.{length};
 ghost use Rattle.tzb_core.specs.Points.{point};
 ghost use Rattle.tzb_core.specs.Decode.{filled};
 ghost use Rattle.reader_chunks.specs.Chunks.{decodeIn};
-ghost use Rattle.tzb_asked.specs.Asked.{nameTold, choiceTold, candidateTold, verdictTold, countTold, howMany, countAt, nameAsked, choiceAsked, candidateAsked, containsAsked, decodeAsked};
+ghost use Rattle.tzb_asked.specs.Asked.{nameTold, choiceTold, candidateTold, verdictTold, countTold, foundTold, listingTold, listed, howMany, countAt, nameAsked, choiceAsked, candidateAsked, containsAsked, decodeAsked, lookupAsked, listAsked};
 use answer::Checked;
 use answer::Refusal;
 use reader_grid::Candidate;
 use reader_grid::Choice;
+use reader_lookup::Found;
+use reader_lookup::Listing;
 use reader_names::Bounds;
 use reader_opened::Opened;
 use reader_records::ChunkAt;
@@ -97,5 +100,28 @@ pub fn decode(record: &[u8], file: &[u8], chunk: u32, out: &mut [i32]) -> Count
     match a {
         RecordRead::Refused(k) => Count::Refused(k),
         RecordRead::Is(o) => decode_opened(o, file, chunk, out),
+    }
+}
+
+// The zone that a position lies in.
+pub fn lookup(record: &[u8], file: &[u8], lng: f64, lat: f64) -> Found
+    ensures { λ r. ⌜ foundTold r ≡ lookupAsked (now («record» .entry)) (now (file .entry)) lng lat ⌝ }
+{
+    let a = tzb_record::read_record(record);
+    match a {
+        RecordRead::Refused(k) => Found::Refused(k),
+        RecordRead::Is(o) => reader_lookup::lookup(o, file, lng, lat),
+    }
+}
+
+// All zones that a position lies in, in the order of their names, into the first places of `zones`: how many there are. A refusal leaves the lent places as they were, and those behind the zones are never touched.
+pub fn lookup_into(record: &[u8], file: &[u8], lng: f64, lat: f64, zones: &mut [u32]) -> Listing
+    ensures { λ r. ⌜ listingTold r ≡ howMany (listAsked (now («record» .entry)) (now (file .entry)) lng lat (length (now (zones .entry)))) ⌝ }
+    ensures memory { λ r. ⌜ now (zones .exit) ≡ listed (now (zones .entry)) (listAsked (now («record» .entry)) (now (file .entry)) lng lat (length (now (zones .entry)))) ⌝ }
+{
+    let a = tzb_record::read_record(record);
+    match a {
+        RecordRead::Refused(k) => Listing::Refused(k),
+        RecordRead::Is(o) => reader_lookup::lookup_into(o, file, lng, lat, zones),
     }
 }

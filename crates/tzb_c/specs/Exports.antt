@@ -14,6 +14,8 @@ use Rattle.plane.specs.declared.Seen.{Seen}
 use Rattle.plane.specs.declared.Seen.the-variants.{On, Off}
 use Rattle.tzb_core.specs.declared.bbox.BBox.{BBox}
 use Rattle.reader_grid.specs.Asked.{Chosen, none, all, listed}
+use Rattle.reader_lookup.specs.Asking.{Sought, nowhere, inZone}
+use Rattle.reader_check.specs.FullCheck.{Outcome, accepted, refusedBy, brokenAt}
 
 -- yes is 1, no is 0
 abbrev pub bitOf : Bool → ℕ
@@ -58,6 +60,24 @@ abbrev pub insideCode : Answer Bool → ℤ
 insideCode (ok true) = pos 1
 insideCode (ok false) = pos 0
 insideCode (refused k) = refusalCode k
+
+-- a zone, -1 for none
+abbrev pub zoneCode : Answer Sought → ℤ
+zoneCode (ok nowhere) = negsuc 0
+zoneCode (ok (inZone zone)) = pos zone
+zoneCode (refused k) = refusalCode k
+
+-- the full check: 0 accepted; a refusal of opening; 47, whose rule is told apart
+abbrev pub checkCode : Outcome → ℤ
+checkCode accepted = pos 0
+checkCode (refusedBy k) = refusalCode k
+checkCode (brokenAt k rule) = refusalCode k
+
+-- the rule beside 47, else 0
+abbrev pub ruleOf : Outcome → ℕ
+ruleOf accepted = 0
+ruleOf (refusedBy k) = 0
+ruleOf (brokenAt k rule) = rule
 
 -- ---- for comparison runs
 -- a number that was read, or 0 where it is refused

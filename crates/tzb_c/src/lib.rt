@@ -4,14 +4,16 @@ ghost use Rattle.rounding.specs.Upward.{nextUp};
 ghost use Rattle.crc.specs.Crc32.{crc32};
 ghost use Rattle.utf8.specs.Rfc3629.{utf8};
 ghost use mathlib.Core.List.{[]};
+ghost use lib.ListN.{length};
 ghost use Rattle.tzb_core.specs.Box.{contains, relevant};
 ghost use Rattle.tzb_core.specs.Ray.{rayOf, parityOf};
 ghost use Rattle.tzb_core.specs.Varint.{numberAt};
 ghost use Rattle.tzb_core.specs.Points.{point};
 ghost use Rattle.tzb_core.specs.Decode.{filled};
-ghost use Rattle.tzb_asked.specs.Asked.{verdictTold, zonesAsked, nameAsked, choiceAsked, candidateAsked, containsAsked, decodeAsked, howMany};
+ghost use Rattle.tzb.specs.FullCheck.{fullCheckOf, checkTold};
+ghost use Rattle.tzb_asked.specs.Asked.{verdictTold, zonesAsked, nameAsked, choiceAsked, candidateAsked, containsAsked, decodeAsked, lookupAsked, listAsked, listed, howMany};
 ghost use Rattle.tzb_c.specs.Opens.{openInto, keptIn, openCode};
-ghost use Rattle.tzb_c.specs.Exports.{bitOf, refusalCode, numberCode, startCode, endCode, kindCode, listedOf, insideCode, numberOf, lengthFrom, boxOf, pointOf, placeOf, seenCode};
+ghost use Rattle.tzb_c.specs.Exports.{bitOf, refusalCode, numberCode, startCode, endCode, kindCode, listedOf, insideCode, zoneCode, checkCode, ruleOf, numberOf, lengthFrom, boxOf, pointOf, placeOf, seenCode};
 use answer::Checked;
 use answer::Refusal;
 use plane::I32Point;
@@ -19,8 +21,11 @@ use plane::Point;
 use plane::Seen;
 use reader_grid::Candidate;
 use reader_grid::Choice;
+use reader_lookup::Found;
+use reader_lookup::Listing;
 use reader_names::Bounds;
 use reader_rings::Verdict;
+use tzb::FullCheck;
 use tzb::Opening;
 use tzb_asked::Count;
 use tzb_core::bbox::BBox;
@@ -180,6 +185,74 @@ pub extern "C" fn tzb_decode(record: &[u8], file: &[u8], chunk: u32, out: &mut [
         Count::Refused(k) => refusal_code64(k),
         Count::Is(n) => n as i64,
     }
+}
+
+// The zone that a position lies in, in degrees: its number, -1 for none, -1000 - n for refusal n.
+#[no_mangle]
+pub extern "C" fn tzb_ask(record: &[u8], file: &[u8], lng: f64, lat: f64) -> i64
+    ensures { λ r. ⌜ r ≡ zoneCode (lookupAsked (now («record» .entry)) (now (file .entry)) lng lat) ⌝ }
+{
+    let a = tzb_asked::lookup(record, file, lng, lat);
+    match a {
+        Found::None => -1,
+        Found::Zone(zone) => zone as i64,
+        Found::Refused(k) => refusal_code64(k),
+    }
+}
+
+// All zones that a position lies in, in the order of their names, into lent places: how many there are, or -1000 - n for refusal n, and then nothing is written.
+#[no_mangle]
+pub extern "C" fn tzb_ask_all(
+    record: &[u8],
+    file: &[u8],
+    lng: f64,
+    lat: f64,
+    zones: &mut [u32],
+) -> i64
+    ensures { λ r. ⌜ r ≡ numberCode (howMany (listAsked (now («record» .entry)) (now (file .entry)) lng lat (length (now (zones .entry))))) ⌝ }
+    ensures memory { λ r. ⌜ now (zones .exit) ≡ listed (now (zones .entry)) (listAsked (now («record» .entry)) (now (file .entry)) lng lat (length (now (zones .entry)))) ⌝ }
+{
+    let a = tzb_asked::lookup_into(record, file, lng, lat, zones);
+    match a {
+        Listing::Refused(k) => refusal_code64(k),
+        Listing::Zones(n) => n as i64,
+    }
+}
+
+fn check_code(c: FullCheck) -> i32
+    ensures { λ r. ⌜ r ≡ checkCode (checkTold c) ⌝ }
+{
+    match c {
+        FullCheck::Accepted => 0,
+        FullCheck::Refused(k) => refusal_code(k),
+        FullCheck::Broken(k, _) => refusal_code(k),
+    }
+}
+
+fn rule_of(c: FullCheck) -> u32
+    ensures { λ r. ⌜ r ≡ ruleOf (checkTold c) ⌝ }
+{
+    match c {
+        FullCheck::Accepted => 0,
+        FullCheck::Refused(_) => 0,
+        FullCheck::Broken(_, rule) => rule,
+    }
+}
+
+// Looks at everything in the file: 0 where it is accepted, and then no question is refused; -1000 - n for opening's refusal n; -1047 where another rule is broken.
+#[no_mangle]
+pub extern "C" fn tzb_full_check(file: &[u8]) -> i32
+    ensures { λ r. ⌜ r ≡ checkCode (fullCheckOf (now (file .entry))) ⌝ }
+{
+    check_code(tzb::full_check(file))
+}
+
+// The lowest broken rule where the full check says -1047, 2 to 6; else 0.
+#[no_mangle]
+pub extern "C" fn tzb_full_check_rule(file: &[u8]) -> u32
+    ensures { λ r. ⌜ r ≡ ruleOf (fullCheckOf (now (file .entry))) ⌝ }
+{
+    rule_of(tzb::full_check(file))
 }
 
 // ---- for comparison runs
