@@ -13,7 +13,7 @@ use Rattle.reader_grid.proofs.grid.Reads as grid-reads
 use Rattle.reader_grid.proofs.candidates.Reads as candidates-reads
 use Rattle.reader_grid.proofs.candidate_at.Reads as candidate-at-reads
 
-one-choice : (a b : Choice) (x : Answer Chosen) → told a ≡ x → told b ≡ x → a ≡ b
+pub one-choice : (a b : Choice) (x : Answer Chosen) → told a ≡ x → told b ≡ x → a ≡ b
 one-choice C.None C.None x e f = cc
 one-choice C.None (C.All q) x e f = cc
 one-choice C.None (C.Listed q o) x e f = cc
@@ -31,7 +31,7 @@ one-choice (C.Refused k) (C.All q) x e f = cc
 one-choice (C.Refused k) (C.Listed q o) x e f = cc
 one-choice (C.Refused k) (C.Refused l) x e f = cc
 
-one-zone : (a b : Candidate) (x : Answer ℕ) → toldZone a ≡ x → toldZone b ≡ x → a ≡ b
+pub one-zone : (a b : Candidate) (x : Answer ℕ) → toldZone a ≡ x → toldZone b ≡ x → a ≡ b
 one-zone (Z.Zone p) (Z.Zone q) x e f = cc
 one-zone (Z.Zone p) (Z.Refused l) x e f = cc
 one-zone (Z.Refused k) (Z.Zone q) x e f = cc

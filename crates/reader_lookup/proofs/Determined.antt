@@ -12,7 +12,7 @@ use Rattle.reader_lookup.specs.declared.Listing.the-variants as L
 use Rattle.reader_lookup.proofs.lookup.Reads as lookup-reads
 use Rattle.reader_lookup.proofs.lookup_into.Reads as lookup-into-reads
 
-one-found : (a b : Found) (x : Answer Sought) → found a ≡ x → found b ≡ x → a ≡ b
+pub one-found : (a b : Found) (x : Answer Sought) → found a ≡ x → found b ≡ x → a ≡ b
 one-found F.None F.None x e f = cc
 one-found F.None (F.Zone n) x e f = cc
 one-found F.None (F.Refused l) x e f = cc
@@ -23,7 +23,7 @@ one-found (F.Refused k) F.None x e f = cc
 one-found (F.Refused k) (F.Zone n) x e f = cc
 one-found (F.Refused k) (F.Refused l) x e f = cc
 
-one-listing : (a b : Listing) (x : Answer ℕ) → counted a ≡ x → counted b ≡ x → a ≡ b
+pub one-listing : (a b : Listing) (x : Answer ℕ) → counted a ≡ x → counted b ≡ x → a ≡ b
 one-listing (L.Zones m) (L.Zones n) x e f = cc
 one-listing (L.Zones m) (L.Refused l) x e f = cc
 one-listing (L.Refused k) (L.Zones n) x e f = cc

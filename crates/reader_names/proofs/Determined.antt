@@ -27,7 +27,7 @@ name κ a r r' e e' p q = p ∙ sym q
 pub name-refusal : Determined name-refusal-reads.Learnt
 name-refusal κ a r r' e e' p q = p ∙ sym q
 
-one-bounds : (a b : Bounds) (x : Answer (ℕ × ℕ)) → told a ≡ x → told b ≡ x → a ≡ b
+pub one-bounds : (a b : Bounds) (x : Answer (ℕ × ℕ)) → told a ≡ x → told b ≡ x → a ≡ b
 one-bounds (B.At i j) (B.At k l) x e f =
     let t : _≡_ {A = ℕ × ℕ} (i, j) (k, l) = cc in
     ap₂ B.At (ap (λ (u : ℕ × ℕ). u .0) t) (ap (λ (u : ℕ × ℕ). u .1) t)

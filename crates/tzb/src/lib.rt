@@ -5,8 +5,11 @@ ghost use Rattle.tzb.specs.FullCheck.{fullCheckOf, checkTold};
 ghost use Rattle.tzb.specs.Opening.{tableCheck, sizesCheck, namesIn, gridIn, contentsCheck, openOf, told, Placed};
 use answer::Checked;
 use answer::Refusal;
+pub use reader_chunks::decode_chunk_points;
 pub use reader_grid::candidate_at;
 pub use reader_grid::candidates;
+pub use reader_lookup::lookup;
+pub use reader_lookup::lookup_into;
 pub use reader_names::name;
 pub use reader_names::name_refusal;
 use reader_opened::Grid;
@@ -18,6 +21,7 @@ pub use reader_records::op_at;
 pub use reader_records::poly_at;
 pub use reader_records::ring_at;
 pub use reader_records::tz_at;
+pub use reader_rings::contains;
 
 pub enum Opening {
     Done(Opened),

@@ -18,6 +18,12 @@ use Rattle.tzb_c.proofs.tzb_name_end.Reads as name-end-reads
 use Rattle.tzb_c.proofs.tzb_choice.Reads as choice-reads
 use Rattle.tzb_c.proofs.tzb_listed.Reads as listed-reads
 use Rattle.tzb_c.proofs.tzb_candidate.Reads as candidate-reads
+use Rattle.tzb_c.proofs.tzb_contains.Reads as contains-reads
+use Rattle.tzb_c.proofs.tzb_decode.Reads as decode-reads
+use Rattle.tzb_c.proofs.tzb_ask.Reads as ask-reads
+use Rattle.tzb_c.proofs.tzb_ask_all.Reads as ask-all-reads
+use Rattle.tzb_c.proofs.tzb_full_check.Reads as full-check-reads
+use Rattle.tzb_c.proofs.tzb_full_check_rule.Reads as full-check-rule-reads
 
 pub opens : Determined open-reads.Learnt
 opens κ a r r' e e' p q = p .0 ∙ sym (q .0)
@@ -43,6 +49,32 @@ listed κ a r r' e e' p q = p ∙ sym q
 
 pub candidate : Determined candidate-reads.Learnt
 candidate κ a r r' e e' p q = p ∙ sym q
+
+pub contains : Determined contains-reads.Learnt
+contains κ a r r' e e' p q = p ∙ sym q
+
+pub decode : Determined decode-reads.Learnt
+decode κ a r r' e e' p q = p .0 ∙ sym (q .0)
+
+-- the lent numbers at exit
+pub decode-memory : DeterminedMemory decode-reads.Learnt (λ κ e. e .1 .1 .1 .0 .now)
+decode-memory κ a r r' e e' p q = p .1 ∙ sym (q .1)
+
+pub ask : Determined ask-reads.Learnt
+ask κ a r r' e e' p q = p ∙ sym q
+
+pub ask-all : Determined ask-all-reads.Learnt
+ask-all κ a r r' e e' p q = p .0 ∙ sym (q .0)
+
+-- the lent places at exit
+pub ask-all-memory : DeterminedMemory ask-all-reads.Learnt (λ κ e. e .1 .1 .1 .1 .0 .now)
+ask-all-memory κ a r r' e e' p q = p .1 ∙ sym (q .1)
+
+pub full-check : Determined full-check-reads.Learnt
+full-check κ a r r' e e' p q = p ∙ sym q
+
+pub full-check-rule : Determined full-check-rule-reads.Learnt
+full-check-rule κ a r r' e e' p q = p ∙ sym q
 
 pub number : Determined number-reads.Learnt
 number κ a r r' e e' p q = p ∙ sym q

@@ -18,7 +18,8 @@ use Rattle.tzb_record.specs.Layout.{recordOf, roomFor, Held}
 use Rattle.tzb_record.proofs.RoundTrip.{written-back}
 use Rattle.tzb_record.proofs.Widths.{opened-held}
 use Rattle.tzb.specs.Opening.{openOf, openedIs, gridIs, tableCheck, contentsCheck}
-use Rattle.tzb_c.specs.Asked.{openInto, keptIn, nameAsked, kept-is}
+use Rattle.tzb_asked.specs.Asked.{nameAsked}
+use Rattle.tzb_c.specs.Opens.{openInto, keptIn, kept-is}
 
 never : {A : Type 0} {B : Type 0} (a : A) (k : Refusal) → ok a ≡ refused k → B
 never a k e = let no : _≡_ {A = ℕ} 0 1 = cc in absurd (omega arith)

@@ -4,11 +4,16 @@ ghost use Rattle.rounding.specs.Upward.{nextUp};
 ghost use Rattle.crc.specs.Crc32.{crc32};
 ghost use Rattle.utf8.specs.Rfc3629.{utf8};
 ghost use mathlib.Core.List.{[]};
+ghost use lib.ListN.{length};
 ghost use Rattle.tzb_core.specs.Box.{contains, relevant};
 ghost use Rattle.tzb_core.specs.Ray.{rayOf, parityOf};
 ghost use Rattle.tzb_core.specs.Varint.{numberAt};
-ghost use Rattle.tzb_c.specs.Asked.{nameTold, choiceTold, candidateTold, openInto, keptIn, zonesAsked, nameAsked, choiceAsked, candidateAsked, openCode, numberCode, startCode, endCode, kindCode, listedOf};
-ghost use Rattle.tzb_c.specs.Exports.{bitOf, refusalCode, numberOf, lengthFrom, boxOf, pointOf, placeOf, seenCode};
+ghost use Rattle.tzb_core.specs.Points.{point};
+ghost use Rattle.tzb_core.specs.Decode.{filled};
+ghost use Rattle.tzb.specs.FullCheck.{fullCheckOf, checkTold};
+ghost use Rattle.tzb_asked.specs.Asked.{verdictTold, zonesAsked, nameAsked, choiceAsked, candidateAsked, containsAsked, decodeAsked, lookupAsked, listAsked, listed, howMany};
+ghost use Rattle.tzb_c.specs.Opens.{openInto, keptIn, openCode};
+ghost use Rattle.tzb_c.specs.Exports.{bitOf, refusalCode, numberCode, startCode, endCode, kindCode, listedOf, insideCode, zoneCode, checkCode, ruleOf, numberOf, lengthFrom, boxOf, pointOf, placeOf, seenCode};
 use answer::Checked;
 use answer::Refusal;
 use plane::I32Point;
@@ -16,8 +21,13 @@ use plane::Point;
 use plane::Seen;
 use reader_grid::Candidate;
 use reader_grid::Choice;
+use reader_lookup::Found;
+use reader_lookup::Listing;
 use reader_names::Bounds;
+use reader_rings::Verdict;
+use tzb::FullCheck;
 use tzb::Opening;
+use tzb_asked::Count;
 use tzb_core::bbox::BBox;
 use tzb_core::varint::Place;
 use tzb_core::varint::Read;
@@ -77,22 +87,12 @@ pub extern "C" fn tzb_zone_count(record: &[u8]) -> i64
     }
 }
 
-fn name_of(record: &[u8], file: &[u8], zone: u32) -> Bounds
-    ensures { λ r. ⌜ nameTold r ≡ nameAsked (now («record» .entry)) (now (file .entry)) zone ⌝ }
-{
-    let a = tzb_record::read_record(record);
-    match a {
-        RecordRead::Refused(k) => Bounds::Refused(k),
-        RecordRead::Is(o) => reader_names::name_bounds(file, o.names.off, o.zones.count, zone),
-    }
-}
-
 // Where a zone's name starts in the file, or -1000 - n for refusal n.
 #[no_mangle]
 pub extern "C" fn tzb_name_start(record: &[u8], file: &[u8], zone: u32) -> i64
     ensures { λ r. ⌜ r ≡ startCode (nameAsked (now («record» .entry)) (now (file .entry)) zone) ⌝ }
 {
-    let a = name_of(record, file, zone);
+    let a = tzb_asked::name_bounds(record, file, zone);
     match a {
         Bounds::Refused(k) => refusal_code64(k),
         Bounds::At(from, _) => from as i64,
@@ -104,20 +104,10 @@ pub extern "C" fn tzb_name_start(record: &[u8], file: &[u8], zone: u32) -> i64
 pub extern "C" fn tzb_name_end(record: &[u8], file: &[u8], zone: u32) -> i64
     ensures { λ r. ⌜ r ≡ endCode (nameAsked (now («record» .entry)) (now (file .entry)) zone) ⌝ }
 {
-    let a = name_of(record, file, zone);
+    let a = tzb_asked::name_bounds(record, file, zone);
     match a {
         Bounds::Refused(k) => refusal_code64(k),
         Bounds::At(_, to) => to as i64,
-    }
-}
-
-fn choice_of(record: &[u8], file: &[u8], lng: f64, lat: f64) -> Choice
-    ensures { λ r. ⌜ choiceTold r ≡ choiceAsked (now («record» .entry)) (now (file .entry)) lng lat ⌝ }
-{
-    let a = tzb_record::read_record(record);
-    match a {
-        RecordRead::Refused(k) => Choice::Refused(k),
-        RecordRead::Is(o) => reader_grid::candidates(o, file, lng, lat),
     }
 }
 
@@ -132,7 +122,7 @@ fn wide(x: u32) -> u64
 pub extern "C" fn tzb_choice(record: &[u8], file: &[u8], lng: f64, lat: f64) -> i32
     ensures { λ r. ⌜ r ≡ kindCode (choiceAsked (now («record» .entry)) (now (file .entry)) lng lat) ⌝ }
 {
-    let a = choice_of(record, file, lng, lat);
+    let a = tzb_asked::candidates(record, file, lng, lat);
     match a {
         Choice::None => 0,
         Choice::All(_) => 1,
@@ -146,7 +136,7 @@ pub extern "C" fn tzb_choice(record: &[u8], file: &[u8], lng: f64, lat: f64) -> 
 pub extern "C" fn tzb_listed(record: &[u8], file: &[u8], lng: f64, lat: f64) -> u64
     ensures { λ r. ⌜ r ≡ listedOf (choiceAsked (now («record» .entry)) (now (file .entry)) lng lat) ⌝ }
 {
-    let a = choice_of(record, file, lng, lat);
+    let a = tzb_asked::candidates(record, file, lng, lat);
     match a {
         Choice::None => 0,
         Choice::All(n) => wide(n),
@@ -155,26 +145,114 @@ pub extern "C" fn tzb_listed(record: &[u8], file: &[u8], lng: f64, lat: f64) -> 
     }
 }
 
-fn candidate_of(record: &[u8], file: &[u8], place: u32) -> Candidate
-    ensures { λ r. ⌜ candidateTold r ≡ candidateAsked (now («record» .entry)) (now (file .entry)) place ⌝ }
-{
-    let a = tzb_record::read_record(record);
-    match a {
-        RecordRead::Refused(k) => Candidate::Refused(k),
-        RecordRead::Is(o) => reader_grid::candidate_at(o, file, place),
-    }
-}
-
 // The zone at a place of the candidate list, or -1000 - n for refusal n.
 #[no_mangle]
 pub extern "C" fn tzb_candidate(record: &[u8], file: &[u8], place: u32) -> i64
     ensures { λ r. ⌜ r ≡ numberCode (candidateAsked (now («record» .entry)) (now (file .entry)) place) ⌝ }
 {
-    let a = candidate_of(record, file, place);
+    let a = tzb_asked::candidate_at(record, file, place);
     match a {
         Candidate::Refused(k) => refusal_code64(k),
         Candidate::Zone(z) => z as i64,
     }
+}
+
+fn inside_code(v: Verdict) -> i32
+    ensures { λ r. ⌜ r ≡ insideCode (verdictTold v) ⌝ }
+{
+    match v {
+        Verdict::Refused(k) => refusal_code(k),
+        Verdict::Is(inside) => { if inside { 1 } else { 0 } }
+    }
+}
+
+// Whether a zone contains a point of whole numbers, in hundred-thousandths of a degree: 1, 0, or -1000 - n for refusal n.
+#[no_mangle]
+pub extern "C" fn tzb_contains(record: &[u8], file: &[u8], zone: u32, x: i32, y: i32) -> i32
+    ensures { λ r. ⌜ r ≡ insideCode (containsAsked (now («record» .entry)) (now (file .entry)) zone (point x y)) ⌝ }
+{
+    inside_code(tzb_asked::contains(record, file, zone, x, y))
+}
+
+// The points of a chunk into lent numbers, two a point: how many points, or -1000 - n for refusal n, and then nothing is written.
+#[no_mangle]
+pub extern "C" fn tzb_decode(record: &[u8], file: &[u8], chunk: u32, out: &mut [i32]) -> i64
+    ensures { λ r. ⌜ r ≡ numberCode (howMany (decodeAsked (now («record» .entry)) (now (file .entry)) chunk (now (out .entry)))) ⌝ }
+    ensures memory { λ r. ⌜ now (out .exit) ≡ filled (now (out .entry)) (decodeAsked (now («record» .entry)) (now (file .entry)) chunk (now (out .entry))) ⌝ }
+{
+    let a = tzb_asked::decode(record, file, chunk, out);
+    match a {
+        Count::Refused(k) => refusal_code64(k),
+        Count::Is(n) => n as i64,
+    }
+}
+
+// The zone that a position lies in, in degrees: its number, -1 for none, -1000 - n for refusal n.
+#[no_mangle]
+pub extern "C" fn tzb_ask(record: &[u8], file: &[u8], lng: f64, lat: f64) -> i64
+    ensures { λ r. ⌜ r ≡ zoneCode (lookupAsked (now («record» .entry)) (now (file .entry)) lng lat) ⌝ }
+{
+    let a = tzb_asked::lookup(record, file, lng, lat);
+    match a {
+        Found::None => -1,
+        Found::Zone(zone) => zone as i64,
+        Found::Refused(k) => refusal_code64(k),
+    }
+}
+
+// All zones that a position lies in, in the order of their names, into lent places: how many there are, or -1000 - n for refusal n, and then nothing is written.
+#[no_mangle]
+pub extern "C" fn tzb_ask_all(
+    record: &[u8],
+    file: &[u8],
+    lng: f64,
+    lat: f64,
+    zones: &mut [u32],
+) -> i64
+    ensures { λ r. ⌜ r ≡ numberCode (howMany (listAsked (now («record» .entry)) (now (file .entry)) lng lat (length (now (zones .entry))))) ⌝ }
+    ensures memory { λ r. ⌜ now (zones .exit) ≡ listed (now (zones .entry)) (listAsked (now («record» .entry)) (now (file .entry)) lng lat (length (now (zones .entry)))) ⌝ }
+{
+    let a = tzb_asked::lookup_into(record, file, lng, lat, zones);
+    match a {
+        Listing::Refused(k) => refusal_code64(k),
+        Listing::Zones(n) => n as i64,
+    }
+}
+
+fn check_code(c: FullCheck) -> i32
+    ensures { λ r. ⌜ r ≡ checkCode (checkTold c) ⌝ }
+{
+    match c {
+        FullCheck::Accepted => 0,
+        FullCheck::Refused(k) => refusal_code(k),
+        FullCheck::Broken(k, _) => refusal_code(k),
+    }
+}
+
+fn rule_of(c: FullCheck) -> u32
+    ensures { λ r. ⌜ r ≡ ruleOf (checkTold c) ⌝ }
+{
+    match c {
+        FullCheck::Accepted => 0,
+        FullCheck::Refused(_) => 0,
+        FullCheck::Broken(_, rule) => rule,
+    }
+}
+
+// Looks at everything in the file: 0 where it is accepted, and then no question is refused; -1000 - n for opening's refusal n; -1047 where another rule is broken.
+#[no_mangle]
+pub extern "C" fn tzb_full_check(file: &[u8]) -> i32
+    ensures { λ r. ⌜ r ≡ checkCode (fullCheckOf (now (file .entry))) ⌝ }
+{
+    check_code(tzb::full_check(file))
+}
+
+// The lowest broken rule where the full check says -1047, 2 to 6; else 0.
+#[no_mangle]
+pub extern "C" fn tzb_full_check_rule(file: &[u8]) -> u32
+    ensures { λ r. ⌜ r ≡ ruleOf (fullCheckOf (now (file .entry))) ⌝ }
+{
+    rule_of(tzb::full_check(file))
 }
 
 // ---- for comparison runs

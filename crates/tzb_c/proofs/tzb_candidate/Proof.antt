@@ -5,13 +5,14 @@ use mathlib.Core.Path.{sym, ap, _∙_}
 use mir.Syntax.{w64}
 use mir.ValLaws.{toZ-pos}
 use Rattle.tzb_core.proofs.Sums.{back}
-use Rattle.tzb_c.specs.Asked.{candidateTold, numberCode}
+use Rattle.tzb_asked.specs.Asked.{candidateTold}
+use Rattle.tzb_c.specs.Exports.{numberCode}
 use borrow.Author.Needs.{needs}
 use Rattle.tzb_c.proofs.tzb_candidate.Statement.{statement}
 use Rattle.tzb_c.proofs.tzb_candidate.Tie as tie
 
-candidate-of-requires : tie.Need-candidate-of-requires
-candidate-of-requires c κs = search needs
+candidate-at-requires : tie.Need-candidate-at-requires
+candidate-at-requires c κs = search needs
 
 enum-known-a : tie.Need-enum-known-a
 enum-known-a c = search needs
@@ -28,18 +29,18 @@ cast-result c = search needs
 returns : tie.Need-returns
 returns c =
     back w64 _ (c .refusal-code64 .ok) ∙ c .refusal-code64 .ensures
-    ∙ ap numberCode (sym (ap candidateTold (c .before .before .a .given .1)) ∙ c .before .before .before .before .candidate-of .ensures)
+    ∙ ap numberCode (sym (ap candidateTold (c .before .before .a .given .1)) ∙ c .before .before .before .before .candidate-at .ensures)
 
 returns-2 : tie.Need-returns-2
 returns-2 c =
-    let h = sym (ap candidateTold (c .before .a2 .given .1)) ∙ c .before .before .before .candidate-of .ensures in
+    let h = sym (ap candidateTold (c .before .a2 .given .1)) ∙ c .before .before .before .candidate-at .ensures in
     toZ-pos w64 _ (omega arith) ∙ ap numberCode h
 
 pub tzb-candidate-spec : {M : Type 1} → statement M
 tzb-candidate-spec =
     tie.close
     (tie.spec
-    candidate-of-requires
+    candidate-at-requires
     enum-known-a
     refusal-code64-requires
     enum-known-a-2

@@ -3,13 +3,14 @@
 use mathlib.Core.Path.{sym, ap, _∙_}
 use mir.Syntax.{w32}
 use Rattle.tzb_core.proofs.Sums.{back}
-use Rattle.tzb_c.specs.Asked.{choiceTold, kindCode}
+use Rattle.tzb_asked.specs.Asked.{choiceTold}
+use Rattle.tzb_c.specs.Exports.{kindCode}
 use borrow.Author.Needs.{needs}
 use Rattle.tzb_c.proofs.tzb_choice.Statement.{statement}
 use Rattle.tzb_c.proofs.tzb_choice.Tie as tie
 
-choice-of-requires : tie.Need-choice-of-requires
-choice-of-requires c κs = search needs
+candidates-requires : tie.Need-candidates-requires
+candidates-requires c κs = search needs
 
 enum-told : tie.Need-enum-told
 enum-told c = search needs
@@ -27,24 +28,24 @@ refusal-code-requires : tie.Need-refusal-code-requires
 refusal-code-requires c κs = search needs
 
 returns : tie.Need-returns
-returns c = ap kindCode (sym (ap choiceTold (c .enum-told .given .1)) ∙ c .before .before .choice-of .ensures)
+returns c = ap kindCode (sym (ap choiceTold (c .enum-told .given .1)) ∙ c .before .before .candidates .ensures)
 
 returns-2 : tie.Need-returns-2
-returns-2 c = ap kindCode (sym (ap choiceTold (c .enum-told2 .given .1)) ∙ c .before .before .choice-of .ensures)
+returns-2 c = ap kindCode (sym (ap choiceTold (c .enum-told2 .given .1)) ∙ c .before .before .candidates .ensures)
 
 returns-3 : tie.Need-returns-3
-returns-3 c = ap kindCode (sym (ap choiceTold (c .enum-told3 .given .1)) ∙ c .before .before .choice-of .ensures)
+returns-3 c = ap kindCode (sym (ap choiceTold (c .enum-told3 .given .1)) ∙ c .before .before .candidates .ensures)
 
 returns-4 : tie.Need-returns-4
 returns-4 c =
     back w32 _ (c .refusal-code .ok) ∙ c .refusal-code .ensures
-    ∙ ap kindCode (sym (ap choiceTold (c .before .before .a .given .1)) ∙ c .before .before .before .before .choice-of .ensures)
+    ∙ ap kindCode (sym (ap choiceTold (c .before .before .a .given .1)) ∙ c .before .before .before .before .candidates .ensures)
 
 pub tzb-choice-spec : {M : Type 1} → statement M
 tzb-choice-spec =
     tie.close
     (tie.spec
-    choice-of-requires
+    candidates-requires
     enum-told
     enum-told-2
     enum-told-3

@@ -5,14 +5,15 @@ use mathlib.Core.Path.{sym, ap, _∙_}
 use mir.Syntax.{w64}
 use mir.ValLaws.{toZ-pos}
 use Rattle.tzb_core.proofs.Sums.{back}
-use Rattle.tzb_c.specs.Asked.{nameTold, endCode}
+use Rattle.tzb_asked.specs.Asked.{nameTold}
+use Rattle.tzb_c.specs.Exports.{endCode}
 use Rattle.tzb_c.proofs.Kept.{name-inside}
 use borrow.Author.Needs.{needs}
 use Rattle.tzb_c.proofs.tzb_name_end.Statement.{statement}
 use Rattle.tzb_c.proofs.tzb_name_end.Tie as tie
 
-name-of-requires : tie.Need-name-of-requires
-name-of-requires c κs = search needs
+name-bounds-requires : tie.Need-name-bounds-requires
+name-bounds-requires c κs = search needs
 
 enum-known-a : tie.Need-enum-known-a
 enum-known-a c = search needs
@@ -25,24 +26,24 @@ enum-known-a-2 c = search needs
 
 cast-result : tie.Need-cast-result
 cast-result c =
-    let h = sym (ap nameTold (c .before .a2 .given .1)) ∙ c .before .before .before .name-of .ensures in
+    let h = sym (ap nameTold (c .before .a2 .given .1)) ∙ c .before .before .before .name-bounds .ensures in
     omega (arith, name-inside _ _ _ _ _ h)
 
 returns : tie.Need-returns
 returns c =
     back w64 _ (c .refusal-code64 .ok) ∙ c .refusal-code64 .ensures
-    ∙ ap endCode (sym (ap nameTold (c .before .before .a .given .1)) ∙ c .before .before .before .before .name-of .ensures)
+    ∙ ap endCode (sym (ap nameTold (c .before .before .a .given .1)) ∙ c .before .before .before .before .name-bounds .ensures)
 
 returns-2 : tie.Need-returns-2
 returns-2 c =
-    let h = sym (ap nameTold (c .before .a2 .given .1)) ∙ c .before .before .before .name-of .ensures in
+    let h = sym (ap nameTold (c .before .a2 .given .1)) ∙ c .before .before .before .name-bounds .ensures in
     toZ-pos w64 _ (omega (arith, name-inside _ _ _ _ _ h)) ∙ ap endCode h
 
 pub tzb-name-end-spec : {M : Type 1} → statement M
 tzb-name-end-spec =
     tie.close
     (tie.spec
-    name-of-requires
+    name-bounds-requires
     enum-known-a
     refusal-code64-requires
     enum-known-a-2

@@ -4,7 +4,7 @@ use mathlib.Core.Path.{sym, ap, _∙_}
 use mir.Syntax.{w32}
 use Rattle.tzb_core.proofs.Sums.{back}
 use Rattle.tzb.specs.Opening.{told}
-use Rattle.tzb_c.specs.Asked.{openCode, open-barred, open-full, open-fine, kept-no, kept-full, kept-is}
+use Rattle.tzb_c.specs.Opens.{openCode, open-barred, open-full, open-fine, kept-no, kept-full, kept-is}
 use borrow.Author.Needs.{needs}
 use Rattle.tzb_c.proofs.tzb_open.Statement.{statement}
 use Rattle.tzb_c.proofs.tzb_open.Tie as tie

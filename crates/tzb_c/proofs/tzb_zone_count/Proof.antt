@@ -6,7 +6,8 @@ use mir.Syntax.{w64}
 use mir.ValLaws.{toZ-pos}
 use Rattle.tzb_core.proofs.Sums.{back}
 use Rattle.tzb_record.specs.Layout.{told}
-use Rattle.tzb_c.specs.Asked.{zonesAsked, numberCode, barred, asked}
+use Rattle.tzb_asked.specs.Asked.{zonesAsked, barred, asked}
+use Rattle.tzb_c.specs.Exports.{numberCode}
 use borrow.Author.Needs.{needs}
 use Rattle.tzb_c.proofs.tzb_zone_count.Statement.{statement}
 use Rattle.tzb_c.proofs.tzb_zone_count.Tie as tie

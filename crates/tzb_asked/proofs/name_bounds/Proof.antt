@@ -1,11 +1,11 @@
--- `name_of` meets its contract: the record first, then the question.
+-- `name_bounds` meets its contract: the record first, then the question.
 -- Assumes nothing.
 use mathlib.Core.Path.{sym, ap, _∙_}
 use Rattle.tzb_record.specs.Layout.{told}
-use Rattle.tzb_c.specs.Asked.{nameAsked, barred, asked}
+use Rattle.tzb_asked.specs.Asked.{nameAsked, barred, asked}
 use borrow.Author.Needs.{needs}
-use Rattle.tzb_c.proofs.name_of.Statement.{statement}
-use Rattle.tzb_c.proofs.name_of.Tie as tie
+use Rattle.tzb_asked.proofs.name_bounds.Statement.{statement}
+use Rattle.tzb_asked.proofs.name_bounds.Tie as tie
 
 read-record-requires : tie.Need-read-record-requires
 read-record-requires c κs = search needs
@@ -27,7 +27,5 @@ returns-2 : tie.Need-returns-2
 unfolding nameAsked
 returns-2 c = asked _ _ _ _ (sym (ap told (c .before .before .a2 .given .1)) ∙ c .before .before .before .before .read-record .ensures) (c .name-bounds .ensures)
 
-pub name-of-spec : {M : Type 1} → statement M
-name-of-spec =
-    tie.close
-    (tie.spec read-record-requires enum-known-a enum-known-a-2 name-bounds-requires returns returns-2)
+pub name-bounds-spec : {M : Type 1} → statement M
+name-bounds-spec = tie.close (tie.spec read-record-requires enum-known-a enum-known-a-2 name-bounds-requires returns returns-2)

@@ -1,0 +1,3 @@
+-- What follows from the questions' promises.
+pub mod Many
+pub mod Determined

@@ -1,0 +1,42 @@
+-- `contains` meets its contract: the record first, then the question.
+-- Assumes nothing.
+use mathlib.Core.Path.{sym, ap, ap₂, _∙_}
+use lib.IntN.{ℤ}
+use mir.Syntax.{w32}
+use mir.ValLaws.{toZ-ofZ}
+use Rattle.tzb_core.specs.Points.{point}
+use Rattle.reader_rings.specs.Zones.{containsAt}
+use Rattle.tzb_record.specs.Layout.{told}
+use Rattle.tzb_asked.specs.Asked.{containsAsked, barred, asked}
+use borrow.Author.Needs.{needs}
+use Rattle.tzb_asked.proofs.contains.Statement.{statement}
+use Rattle.tzb_asked.proofs.contains.Tie as tie
+
+read-record-requires : tie.Need-read-record-requires
+read-record-requires c κs = search needs
+
+enum-known-a : tie.Need-enum-known-a
+enum-known-a c = search needs
+
+enum-known-a-2 : tie.Need-enum-known-a-2
+enum-known-a-2 c = search needs
+
+contains-requires : tie.Need-contains-requires
+contains-requires c κs = search needs
+
+returns : tie.Need-returns
+unfolding containsAsked
+returns c = barred _ _ _ (sym (ap told (c .before .a .given .1)) ∙ c .before .before .before .read-record .ensures)
+
+returns-2 : tie.Need-returns-2
+unfolding containsAsked
+returns-2 c =
+    let g = c .before .before in
+    let r = g .before .before in
+    let s = r .before .before .before in
+    let a = s .args in
+    let same = ap₂ (λ (x y : ℤ). containsAt (g .a2 .given .0 .0) (a .file .now) (a .zone) (point x y)) (toZ-ofZ w32 (a .x) (s .fits .x)) (toZ-ofZ w32 (a .y) (s .fits .y)) in
+    asked _ _ _ _ (sym (ap told (g .a2 .given .1)) ∙ r .read-record .ensures) (c .contains .ensures ∙ same)
+
+pub contains-spec : {M : Type 1} → statement M
+contains-spec = tie.close (tie.spec read-record-requires enum-known-a enum-known-a-2 contains-requires returns returns-2)

@@ -1,0 +1,31 @@
+-- `lookup` meets its contract: the record first, then the question.
+-- Assumes nothing.
+use mathlib.Core.Path.{sym, ap, _∙_}
+use Rattle.tzb_record.specs.Layout.{told}
+use Rattle.tzb_asked.specs.Asked.{lookupAsked, barred, asked}
+use borrow.Author.Needs.{needs}
+use Rattle.tzb_asked.proofs.lookup.Statement.{statement}
+use Rattle.tzb_asked.proofs.lookup.Tie as tie
+
+read-record-requires : tie.Need-read-record-requires
+read-record-requires c κs = search needs
+
+enum-known-a : tie.Need-enum-known-a
+enum-known-a c = search needs
+
+enum-known-a-2 : tie.Need-enum-known-a-2
+enum-known-a-2 c = search needs
+
+lookup-requires : tie.Need-lookup-requires
+lookup-requires c κs = search needs
+
+returns : tie.Need-returns
+unfolding lookupAsked
+returns c = barred _ _ _ (sym (ap told (c .before .a .given .1)) ∙ c .before .before .before .read-record .ensures)
+
+returns-2 : tie.Need-returns-2
+unfolding lookupAsked
+returns-2 c = asked _ _ _ _ (sym (ap told (c .before .before .a2 .given .1)) ∙ c .before .before .before .before .read-record .ensures) (c .lookup .ensures)
+
+pub lookup-spec : {M : Type 1} → statement M
+lookup-spec = tie.close (tie.spec read-record-requires enum-known-a enum-known-a-2 lookup-requires returns returns-2)

@@ -1,0 +1,52 @@
+-- `lookup_into` meets its contract: the record first, then the zones.
+-- Assumes nothing.
+use mathlib.Core.Path.{sym, ap, _∙_}
+use lib.ListN.{length}
+use Rattle.tzb_record.specs.Layout.{told}
+use Rattle.tzb_asked.specs.Asked.{listed, howMany, many-no, many-same, list-barred, list-asked}
+use borrow.Author.Needs.{needs}
+use Rattle.tzb_asked.proofs.lookup_into.Statement.{statement}
+use Rattle.tzb_asked.proofs.lookup_into.Tie as tie
+
+read-record-requires : tie.Need-read-record-requires
+read-record-requires c κs = search needs
+
+enum-known-a : tie.Need-enum-known-a
+enum-known-a c = search needs
+
+enum-known-a-2 : tie.Need-enum-known-a-2
+enum-known-a-2 c = search needs
+
+lookup-into-requires : tie.Need-lookup-into-requires
+lookup-into-requires c κs = search needs
+
+returns : tie.Need-returns
+returns c =
+    let f = c .before .before .before in
+    let a = f .before .before .before .before .args in
+    let e = list-barred (a .«record» .now) (a .file .now) (a .lng) (a .lat) (length (a .zones .now)) _ (sym (ap told (c .before .a .given .1)) ∙ f .read-record .ensures) in
+    (many-no _ _ e, ap (listed (a .zones .now)) e)
+
+same-length : tie.Need-same-length
+same-length c = search needs
+
+returns-2 : tie.Need-returns-2
+returns-2 c =
+    let d = c .before .before in
+    let g = d .before .before .before in
+    let f = g .before .before in
+    let a = f .before .before .before .before .args in
+    let e = list-asked (a .«record» .now) (a .file .now) (a .lng) (a .lat) (length (a .zones .now)) _ (sym (ap told (g .a2 .given .1)) ∙ f .read-record .ensures) in
+    (d .lookup-into .ensures .0 ∙ many-same _ ∙ ap howMany e, d .lookup-into .ensures .1 ∙ ap (listed (a .zones .now)) e)
+
+pub lookup-into-spec : {M : Type 1} → statement M
+lookup-into-spec =
+    tie.close
+    (tie.spec
+    read-record-requires
+    enum-known-a
+    enum-known-a-2
+    lookup-into-requires
+    returns
+    same-length
+    returns-2)

@@ -1,0 +1,2 @@
+-- What is asked with the opened record as bytes.
+pub mod Asked

@@ -1,0 +1,127 @@
+// Every question, asked with the opened record as bytes beside the file's bytes. A record that cannot be read is refused first; none is trusted.
+ghost use mathlib.Core.Path.{_≡_};
+ghost use lib.ListN.{length};
+ghost use Rattle.tzb_core.specs.Points.{point};
+ghost use Rattle.tzb_core.specs.Decode.{filled};
+ghost use Rattle.reader_chunks.specs.Chunks.{decodeIn};
+ghost use Rattle.tzb_asked.specs.Asked.{nameTold, choiceTold, candidateTold, verdictTold, countTold, foundTold, listingTold, listed, howMany, countAt, nameAsked, choiceAsked, candidateAsked, containsAsked, decodeAsked, lookupAsked, listAsked};
+use answer::Checked;
+use answer::Refusal;
+use reader_grid::Candidate;
+use reader_grid::Choice;
+use reader_lookup::Found;
+use reader_lookup::Listing;
+use reader_names::Bounds;
+use reader_opened::Opened;
+use reader_records::ChunkAt;
+use reader_rings::Verdict;
+use tzb_record::RecordRead;
+
+// How many points or zones there are.
+pub enum Count {
+    Is(u32),
+    Refused(Refusal),
+}
+
+// Where a zone's name stands in the file.
+pub fn name_bounds(record: &[u8], file: &[u8], zone: u32) -> Bounds
+    ensures { λ r. ⌜ nameTold r ≡ nameAsked (now («record» .entry)) (now (file .entry)) zone ⌝ }
+{
+    let a = tzb_record::read_record(record);
+    match a {
+        RecordRead::Refused(k) => Bounds::Refused(k),
+        RecordRead::Is(o) => reader_names::name_bounds(file, o.names.off, o.zones.count, zone),
+    }
+}
+
+// The candidates of a position.
+pub fn candidates(record: &[u8], file: &[u8], lng: f64, lat: f64) -> Choice
+    ensures { λ r. ⌜ choiceTold r ≡ choiceAsked (now («record» .entry)) (now (file .entry)) lng lat ⌝ }
+{
+    let a = tzb_record::read_record(record);
+    match a {
+        RecordRead::Refused(k) => Choice::Refused(k),
+        RecordRead::Is(o) => reader_grid::candidates(o, file, lng, lat),
+    }
+}
+
+// The zone at a place of the candidate list.
+pub fn candidate_at(record: &[u8], file: &[u8], place: u32) -> Candidate
+    ensures { λ r. ⌜ candidateTold r ≡ candidateAsked (now («record» .entry)) (now (file .entry)) place ⌝ }
+{
+    let a = tzb_record::read_record(record);
+    match a {
+        RecordRead::Refused(k) => Candidate::Refused(k),
+        RecordRead::Is(o) => reader_grid::candidate_at(o, file, place),
+    }
+}
+
+// Whether the zone contains the point of whole numbers.
+pub fn contains(record: &[u8], file: &[u8], zone: u32, x: i32, y: i32) -> Verdict
+    ensures { λ r. ⌜ verdictTold r ≡ containsAsked (now («record» .entry)) (now (file .entry)) zone (point x y) ⌝ }
+{
+    let a = tzb_record::read_record(record);
+    match a {
+        RecordRead::Refused(k) => Verdict::Refused(k),
+        RecordRead::Is(o) => reader_rings::contains(o, file, zone, x, y),
+    }
+}
+
+// The point count of a chunk's record, 0 where there is none.
+fn points_in(o: Opened, file: &[u8], index: usize) -> u32
+    ensures { λ r. ⌜ r ≡ countAt o (now (file .entry)) index ⌝ }
+{
+    let a = reader_records::chunk_at(o, file, index);
+    match a {
+        ChunkAt::Refused(_) => 0,
+        ChunkAt::At(v) => v.count as u32,
+    }
+}
+
+// The points of a chunk into lent numbers, two a point: how many points.
+fn decode_opened(o: Opened, file: &[u8], chunk: u32, out: &mut [i32]) -> Count
+    ensures { λ r. ⌜ countTold r ≡ howMany (decodeIn o (now (file .entry)) chunk (now (out .entry))) ⌝ }
+    ensures memory { λ r. ⌜ now (out .exit) ≡ filled (now (out .entry)) (decodeIn o (now (file .entry)) chunk (now (out .entry))) ⌝ }
+{
+    let index = reader_head::wide(chunk);
+    let a = reader_chunks::decode_chunk_points(o, file, index, out);
+    match a {
+        Checked::Refused(k) => Count::Refused(k),
+        Checked::Fine => Count::Is(points_in(o, file, index)),
+    }
+}
+
+// The same with the record as bytes. A refusal leaves the lent numbers as they were, and those behind the points are never touched.
+pub fn decode(record: &[u8], file: &[u8], chunk: u32, out: &mut [i32]) -> Count
+    ensures { λ r. ⌜ countTold r ≡ howMany (decodeAsked (now («record» .entry)) (now (file .entry)) chunk (now (out .entry))) ⌝ }
+    ensures memory { λ r. ⌜ now (out .exit) ≡ filled (now (out .entry)) (decodeAsked (now («record» .entry)) (now (file .entry)) chunk (now (out .entry))) ⌝ }
+{
+    let a = tzb_record::read_record(record);
+    match a {
+        RecordRead::Refused(k) => Count::Refused(k),
+        RecordRead::Is(o) => decode_opened(o, file, chunk, out),
+    }
+}
+
+// The zone that a position lies in.
+pub fn lookup(record: &[u8], file: &[u8], lng: f64, lat: f64) -> Found
+    ensures { λ r. ⌜ foundTold r ≡ lookupAsked (now («record» .entry)) (now (file .entry)) lng lat ⌝ }
+{
+    let a = tzb_record::read_record(record);
+    match a {
+        RecordRead::Refused(k) => Found::Refused(k),
+        RecordRead::Is(o) => reader_lookup::lookup(o, file, lng, lat),
+    }
+}
+
+// All zones that a position lies in, in the order of their names, into the first places of `zones`: how many there are. A refusal leaves the lent places as they were, and those behind the zones are never touched.
+pub fn lookup_into(record: &[u8], file: &[u8], lng: f64, lat: f64, zones: &mut [u32]) -> Listing
+    ensures { λ r. ⌜ listingTold r ≡ howMany (listAsked (now («record» .entry)) (now (file .entry)) lng lat (length (now (zones .entry)))) ⌝ }
+    ensures memory { λ r. ⌜ now (zones .exit) ≡ listed (now (zones .entry)) (listAsked (now («record» .entry)) (now (file .entry)) lng lat (length (now (zones .entry)))) ⌝ }
+{
+    let a = tzb_record::read_record(record);
+    match a {
+        RecordRead::Refused(k) => Listing::Refused(k),
+        RecordRead::Is(o) => reader_lookup::lookup_into(o, file, lng, lat, zones),
+    }
+}

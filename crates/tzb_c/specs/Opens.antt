@@ -1,0 +1,57 @@
+-- Opening into lent memory: the record as bytes.
+-- Assumes nothing.
+use Prim.Native.Nat.{ℕ}
+use mathlib.Core.Path.{_≡_, refl, sym, ap, _∙_}
+use mathlib.Core.List.{List}
+use lib.IntN.{ℤ, pos}
+use Rattle.answer.specs.declared.Refusal.{Refusal}
+use Rattle.answer.specs.declared.Checked.the-variants as C
+use Rattle.answer.specs.Answers.{Answer, ok, refused, _then_, _before_}
+use Rattle.reader_opened.specs.declared.Opened.{Opened}
+use Rattle.tzb_record.specs.Layout.{recordOf, roomFor, written, written-not}
+use Rattle.tzb.specs.Opening.{openOf}
+use Rattle.tzb_c.specs.Exports.{refusalCode}
+
+-- the first refusal of opening, then 46 where there is no room for the record
+unfoldable pub openInto : List ℕ → List ℕ → Answer Opened
+openInto s room = openOf s then λ o. roomFor room before ok o
+
+-- lent memory after it: the record, and what lies behind as it was; all as it was after a refusal
+unfoldable pub keptIn : List ℕ → Answer Opened → List ℕ
+keptIn room (ok o) = written o room
+keptIn room (refused k) = room
+
+-- 0 for an opened file, -1000 - n for refusal n
+abbrev pub openCode : Answer Opened → ℤ
+openCode (ok o) = pos 0
+openCode (refused k) = refusalCode k
+
+-- ---- laws
+-- opening into lent memory
+module _ (s room : List ℕ) where
+  pub open-barred : (k : Refusal) → refused k ≡ openOf s → refused k ≡ openInto s room
+  unfolding openInto
+  open-barred k e = rw (← e)
+
+  module _ (o : Opened) (e : ok o ≡ openOf s) where
+    pub open-full : (k : Refusal) → C.Refused k ≡ roomFor room → refused k ≡ openInto s room
+    unfolding openInto
+    open-full k f = rw (← e, ← f)
+
+    pub open-fine : C.Fine ≡ roomFor room → ok o ≡ openInto s room
+    unfolding openInto
+    open-fine f = rw (← e, ← f)
+
+-- and lent memory after it
+module _ (room : List ℕ) (x : Answer Opened) where
+  pub kept-no : (k : Refusal) → refused k ≡ x → room ≡ keptIn room x
+  unfolding keptIn
+  kept-no k e = rw (← e)
+
+  pub kept-is : (o : Opened) → ok o ≡ x → written o room ≡ keptIn room x
+  unfolding keptIn
+  kept-is o e = rw (← e)
+
+-- nothing is written where there is no room
+pub kept-full : (s room : List ℕ) (o : Opened) → ok o ≡ openOf s → (k : Refusal) → C.Refused k ≡ roomFor room → written o room ≡ keptIn room (openInto s room)
+kept-full s room o e k f = written-not o room k f ∙ kept-no room (openInto s room) k (open-full s room o e k f)
