@@ -18,9 +18,9 @@ fn size(n: u32) -> usize {
 fn is_same(file: &[u8], expected: u32) -> bool {
     match tzb::full_check(file) {
         FullCheck::Accepted => expected == 0,
-        FullCheck::Refused(why) => why.number == expected,
+        FullCheck::Refused(why) => (why.number != 0) & (why.number == expected),
         FullCheck::Broken(why, rule) => {
-            (why.number == expected % 100) & (rule == expected / 100)
+            (why.number == 47) & (expected % 100 == 47) & (rule == expected / 100)
         }
     }
 }
