@@ -2,7 +2,6 @@
 pub mod Listed
 pub mod Named
 pub mod Gathered
-pub mod Copied
 pub mod Placed
 pub mod Meaning
 pub mod Determined

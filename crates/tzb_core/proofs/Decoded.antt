@@ -1,12 +1,12 @@
--- Points read, checked and written: one point more, and the whole. What is written in two passes is what the definition says.
+-- Points read, checked and written: one point more, and the whole. What is written is what the definition says.
 -- Assumes nothing.
 use Prim.Native.Nat.{ℕ, zero, suc, _+_, _-_, _*_, _≤_, _<_}
 use native.Mathlib.Omega.{arith}
 use mathlib.Core.Path.{_≡_, refl, sym, ap, _∙_}
 use mathlib.Core.Bool.{Bool, true, false}
 use mathlib.Core.List.{List, [], _∷_, _++_, append-assoc}
-use lib.ListN.{length, length-append, length-set, set, drop}
-use lib.Seq.{set-at}
+use lib.ListN.{length, length-append, set, take, drop}
+use lib.Seq.{set-at, take-append-seam}
 use lib.IntN.{ℤ}
 use Rattle.answer.specs.declared.Refusal.{Refusal}
 use Rattle.answer.specs.declared.Checked.the-variants.{Fine, Refused}
@@ -41,9 +41,15 @@ outcome-no (ok a) r e = let z : _≡_ {A = ℕ} 0 1 = cc in absurd (zero-one z)
 outcome-no (refused k) r e = let z : r ≡ k = cc in ap refused z
 
 -- what leads changes no outcome
-outcome-led : (q : I32Point) (x : Answer (List I32Point)) → outcome (led q x) ≡ outcome x
-outcome-led q (ok l) = refl
-outcome-led q (refused r) = refl
+pub led-same : (q : I32Point) (x : Answer (List I32Point)) → outcome x ≡ outcome (led q x)
+led-same q (ok l) = refl
+led-same q (refused r) = refl
+
+pub led-fine : (q : I32Point) (x : Answer (List I32Point)) → Fine ≡ outcome x → Fine ≡ outcome (led q x)
+led-fine q x e = e ∙ led-same q x
+
+pub led-no : (q : I32Point) (x : Answer (List I32Point)) (r : Refusal) → Refused r ≡ outcome x → refused r ≡ led q x
+led-no q x r e = ap (led q) (outcome-no x r e)
 
 -- ---- one point more
 module _ (s : List ℕ) (n : ℕ) (q : I32Point) (k : ℕ) (h : 0 < n) where
@@ -58,7 +64,7 @@ module _ (s : List ℕ) (n : ℕ) (q : I32Point) (k : ℕ) (h : 0 < n) where
   check-no r e = rw (points-one, ← e)
 
   pub check-on : (t : I32Point) (m : ℕ) → ok (t, m) ≡ nextAt s q k → outcome (pointsFrom s (n - 1) t m) ≡ outcome (pointsFrom s n q k)
-  check-on t m e = sym (outcome-led t (pointsFrom s (n - 1) t m)) ∙ ap outcome (rest ∙ sym points-one)
+  check-on t m e = led-same t (pointsFrom s (n - 1) t m) ∙ ap outcome (rest ∙ sym points-one)
     where
       rest : led t (pointsFrom s (n - 1) t m) ≡ (nextAt s q k then λ t. led (t .0) (pointsFrom s (n - 1) (t .0) (t .1)))
       rest = rw (← e)
@@ -130,22 +136,42 @@ put-behind front (a ∷ b ∷ rest) i (q ∷ l) e h =
         ∙ set-at (front ++ (q .x ∷ [])) b rest (q .y) (i + 1) (length-append front (q .x ∷ []) ∙ ap (λ (j : ℕ). j + 1) e)
         ∙ append-assoc front (q .x ∷ []) (q .y ∷ rest)
 
--- a check that was fine, then the first point, then all that can be read
-pub wrote : (s : List ℕ) (n : ℕ) (q : I32Point) (k : ℕ) (out : List ℤ) → Fine ≡ outcome (pointsFrom s n q k) → 2 + 2 * n ≤ length out
-    → put (set (set out 0 (q .x)) 1 (q .y)) 2 (readFrom s n q k) ≡ filled out (led q (pointsFrom s n q k))
-unfolding put
-wrote s n q k out e room =
-    let f = outcome-fine (pointsFrom s n q k) e in
-    let g = read-all s n q k (f .0) (f .1) in
-    ap (put (set (set out 0 (q .x)) 1 (q .y)) 2) (g .0)
-    ∙ put-behind [] out 0 (q ∷ f .0) refl (omega (arith, flat-length (q ∷ f .0), g .1))
-    ∙ ap (λ (x : Answer (List I32Point)). filled out (led q x)) (f .1)
+-- where all can be read, the numbers of all are written
+module _ (s : List ℕ) (n : ℕ) (q : I32Point) (k : ℕ) (e : Fine ≡ outcome (pointsFrom s n q k)) where
+  all : (l : List I32Point) × (ok l ≡ pointsFrom s n q k) × (length (flat (q ∷ l)) ≡ 2 + 2 * n) × (readFrom s n q k ≡ l)
+  all =
+      let f = outcome-fine (pointsFrom s n q k) e in
+      let g = read-all s n q k (f .0) (f .1) in
+      (f .0, f .1, omega (arith, flat-length (q ∷ f .0), g .1), g .0)
 
-pub led-fine : (q : I32Point) (x : Answer (List I32Point)) → Fine ≡ outcome x → Fine ≡ outcome (led q x)
-led-fine q x e = e ∙ sym (outcome-led q x)
+  written : (out : List ℤ) → 2 + 2 * n ≤ length out → put out 0 (q ∷ readFrom s n q k) ≡ flat (q ∷ all .0) ++ drop (2 + 2 * n) out
+  written out room =
+      ap (λ (l : List I32Point). put out 0 (q ∷ l)) (all .3)
+      ∙ put-behind [] out 0 (q ∷ all .0) refl (omega (arith, all .2))
+      ∙ ap (λ (j : ℕ). flat (q ∷ all .0) ++ drop j out) (all .2)
 
-pub led-no : (q : I32Point) (x : Answer (List I32Point)) (r : Refusal) → Refused r ≡ outcome x → refused r ≡ led q x
-led-no q x r e = ap (led q) (outcome-no x r e)
+  is-filled : (out : List ℤ) → flat (q ∷ all .0) ++ drop (2 + 2 * n) out ≡ filled out (led q (pointsFrom s n q k))
+  is-filled out =
+      ap (λ (j : ℕ). flat (q ∷ all .0) ++ drop j out) (sym (all .2))
+      ∙ ap (λ (x : Answer (List I32Point)). filled out (led q x)) (all .1)
+
+  -- into lent memory at once
+  pub wrote : (out : List ℤ) → 2 + 2 * n ≤ length out → put out 0 (q ∷ readFrom s n q k) ≡ filled out (led q (pointsFrom s n q k))
+  wrote out room = written out room ∙ is-filled out
+
+  -- into memory that holds them, and copied from there
+  pub copied : (held out : List ℤ) → 2 + 2 * n ≤ length held
+      → take (2 + 2 * n) (put held 0 (q ∷ readFrom s n q k)) ++ drop (2 + 2 * n) out ≡ filled out (led q (pointsFrom s n q k))
+  copied held out room =
+      ap (λ (l : List ℤ). take (2 + 2 * n) l ++ drop (2 + 2 * n) out) (written held room)
+      ∙ ap (λ (l : List ℤ). l ++ drop (2 + 2 * n) out) front
+      ∙ is-filled out
+    where
+      rest : List ℤ
+      rest = drop (2 + 2 * n) held
+
+      front : take (2 + 2 * n) (flat (q ∷ all .0) ++ rest) ≡ flat (q ∷ all .0)
+      front = ap (λ (j : ℕ). take j (flat (q ∷ all .0) ++ rest)) (sym (all .2)) ∙ take-append-seam (flat (q ∷ all .0)) rest
 
 -- ---- one point more is written
 module _ (out : List ℤ) (i : ℕ) where
@@ -156,7 +182,3 @@ module _ (out : List ℤ) (i : ℕ) where
   pub put-on : (t : I32Point) (l m : List I32Point) (next : List ℤ) → t ∷ l ≡ m → next ≡ set (set out i (t .x)) (i + 1) (t .y) → put next (i + 2) l ≡ put out i m
   unfolding put
   put-on t l m next e f = ap (λ (o : List ℤ). put o (i + 2) l) f ∙ ap (put out i) e
-
-  -- the length stays
-  pub kept : (q : I32Point) (next : List ℤ) → next ≡ set (set out i (q .x)) (i + 1) (q .y) → length next ≡ length out
-  kept q next e = ap length e ∙ length-set (set out i (q .x)) (i + 1) (q .y) ∙ length-set out i (q .x)

@@ -22,5 +22,6 @@ pub mod DeterminedRay
 -- chunks
 pub mod Skips
 pub mod Decoded
+pub mod Copied
 pub mod Neighbours
 pub mod DeterminedChunk

@@ -2,7 +2,8 @@
 ghost use mathlib.Core.Path.{_≡_};
 ghost use mathlib.Core.Bool.{true};
 ghost use Prim.Native.Nat.{_+_, _*_, _≤_, _<_};
-ghost use lib.ListN.{length, set};
+ghost use mathlib.Core.List.{_∷_, _++_};
+ghost use lib.ListN.{length, set, take, drop};
 ghost use Rattle.plane.specs.Domain.{inDomain};
 ghost use Rattle.tzb_core.specs.Points.{spotted, moved, movedBy, numbersAt, inside, firstOf, nextAt};
 ghost use Rattle.tzb_core.specs.Ray.{rayOf};
@@ -211,13 +212,30 @@ pub fn scan_chunk(s: &[u8], count: u16, p: Point) -> Scan
     }
 }
 
-// From the first point on, over that many points more: whether all can be read, and no bytes are left over.
-fn check_from(s: &[u8], count: u16, first: I32Point, from: Place) -> Checked
-    ensures { λ r. ⌜ r ≡ outcome (pointsFrom (now (s .entry)) count first (from .at)) ⌝ }
+// The two numbers of a point, from that place of the memory on, where there is room for both.
+fn put_point(out: &mut [i32], i: usize, q: I32Point)
+    requires { ⌜ i < 0x1_0000_0000 ⌝ }
+    ensures { λ _. ⌜ (i + 1 < length (now (out .entry)) → now (out .exit) ≡ set (set (now (out .entry)) i (q .x)) (i + 1) (q .y)) ⌝ }
 {
+    let x = q.x;
+    let y = q.y;
+    let j = i + 1;
+    if j < out.len() {
+        out[i] = x;
+        out[j] = y;
+    }
+}
+
+// The first point, and that many more: whether all can be read, and no bytes are left over. Where there is room for all, the numbers of those that can be read are written.
+fn fill_from(s: &[u8], count: u16, first: I32Point, from: Place, out: &mut [i32]) -> Checked
+    ensures { λ r. ⌜ r ≡ outcome (pointsFrom (now (s .entry)) count first (from .at)) ⌝ }
+    ensures memory { λ r. ⌜ (2 + 2 * count ≤ length (now (out .entry)) → now (out .exit) ≡ put (now (out .entry)) 0 (first ∷ readFrom (now (s .entry)) count first (from .at))) ⌝ }
+{
+    put_point(out, 0, first);
     let mut q = first;
     let mut at = from;
     let mut rest = count;
+    let mut i: usize = 2;
     while 0 < rest {
         let t = next_point(s, q, at);
         match t {
@@ -229,60 +247,56 @@ fn check_from(s: &[u8], count: u16, first: I32Point, from: Place) -> Checked
                 at = m;
             }
         }
+        put_point(out, i, q);
+        i += 2;
         rest -= 1;
     }
     answer::claim(43, at.at_end(s))
 }
 
-// The two numbers of a point, from that place of the lent memory on.
-fn put_point(out: &mut [i32], i: usize, q: I32Point)
-    requires { ⌜ i + 1 < length (now out) ⌝ }
-    ensures { λ _. ⌜ now (out .exit) ≡ set (set (now (out .entry)) i (q .x)) (i + 1) (q .y) ⌝ }
+// The first n numbers of one slice into the first n places of another.
+fn copy(held: &[i32], n: usize, out: &mut [i32])
+    requires { ⌜ (n ≤ length (now held)) × (n ≤ length (now out)) ⌝ }
+    ensures { λ _. ⌜ now (out .exit) ≡ take n (now (held .entry)) ++ drop n (now (out .entry)) ⌝ }
 {
-    let x = q.x;
-    let y = q.y;
-    out[i] = x;
-    out[i + 1] = y;
-}
-
-// From the first point on, over that many points more, as far as they can be read: their numbers, from the third place of the lent memory on.
-fn write_from(s: &[u8], count: u16, first: I32Point, from: Place, out: &mut [i32])
-    requires { ⌜ 2 + 2 * count ≤ length (now out) ⌝ }
-    ensures { λ _. ⌜ now (out .exit) ≡ put (now (out .entry)) 2 (readFrom (now (s .entry)) count first (from .at)) ⌝ }
-{
-    let mut q = first;
-    let mut at = from;
-    let mut left = count;
-    let mut i: usize = 2;
-    while 0 < left {
-        let t = next_point(s, q, at);
-        match t {
-            Spotted::Refused(k) => {
-                return;
-            }
-            Spotted::At(n, m) => {
-                q = n;
-                at = m;
-            }
-        }
-        put_point(out, i, q);
-        i += 2;
-        left -= 1;
+    let mut i = 0;
+    while i < n {
+        out[i] = held[i];
+        i += 1;
     }
 }
 
-// The first point, and that many more: all are read before the first number is written.
+// The first point, and that many more: all are read before the first number is written. Until then the numbers stay in `held`; where it has no room for them, the points are read a second time.
+fn decode_with(
+    s: &[u8],
+    count: u16,
+    first: I32Point,
+    from: Place,
+    held: &mut [i32],
+    out: &mut [i32],
+) -> Checked
+    requires { ⌜ 2 + 2 * count ≤ length (now out) ⌝ }
+    ensures { λ r. ⌜ (r ≡ outcome (led first (pointsFrom (now (s .entry)) count first (from .at)))) × (now (out .exit) ≡ filled (now (out .entry)) (led first (pointsFrom (now (s .entry)) count first (from .at)))) ⌝ }
+{
+    let c = fill_from(s, count, first, from, held);
+    if let Checked::Refused(k) = c {
+        return Checked::Refused(k);
+    }
+    let n = 2 + 2 * (count as usize);
+    if held.len() < n {
+        return fill_from(s, count, first, from, out);
+    }
+    copy(held, n, out);
+    Checked::Fine
+}
+
+// The same with memory of its own, which has room for 128 points.
 fn decode_from(s: &[u8], count: u16, first: I32Point, from: Place, out: &mut [i32]) -> Checked
     requires { ⌜ 2 + 2 * count ≤ length (now out) ⌝ }
     ensures { λ r. ⌜ (r ≡ outcome (led first (pointsFrom (now (s .entry)) count first (from .at)))) × (now (out .exit) ≡ filled (now (out .entry)) (led first (pointsFrom (now (s .entry)) count first (from .at)))) ⌝ }
 {
-    let c = check_from(s, count, first, from);
-    if let Checked::Refused(k) = c {
-        return Checked::Refused(k);
-    }
-    put_point(out, 0, first);
-    write_from(s, count, first, from, out);
-    Checked::Fine
+    let mut held = [0i32; 256];
+    decode_with(s, count, first, from, &mut held, out)
 }
 
 // The points of a chunk into lent numbers, two a point. A refusal leaves the lent memory as it was, and what lies behind the points is never touched.

@@ -1,7 +1,8 @@
 -- `copy` meets its contract. The loop's invariant: the first i numbers are those of `held`, the others as they were.
 -- Assumes nothing.
 use Prim.Native.Nat.{_-_}
-use Rattle.reader_lookup.proofs.Copied.{Copying, copy-start, copy-on, copy-end}
+use mathlib.Core.Path.{refl}
+use Rattle.tzb_core.proofs.Copied.{Copying, copy-start, copy-on, copy-end}
 use borrow.Author.Needs.{needs}
 use Rattle.reader_lookup.proofs.copy.Statement.{statement}
 use Rattle.reader_lookup.proofs.copy.Tie as tie
@@ -34,7 +35,7 @@ loop-less : tie.Need-loop-less Inv-loop μ-loop
 loop-less c = search needs
 
 loop-again : tie.Need-loop-again Inv-loop μ-loop
-loop-again c = copy-on _ _ _ _ _ (c .before .before .loop .inv) (c .before .loop-test .taken)
+loop-again c = copy-on _ _ _ _ _ (c .before .before .loop .inv) 0 _ refl (c .before .loop-test .taken)
 
 same-length : tie.Need-same-length Inv-loop μ-loop
 same-length c = c .before .loop .inv .same
