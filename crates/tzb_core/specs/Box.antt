@@ -17,15 +17,17 @@ use Rattle.tzb_core.specs.declared.bbox.Sum.the-variants.{Of, Refused}
 abbrev pub float : ℤ → Float
 float z = ofInt binary64 z
 
+-- from the least coordinate to the greatest, both with it
+abbrev pub spans : ℤ → ℤ → Float → Bool
+spans least greatest x = le (float least) x && le x (float greatest)
+
 -- the point lies in the box, its sides with it
 unfoldable pub contains : BBox → Point → Bool
-contains b p =
-    (le (float (b .minx)) (p .x) && le (p .x) (float (b .maxx)))
-    && (le (float (b .miny)) (p .y) && le (p .y) (float (b .maxy)))
+contains b p = spans (b .minx) (b .maxx) (p .x) && spans (b .miny) (b .maxy) (p .y)
 
 -- what lies in the box can matter to the ray from the point to greater x: the point is level with the box, and the box does not end left of the point
 unfoldable pub relevant : BBox → Point → Bool
-relevant b p = (le (float (b .miny)) (p .y) && le (p .y) (float (b .maxy))) && le (p .x) (float (b .maxx))
+relevant b p = spans (b .miny) (b .maxy) (p .y) && le (p .x) (float (b .maxx))
 
 -- the box lies strictly to the right of the point
 unfoldable pub right : BBox → Point → Bool

@@ -4,7 +4,7 @@ ghost use mathlib.Core.Bool.{true};
 ghost use lib.IntN.{_+ℤ_};
 ghost use Rattle.plane.specs.Domain.{inDomain};
 ghost use Rattle.plane.specs.Segment.{same};
-ghost use Rattle.tzb_core.specs.Box.{ordered, boxInDomain, contains, relevant, right, fits32, addDelta, summed};
+ghost use Rattle.tzb_core.specs.Box.{spans, ordered, boxInDomain, contains, relevant, right, fits32, addDelta, summed};
 use answer::Refusal;
 use plane::I32Point;
 use plane::Point;
@@ -20,6 +20,17 @@ pub struct BBox {
 pub enum Sum {
     Of(i32),
     Refused(Refusal),
+}
+
+// A coordinate of the point lies between two of the box.
+fn in_span(least: i32, greatest: i32, x: f64) -> bool
+    ensures { λ r. ⌜ r ≡ spans least greatest x ⌝ }
+{
+    if x >= least as f64 {
+        x <= greatest as f64
+    } else {
+        false
+    }
 }
 
 impl BBox {
@@ -41,15 +52,22 @@ impl BBox {
     pub fn contains(self, p: Point) -> bool
         ensures { λ r. ⌜ r ≡ contains self p ⌝ }
     {
-        ((p.x >= self.minx as f64) & (p.x <= self.maxx as f64))
-            & ((p.y >= self.miny as f64) & (p.y <= self.maxy as f64))
+        if in_span(self.minx, self.maxx, p.x) {
+            in_span(self.miny, self.maxy, p.y)
+        } else {
+            false
+        }
     }
 
     // Whether what lies in the box can matter to the ray from the point.
     pub fn relevant(self, p: Point) -> bool
         ensures { λ r. ⌜ r ≡ relevant self p ⌝ }
     {
-        ((p.y >= self.miny as f64) & (p.y <= self.maxy as f64)) & (self.maxx as f64 >= p.x)
+        if in_span(self.miny, self.maxy, p.y) {
+            self.maxx as f64 >= p.x
+        } else {
+            false
+        }
     }
 
     // Strictly to the right of the point.
