@@ -1,5 +1,7 @@
 //! The port's exports and the original on the same inputs, in one run. Each side is called once per item through a C function.
 
+mod asking;
+
 use crate::bytes;
 use crate::original;
 use crate::port::exports::*;
@@ -62,8 +64,9 @@ pub fn run(file: Option<&Path>) {
         (0..20_000).map(|i| ascii[i * 20..i * 20 + 8 + i % 20].to_vec()).collect();
 
     println!("{:<46}{:>12}{:>12}{:>8}", "item", "port", "original", "ratio");
-    if let Some(file) = file {
-        of_bytes("opening", &[file], refusal, original_open);
+    if let Some(file) = &file {
+        of_bytes("opening", &[file.clone()], refusal, original_open);
+        asking::run(file);
     }
     of_bytes("CRC-32", &[whole], tzb_crc32, original_crc32);
     of_bytes("CRC-32, messages of one byte", &vec![vec![0]; 2_000], tzb_crc32, original_crc32);

@@ -8,6 +8,9 @@ use crate::scene::{self, Scene};
 use crate::tzb::{self, BBox, Error};
 use geometry_rs::{I32Point, Point};
 
+/// Into which the original decodes a chunk.
+pub type Points = Vec<I32Point>;
+
 pub fn crc32(data: &[u8]) -> u32 {
     tzb::crc32_ieee(data)
 }

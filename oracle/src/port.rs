@@ -1,5 +1,6 @@
 //! The port, through its archive's C exports. A `&[u8]` passes as pointer, then length.
 
+pub mod asking;
 #[cfg(test)]
 mod header;
 pub mod opening;

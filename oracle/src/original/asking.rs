@@ -1,5 +1,6 @@
 //! The original's decoding, containment and lookups, as a voice.
 
+use super::Points;
 use super::opening::{Opened, said};
 use crate::rules::Said;
 use crate::voice::{Answer, Question, Voice};
@@ -34,6 +35,37 @@ impl Opened<'_> {
             return Err(46);
         }
         Ok(found.into_iter().map(u64::from).collect())
+    }
+}
+
+/// For measuring: nothing is caught, and a refusal is -2.
+impl Opened<'_> {
+    pub fn zone(&self, lng: f64, lat: f64) -> i64 {
+        match self.reader.lookup(lng, lat) {
+            Ok(zone) => zone.map_or(-1, i64::from),
+            Err(_) => -2,
+        }
+    }
+
+    pub fn zones(&self, lng: f64, lat: f64, zones: &mut Vec<u32>) -> i64 {
+        self.reader.lookup_into(lng, lat, zones).map_or(-2, |()| zones.len() as i64)
+    }
+
+    pub fn is_in(&self, zone: u32, x: i32, y: i32) -> i32 {
+        self.reader.ask_contains(zone, x.into(), y.into()).map_or(-2, i32::from)
+    }
+
+    pub fn points(&self, chunk: u32, points: &mut Points) -> i64 {
+        points.clear();
+        let decoded = self
+            .reader
+            .chunk_at(chunk)
+            .and_then(|record| self.reader.decode_chunk_points(chunk, record, points));
+        decoded.map_or(-2, |()| points.len() as i64)
+    }
+
+    pub fn name_length(&self, zone: u32) -> i64 {
+        self.reader.name_bytes(zone).map_or(-2, |name| name.len() as i64)
     }
 }
 

@@ -48,17 +48,17 @@ pub mod exports {
 
 use exports::*;
 
-const SIZE: usize = 84;
+pub const SIZE: usize = 84;
 /// What lent memory holds before, and where nothing may be written.
 const GUARD: u8 = 0xa5;
 
 /// A number, or -1000 - n for refusal n.
-fn said(code: i64) -> Said<i64> {
+pub fn said(code: i64) -> Said<i64> {
     if code < 0 { Err((-1000 - code) as u32) } else { Ok(code) }
 }
 
 /// Opens into lent memory of that size. Nothing is written behind the record, and nothing at all on a refusal.
-fn open_into(file: &[u8], room: usize) -> Said<Vec<u8>> {
+pub fn open_into(file: &[u8], room: usize) -> Said<Vec<u8>> {
     let mut lent = vec![GUARD; room + 16];
     let code = unsafe { tzb_open(file.as_ptr(), file.len(), lent.as_mut_ptr(), room) };
     let kept = if code < 0 { 0 } else { SIZE };

@@ -1,0 +1,138 @@
+//! The port's decoding, containment and lookups, as a voice. Lent memory is held to what was promised, to its last number.
+
+use super::opening::{open_into, said};
+use crate::rules::Said;
+use crate::voice::{Answer, Question, Voice};
+
+pub mod exports {
+    unsafe extern "C" {
+        pub fn tzb_ask(
+            record: *const u8,
+            size: usize,
+            file: *const u8,
+            length: usize,
+            lng: f64,
+            lat: f64,
+        ) -> i64;
+        pub fn tzb_ask_all(
+            record: *const u8,
+            size: usize,
+            file: *const u8,
+            length: usize,
+            lng: f64,
+            lat: f64,
+            zones: *mut u32,
+            places: usize,
+        ) -> i64;
+        pub fn tzb_contains(
+            record: *const u8,
+            size: usize,
+            file: *const u8,
+            length: usize,
+            zone: u32,
+            x: i32,
+            y: i32,
+        ) -> i32;
+        pub fn tzb_decode(
+            record: *const u8,
+            size: usize,
+            file: *const u8,
+            length: usize,
+            chunk: u32,
+            out: *mut i32,
+            room: usize,
+        ) -> i64;
+        pub fn tzb_full_check(file: *const u8, length: usize) -> i32;
+        pub fn tzb_full_check_rule(file: *const u8, length: usize) -> u32;
+    }
+}
+
+use exports::*;
+
+/// What lent numbers hold before, and where nothing may be written.
+const GUARD: u32 = 0xa5a5_a5a5;
+/// So many numbers are lent behind the room, to see that they stay.
+const BEHIND: usize = 8;
+
+/// A file with its record, as the port's bytes, and the bytes that it is asked with.
+pub struct Opened<'a> {
+    record: Vec<u8>,
+    lent: &'a [u8],
+}
+
+pub fn open(file: &[u8]) -> Said<Opened<'_>> {
+    Ok(Opened { record: open_into(file, super::opening::SIZE)?, lent: file })
+}
+
+impl<'a> Opened<'a> {
+    /// The same record, asked with other bytes.
+    pub fn asked_with(self, lent: &'a [u8]) -> Self {
+        Self { lent, ..self }
+    }
+
+    /// A pointer and a length of each, for the calls below.
+    pub fn parts(&self) -> (*const u8, usize, *const u8, usize) {
+        (self.record.as_ptr(), self.record.len(), self.lent.as_ptr(), self.lent.len())
+    }
+
+    fn decode(&self, chunk: u32, room: usize) -> Said<Vec<i64>> {
+        let (r, size, f, length) = self.parts();
+        let mut out = vec![GUARD as i32; room + BEHIND];
+        let code = unsafe { tzb_decode(r, size, f, length, chunk, out.as_mut_ptr(), room) };
+        let written = 2 * code.max(0) as usize;
+        assert!(out[written..].iter().all(|&n| n == GUARD as i32), "lent memory changed: {code}");
+        said(code).map(|_| out[..written].iter().map(|&n| n.into()).collect())
+    }
+
+    fn contains(&self, zone: u32, x: i32, y: i32) -> Said<bool> {
+        let (r, size, f, length) = self.parts();
+        said(unsafe { tzb_contains(r, size, f, length, zone, x, y) }.into()).map(|is| is == 1)
+    }
+
+    fn lookup(&self, lng: f64, lat: f64) -> Said<Option<u64>> {
+        let (r, size, f, length) = self.parts();
+        match unsafe { tzb_ask(r, size, f, length, lng, lat) } {
+            -1 => Ok(None),
+            code => said(code).map(|zone| Some(zone as u64)),
+        }
+    }
+
+    fn lookup_into(&self, lng: f64, lat: f64, places: usize) -> Said<Vec<u64>> {
+        let (r, size, f, length) = self.parts();
+        let mut zones = vec![GUARD; places + BEHIND];
+        let (to, room) = (zones.as_mut_ptr(), places);
+        let code = unsafe { tzb_ask_all(r, size, f, length, lng, lat, to, room) };
+        let written = code.max(0) as usize;
+        assert!(zones[written..].iter().all(|&n| n == GUARD), "lent memory changed: {code}");
+        said(code).map(|_| zones[..written].iter().map(|&zone| zone.into()).collect())
+    }
+}
+
+/// More than a chunk has numbers, or a small file zones.
+fn at_most(room: u64, most: usize) -> usize {
+    room.min(most as u64) as usize
+}
+
+impl Voice for Opened<'_> {
+    fn ask(&self, question: Question) -> Option<Said<Answer>> {
+        Some(match question {
+            Question::Decode(chunk, room) => {
+                self.decode(chunk, at_most(room, 131_072)).map(Answer::Points)
+            }
+            Question::Contains(zone, x, y) => self.contains(zone, x, y).map(Answer::Is),
+            Question::ContainsAt(..) => return None,
+            Question::Lookup(lng, lat) => self.lookup(lng, lat).map(Answer::Zone),
+            Question::LookupInto(lng, lat, places) => {
+                self.lookup_into(lng, lat, at_most(places, 1024)).map(Answer::Zones)
+            }
+        })
+    }
+}
+
+/// 0, opening's number, or 47 with the lowest broken rule.
+pub fn full_check(file: &[u8]) -> (u32, u32) {
+    let (data, length) = (file.as_ptr(), file.len());
+    let code = unsafe { tzb_full_check(data, length) };
+    let rule = unsafe { tzb_full_check_rule(data, length) };
+    (said(code.into()).err().unwrap_or(0), rule)
+}
