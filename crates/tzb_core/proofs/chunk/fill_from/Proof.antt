@@ -42,8 +42,8 @@ returns c =
     let l = n .before .before in
     let p = l .before .before in
     let e = sym (ap spotted (c .before .t .given .1)) ∙ n .next-point .ensures in (
-      check-no _ _ _ _ (n .before .loop-test .taken) _ e ∙ l .loop .inv .2,
-      λ h. put-end _ _ _ (read-no _ _ _ _ (n .before .loop-test .taken) _ e)
+      check-no _ _ _ _ (omega arith) _ e ∙ l .loop .inv .2,
+      λ h. put-end _ _ _ (read-no _ _ _ _ (omega arith) _ e)
           ∙ l .loop .inv .3 (omega (arith, h, l .before .out .given))
           ∙ put-on _ 0 _ _ _ _ refl (p .put-point .ensures (omega (arith, h))),
     )
@@ -73,8 +73,8 @@ loop-again c =
     let e = sym (ap spotted (t .t2 .given .1)) ∙ n .next-point .ensures in (
       same ∙ l .inv .0,
       omega arith,
-      check-on _ _ _ _ (n .before .loop-test .taken) _ _ e ∙ l .inv .2,
-      λ h. put-on _ _ _ _ _ _ (read-on _ _ _ _ (n .before .loop-test .taken) _ _ e) (p .put-point2 .ensures (omega (arith, h))) ∙ l .inv .3 h,
+      check-on _ _ _ _ (omega arith) _ _ e ∙ l .inv .2,
+      λ h. put-on _ _ _ _ _ _ (read-on _ _ _ _ (omega arith) _ _ e) (p .put-point2 .ensures (omega (arith, h))) ∙ l .inv .3 h,
     )
 
 at-end-requires : tie.Need-at-end-requires Inv-loop μ-loop
