@@ -12,8 +12,10 @@
  *     uint8_t record[TZB_RECORD];
  *     int32_t opened = tzb_open(file, file_length, record, sizeof record);
  *     if (opened < 0) -> refused by -1000 - opened
- *     int64_t start = tzb_name_start(record, sizeof record, file, file_length, 7);
- *     int64_t end = tzb_name_end(record, sizeof record, file, file_length, 7);
+ *     int64_t zone = tzb_ask(record, sizeof record, file, file_length, lng, lat);
+ *     if (zone >= 0) -> its name stands from
+ *         tzb_name_start(record, sizeof record, file, file_length, (uint32_t) zone)
+ *         to tzb_name_end(record, sizeof record, file, file_length, (uint32_t) zone)
  *
  * A record is numbers only, little-endian: it holds no pointer, and may be kept or copied. It is not trusted: one
  * that was made by hand, or from another file, is answered by what it says, or refused.
@@ -56,6 +58,38 @@ uint64_t tzb_listed(const uint8_t *record, size_t record_length, const uint8_t *
 
 /* The zone at a place of the candidate list. Or -1000 - n: 30 for a place at or past the end of the list. */
 int64_t tzb_candidate(const uint8_t *record, size_t record_length, const uint8_t *file, size_t file_length, uint32_t place);
+
+/* Whether the zone contains a point of whole numbers, in hundred-thousandths of a degree: 1 yes, 0 no. Or -1000 - n:
+ * 45 for a zone number too large. A point beyond +-18,000,000 or +-9,000,000 is in no zone. */
+int32_t tzb_contains(const uint8_t *record, size_t record_length, const uint8_t *file, size_t file_length, uint32_t zone, int32_t x, int32_t y);
+
+/* Writes the points of a chunk into lent numbers, two a point: x, y, x, y. What lies behind stays.
+ * How many points, or -1000 - n: 34 for a chunk number too large, 46 where there is no room. */
+int64_t tzb_decode(const uint8_t *record, size_t record_length, const uint8_t *file, size_t file_length, uint32_t chunk, int32_t *out, size_t out_length);
+
+/* ---- which zone */
+
+/* Opens the file and asks for the zone that a position lies in, in degrees. The zone's number, -1 for none, or
+ * -1000 - n for refusal n, opening's first. Opening reads the whole file: to ask often, open once and use tzb_ask. */
+int32_t tzb_lookup(const uint8_t *file, size_t file_length, double lng, double lat);
+
+/* The same with the record of a file that was opened. A record that was made by hand may have zone numbers up to
+ * 4,294,967,295: so the answer has 64 bits. */
+int64_t tzb_ask(const uint8_t *record, size_t record_length, const uint8_t *file, size_t file_length, double lng, double lat);
+
+/* Writes the numbers of all zones that a position lies in, in the order of their names' bytes, into the first of the lent
+ * places; those behind stay. How many zones, or -1000 - n: 46 where there are more zones than places. 15 places are
+ * always enough for a file with a GRID, and tzb_zone_count() places for any file. */
+int64_t tzb_ask_all(const uint8_t *record, size_t record_length, const uint8_t *file, size_t file_length, double lng, double lat, uint32_t *zones, size_t zones_length);
+
+/* ---- the full check */
+
+/* Looks at everything in the file. 0: accepted, and then no question is refused but for a number that is too large or
+ * room that is too short. -1000 - n for opening's refusal n; -1047 where the file opens and breaks another rule. */
+int32_t tzb_full_check(const uint8_t *file, size_t file_length);
+
+/* The lowest broken rule, 2 to 6, where tzb_full_check says -1047; else 0. */
+uint32_t tzb_full_check_rule(const uint8_t *file, size_t file_length);
 
 /* ---- parts, for comparison runs */
 

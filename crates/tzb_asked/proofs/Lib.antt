@@ -1,3 +1,4 @@
 -- What follows from the questions' promises.
 pub mod Many
+pub mod Zones
 pub mod Determined

@@ -20,6 +20,7 @@ use Rattle.tzb_c.proofs.tzb_listed.Reads as listed-reads
 use Rattle.tzb_c.proofs.tzb_candidate.Reads as candidate-reads
 use Rattle.tzb_c.proofs.tzb_contains.Reads as contains-reads
 use Rattle.tzb_c.proofs.tzb_decode.Reads as decode-reads
+use Rattle.tzb_c.proofs.tzb_lookup.Reads as lookup-reads
 use Rattle.tzb_c.proofs.tzb_ask.Reads as ask-reads
 use Rattle.tzb_c.proofs.tzb_ask_all.Reads as ask-all-reads
 use Rattle.tzb_c.proofs.tzb_full_check.Reads as full-check-reads
@@ -59,6 +60,9 @@ decode κ a r r' e e' p q = p .0 ∙ sym (q .0)
 -- the lent numbers at exit
 pub decode-memory : DeterminedMemory decode-reads.Learnt (λ κ e. e .1 .1 .1 .0 .now)
 decode-memory κ a r r' e e' p q = p .1 ∙ sym (q .1)
+
+pub lookup : Determined lookup-reads.Learnt
+lookup κ a r r' e e' p q = p ∙ sym q
 
 pub ask : Determined ask-reads.Learnt
 ask κ a r r' e e' p q = p ∙ sym q

@@ -5,21 +5,25 @@ use native.Mathlib.Omega.{arith}
 use mathlib.Core.Path.{_≡_, refl, sym, ap, _∙_}
 use mathlib.Core.List.{List}
 use lib.ListN.{length, take, getD}
+use lib.Ieee.{Float}
 use Rattle.answer.specs.declared.Refusal.{Refusal}
 use Rattle.answer.specs.declared.Checked.{Checked}
 use Rattle.answer.specs.declared.Checked.the-variants as C
 use Rattle.answer.specs.CheckLaws.{fine-claim, at-le}
 use Rattle.answer.specs.Answers.{Answer, ok, refused, _then_, _before_, then-ok}
+use Rattle.tzb_core.proofs.Decoded.{then-inv}
 use Rattle.reader_opened.specs.declared.Opened.{Opened}
-use Rattle.reader_opened.specs.Opened.{sectionsOf}
 use Rattle.reader_names.specs.Asked as N
 use Rattle.reader_names.proofs.Places.{bounds-good}
+use Rattle.reader_lookup.specs.Asking.{inZone, lookupOf}
 use Rattle.tzb_record.specs.Layout.{recordOf, roomFor, Held}
 use Rattle.tzb_record.proofs.RoundTrip.{written-back}
 use Rattle.tzb_record.proofs.Widths.{opened-held}
-use Rattle.tzb.specs.Opening.{openOf, openedIs, gridIs, tableCheck, contentsCheck}
-use Rattle.tzb_asked.specs.Asked.{nameAsked}
-use Rattle.tzb_c.specs.Opens.{openInto, keptIn, kept-is}
+use Rattle.tzb.specs.Opening.{openOf}
+use Rattle.tzb.proofs.Given.{opened-is, zones-few}
+use Rattle.tzb_asked.specs.Asked.{nameAsked, lookupAsked}
+use Rattle.tzb_asked.proofs.Zones.{found-below}
+use Rattle.tzb_c.specs.Opens.{openInto, keptIn, lookupOnce, kept-is}
 
 never : {A : Type 0} {B : Type 0} (a : A) (k : Refusal) → ok a ≡ refused k → B
 never a k e = let no : _≡_ {A = ℕ} 0 1 = cc in absurd (omega arith)
@@ -27,21 +31,9 @@ never a k e = let no : _≡_ {A = ℕ} 0 1 = cc in absurd (omega arith)
 -- a name that is given lies in the file
 pub name-inside : (b s : List ℕ) (zone from to : ℕ) → ok (from, to) ≡ nameAsked b s zone → (from ≤ to) × (to ≤ length s)
 unfolding nameAsked
-name-inside b s zone from to e = go (recordOf b) e
-  where
-    go : (x : Answer Opened) → ok (from, to) ≡ (x then λ o. N.boundsAt s (o .names .off) (o .zones .count) zone) → (from ≤ to) × (to ≤ length s)
-    go (ok o) f = bounds-good s (o .names .off) (o .zones .count) zone from to f
-    go (refused k) f = never _ _ f
-
--- what opening keeps, where it refuses nothing
-opened-as : (s : List ℕ) (o : Opened) → ok o ≡ openOf s → o ≡ openedIs s
-unfolding openOf
-opened-as s o e = go (tableCheck s) (contentsCheck s (sectionsOf s) (gridIs s) (openedIs s)) e
-  where
-    go : (a b : Checked) → ok o ≡ (a before (b before ok (openedIs s))) → o ≡ openedIs s
-    go C.Fine C.Fine f = cc
-    go C.Fine (C.Refused k) f = never _ _ f
-    go (C.Refused k) b f = never _ _ f
+name-inside b s zone from to e =
+    let t = then-inv (recordOf b) (λ o. N.boundsAt s (o .names .off) (o .zones .count) zone) (from, to) e in
+    bounds-good s (t .0 .names .off) (t .0 .zones .count) zone from to (t .2)
 
 -- opening into lent memory refuses nothing: neither does opening, and there was room
 into-opened : (s room : List ℕ) (o : Opened) → ok o ≡ openInto s room → ok o ≡ openOf s
@@ -67,9 +59,21 @@ module _ (s room : List ℕ) (byte : (i : ℕ) → getD s i 0 < 256) (o : Opened
   -- the first 84 bytes of that memory are read as opening's own record
   pub record-kept : ok o ≡ recordOf (take 84 (keptIn room (openInto s room)))
   record-kept =
-      let held : Held o = rw (opened-as s o (into-opened s room o opened)) (opened-held s byte) in
+      let held : Held o = rw (opened-is s o (into-opened s room o opened)) (opened-held s byte) in
       written-back o room held (into-room s room o opened) ∙ ap (λ (m : List ℕ). recordOf (take 84 m)) (kept-is room (openInto s room) o opened)
 
   -- so every question that is asked with them is asked of it
   pub asked-once : {A : Type 0} (f : Opened → Answer A) → (recordOf (take 84 (keptIn room (openInto s room))) then f) ≡ (openOf s then f)
   asked-once f = sym (then-ok _ f o record-kept) ∙ then-ok _ f o (into-opened s room o opened)
+
+  -- and the zone of a position is that of opening and asking at once
+  pub lookup-kept : (lng lat : Float) → lookupAsked (take 84 (keptIn room (openInto s room))) s lng lat ≡ lookupOnce s lng lat
+  unfolding lookupAsked lookupOnce
+  lookup-kept lng lat = asked-once (λ o. lookupOf o s lng lat)
+
+-- a zone of a file that was opened has a number below 65,535
+pub once-small : (s : List ℕ) (lng lat : Float) (zone : ℕ) → ok (inZone zone) ≡ lookupOnce s lng lat → zone < 65_535
+unfolding lookupOnce
+once-small s lng lat zone e =
+    let t = then-inv (openOf s) (λ o. lookupOf o s lng lat) (inZone zone) e in
+    omega (arith, found-below zone (t .0) s lng lat (t .2), zones-few s (t .0) (t .1))

@@ -1,13 +1,15 @@
--- Opening into lent memory: the record as bytes.
+-- Opening into lent memory, which keeps the record as bytes; and opening to ask once.
 -- Assumes nothing.
 use Prim.Native.Nat.{ℕ}
 use mathlib.Core.Path.{_≡_, refl, sym, ap, _∙_}
 use mathlib.Core.List.{List}
 use lib.IntN.{ℤ, pos}
+use lib.Ieee.{Float}
 use Rattle.answer.specs.declared.Refusal.{Refusal}
 use Rattle.answer.specs.declared.Checked.the-variants as C
 use Rattle.answer.specs.Answers.{Answer, ok, refused, _then_, _before_}
 use Rattle.reader_opened.specs.declared.Opened.{Opened}
+use Rattle.reader_lookup.specs.Asking.{Sought, lookupOf}
 use Rattle.tzb_record.specs.Layout.{recordOf, roomFor, written, written-not}
 use Rattle.tzb.specs.Opening.{openOf}
 use Rattle.tzb_c.specs.Exports.{refusalCode}
@@ -25,6 +27,10 @@ keptIn room (refused k) = room
 abbrev pub openCode : Answer Opened → ℤ
 openCode (ok o) = pos 0
 openCode (refused k) = refusalCode k
+
+-- opens and asks for the zone that a position lies in
+unfoldable pub lookupOnce : List ℕ → Float → Float → Answer Sought
+lookupOnce s lng lat = openOf s then λ o. lookupOf o s lng lat
 
 -- ---- laws
 -- opening into lent memory
@@ -55,3 +61,13 @@ module _ (room : List ℕ) (x : Answer Opened) where
 -- nothing is written where there is no room
 pub kept-full : (s room : List ℕ) (o : Opened) → ok o ≡ openOf s → (k : Refusal) → C.Refused k ≡ roomFor room → written o room ≡ keptIn room (openInto s room)
 kept-full s room o e k f = written-not o room k f ∙ kept-no room (openInto s room) k (open-full s room o e k f)
+
+-- opening to ask once
+module _ (s : List ℕ) (lng lat : Float) where
+  pub once-barred : (k : Refusal) → refused k ≡ openOf s → refused k ≡ lookupOnce s lng lat
+  unfolding lookupOnce
+  once-barred k e = rw (← e)
+
+  pub once-asked : (o : Opened) (x : Answer Sought) → ok o ≡ openOf s → x ≡ lookupOf o s lng lat → x ≡ lookupOnce s lng lat
+  unfolding lookupOnce
+  once-asked o x e g = rw (← e) g

@@ -11,8 +11,8 @@ ghost use Rattle.tzb_core.specs.Varint.{numberAt};
 ghost use Rattle.tzb_core.specs.Points.{point};
 ghost use Rattle.tzb_core.specs.Decode.{filled};
 ghost use Rattle.tzb.specs.FullCheck.{fullCheckOf, checkTold};
-ghost use Rattle.tzb_asked.specs.Asked.{verdictTold, zonesAsked, nameAsked, choiceAsked, candidateAsked, containsAsked, decodeAsked, lookupAsked, listAsked, listed, howMany};
-ghost use Rattle.tzb_c.specs.Opens.{openInto, keptIn, openCode};
+ghost use Rattle.tzb_asked.specs.Asked.{verdictTold, foundTold, zonesAsked, nameAsked, choiceAsked, candidateAsked, containsAsked, decodeAsked, lookupAsked, listAsked, listed, howMany};
+ghost use Rattle.tzb_c.specs.Opens.{openInto, keptIn, openCode, lookupOnce};
 ghost use Rattle.tzb_c.specs.Exports.{bitOf, refusalCode, numberCode, startCode, endCode, kindCode, listedOf, insideCode, zoneCode, checkCode, ruleOf, numberOf, lengthFrom, boxOf, pointOf, placeOf, seenCode};
 use answer::Checked;
 use answer::Refusal;
@@ -187,7 +187,30 @@ pub extern "C" fn tzb_decode(record: &[u8], file: &[u8], chunk: u32, out: &mut [
     }
 }
 
-// The zone that a position lies in, in degrees: its number, -1 for none, -1000 - n for refusal n.
+fn lookup_once(file: &[u8], lng: f64, lat: f64) -> Found
+    ensures { λ r. ⌜ foundTold r ≡ lookupOnce (now (file .entry)) lng lat ⌝ }
+{
+    let a = tzb::open(file);
+    match a {
+        Opening::Refused(k) => Found::Refused(k),
+        Opening::Done(o) => tzb::lookup(o, file, lng, lat),
+    }
+}
+
+// Opens the file and asks for the zone that a position lies in, in degrees: its number, -1 for none, -1000 - n for refusal n.
+#[no_mangle]
+pub extern "C" fn tzb_lookup(file: &[u8], lng: f64, lat: f64) -> i32
+    ensures { λ r. ⌜ r ≡ zoneCode (lookupOnce (now (file .entry)) lng lat) ⌝ }
+{
+    let a = lookup_once(file, lng, lat);
+    match a {
+        Found::None => -1,
+        Found::Zone(zone) => zone as i32,
+        Found::Refused(k) => refusal_code(k),
+    }
+}
+
+// The same with the record, once the file was opened: its number, -1 for none, -1000 - n for refusal n.
 #[no_mangle]
 pub extern "C" fn tzb_ask(record: &[u8], file: &[u8], lng: f64, lat: f64) -> i64
     ensures { λ r. ⌜ r ≡ zoneCode (lookupAsked (now («record» .entry)) (now (file .entry)) lng lat) ⌝ }

@@ -7,10 +7,11 @@ pub mod questions;
 use super::files::DIFFERENCE;
 use crate::file::damage::Aim;
 use crate::file::{self, smaller};
+use crate::port;
 use crate::random::Random;
 use crate::rules::{self, full_check};
 use crate::voice::Question;
-use ask::{Difference, Panel};
+use ask::Panel;
 use met::Met;
 use std::path::Path;
 use std::time::{Duration, Instant};
@@ -34,10 +35,14 @@ pub fn run(seconds: u64, seed: u64) {
         let file = draft.lay();
         assert_eq!(full_check(&file), Ok(()), "a file of the builder");
         judge(&mut met, &file, MANY);
+        let cut = random.below(file.len());
+        judge_otherwise(&mut met, &file, &file[..cut]);
         let aim = Aim::at_geometry(&file);
         for _ in 0..40 {
             let damages = 1 + random.below(2);
-            judge(&mut met, &aim.damage(&mut random, &file, damages), FEW);
+            let damaged = aim.damage(&mut random, &file, damages);
+            judge(&mut met, &damaged, FEW);
+            judge_otherwise(&mut met, &file, &damaged);
         }
     }
     met.make_small();
@@ -65,8 +70,11 @@ fn fixed(met: &mut Met) {
     file::kinds().iter().for_each(|file| judge(met, file, MANY));
 }
 
-/// Puts all questions to a file that all voices open.
+/// Holds the port's full check against the rules, then puts all questions to a file that all voices open.
 fn judge(met: &mut Met, file: &[u8], most: usize) {
+    if let Some(difference) = checks_differ(file) {
+        stop(file, &difference, checks_differ);
+    }
     let Some(panel) = Panel::of(file) else {
         met.passed_over += 1;
         return;
@@ -74,17 +82,38 @@ fn judge(met: &mut Met, file: &[u8], most: usize) {
     met.add_file(panel.broken);
     match panel.ask_all(questions::of(panel.opened(), most)) {
         Ok(outcome) => met.add(file, outcome),
-        Err(difference) => stop(file, difference, most),
+        Err(difference) => {
+            stop(file, &difference.to_string(), |file| differs(&Panel::of(file)?, most))
+        }
     }
 }
 
+/// Puts questions to the file's record with other bytes.
+fn judge_otherwise(met: &mut Met, file: &[u8], lent: &[u8]) {
+    let panel = Panel::with_other_bytes(file, lent).expect("a file that opens");
+    match panel.ask_all(questions::of(panel.opened(), FEW)) {
+        Ok(outcome) => met.otherwise += outcome.questions,
+        Err(difference) => stop(lent, &difference.to_string(), |lent| {
+            differs(&Panel::with_other_bytes(file, lent)?, FEW)
+        }),
+    }
+}
+
+fn differs(panel: &Panel, most: usize) -> Option<String> {
+    let difference = panel.ask_all(questions::of(panel.opened(), most)).err()?;
+    Some(difference.to_string())
+}
+
+/// What the port's full check says and what the rules say, where that differs.
+fn checks_differ(file: &[u8]) -> Option<String> {
+    let port = port::asking::full_check(file);
+    let rules = full_check(file).err().map_or((0, 0), |broken| (broken.number, broken.rule));
+    (port != rules).then(|| format!("full check: the port says {port:?}, the rules {rules:?}"))
+}
+
 /// Prints a difference that is not on the list, made small, and ends the run.
-fn stop(file: &[u8], difference: Difference, most: usize) -> ! {
-    println!("found: {difference}, in a file of {} bytes", file.len());
-    let differs = |file: &[u8]| {
-        let panel = Panel::of(file)?;
-        panel.ask_all(questions::of(panel.opened(), most)).err()
-    };
+fn stop(file: &[u8], found: &str, differs: impl Fn(&[u8]) -> Option<String>) -> ! {
+    println!("found: {found}, in a file of {} bytes", file.len());
     let small = match file.len() {
         0..5000 => super::smallest(file.to_vec(), |f| smaller::files(f), |f| differs(f).is_some()),
         _ => file.to_vec(),
@@ -105,13 +134,16 @@ pub fn one(path: &Path, seconds: u64, seed: u64) {
     println!("seed {seed}, {} for {seconds} s", path.display());
     let file = std::fs::read(path).expect("the file");
     println!("the full check says {:?}", full_check(&file));
+    if let Some(difference) = checks_differ(&file) {
+        stop(&file, &difference, |_| None);
+    }
     let panel = Panel::of(&file).expect("a file that opens");
     let opened = *panel.opened();
     let mut met = Met::default();
     met.add_file(panel.broken);
     let mut ask = |all: Vec<Question>| match panel.ask_all(all) {
         Ok(outcome) => met.add(&file, outcome),
-        Err(difference) => stop(&file, difference, 0),
+        Err(difference) => stop(&file, &difference.to_string(), |_| None),
     };
     ask((0..opened.chunks() as u32 + 1).map(|i| Question::Decode(i, u64::MAX)).collect());
     let judge = rules::Judge { opened, original: &[] };

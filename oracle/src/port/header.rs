@@ -15,6 +15,8 @@ fn parameter(text: &str) -> String {
     match kind.trim() {
         "&[u8]" => format!("const uint8_t *{name}, size_t {name}_length"),
         "&mut [u8]" => format!("uint8_t *{name}, size_t {name}_length"),
+        "&mut [i32]" => format!("int32_t *{name}, size_t {name}_length"),
+        "&mut [u32]" => format!("uint32_t *{name}, size_t {name}_length"),
         plain => format!("{} {name}", c_type(plain)),
     }
 }

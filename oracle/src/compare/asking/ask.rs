@@ -3,6 +3,7 @@
 use crate::exact::Exact;
 use crate::known::{EVERY, OF_ASKING};
 use crate::original;
+use crate::port;
 use crate::rules::{self, Departure, Judge, Opened, Said};
 use crate::voice::{Answer, Question, Voice};
 use std::fmt;
@@ -91,11 +92,20 @@ impl<'a> Panel<'a> {
         };
         let mut panel = Self { opened, speakers: Vec::new(), exact, broken };
         panel.let_speak("the original", original, &EVERY);
+        panel.let_speak("the port", port::asking::open(file).ok()?, &[]);
+        Some(panel)
+    }
+
+    /// A file's record asked with other bytes. The original's reader owns its bytes, so only the port speaks.
+    pub fn with_other_bytes(file: &'a [u8], lent: &'a [u8]) -> Option<Self> {
+        let opened = rules::open(file, &[]).ok()?.asked_with(lent);
+        let mut panel = Self { opened, speakers: Vec::new(), exact: None, broken: None };
+        panel.let_speak("the port", port::asking::open(file).ok()?.asked_with(lent), &[]);
         Some(panel)
     }
 
     /// A further voice, with the departures by which the rules judge it: for the port none.
-    pub fn let_speak(
+    fn let_speak(
         &mut self,
         name: &'static str,
         voice: impl Voice + 'a,

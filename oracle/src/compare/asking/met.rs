@@ -17,6 +17,8 @@ pub struct Met {
     /// By the lowest broken rule, 0 where the full check accepts.
     files: BTreeMap<u32, u64>,
     questions: u64,
+    /// Those put to a record with other bytes.
+    pub otherwise: u64,
     exact: u64,
     answers: BTreeMap<(&'static str, String), u64>,
     known: [Smallest; OF_ASKING.len()],
@@ -104,7 +106,8 @@ impl Met {
         }
         println!("{:>12}  files passed over: a side does not open them", self.passed_over);
         println!("{:>12}  questions", self.questions);
-        println!("{:>12}  of them held against exact geometry", self.exact);
+        println!("{:>12}  more, put to a record with other bytes", self.otherwise);
+        println!("{:>12}  of the first held against exact geometry", self.exact);
         for ((kind, answer), count) in &self.answers {
             println!("{count:>12}  {kind}: {answer}");
         }
