@@ -66,11 +66,6 @@ pub fn open_into(file: &[u8], room: usize) -> Said<Vec<u8>> {
     said(code.into()).map(|_| lent[..SIZE].to_vec())
 }
 
-/// The opened record, as the port's bytes.
-fn record(file: &[u8]) -> Said<Vec<u8>> {
-    open_into(file, SIZE)
-}
-
 /// Opens into more room than it takes, and into a byte too few.
 pub fn open(file: &[u8]) -> Said<i64> {
     let record = open_into(file, SIZE + 8);
@@ -89,30 +84,43 @@ pub unsafe extern "C" fn refusal(file: *const u8, length: usize) -> u32 {
     said(code.into()).err().unwrap_or(0)
 }
 
-pub fn name(file: &[u8], zone: u32) -> Said<(u64, u64)> {
-    let record = record(file)?;
-    let (r, size, f, length) = (record.as_ptr(), record.len(), file.as_ptr(), file.len());
-    let start = said(unsafe { tzb_name_start(r, size, f, length, zone) })?;
-    let end = said(unsafe { tzb_name_end(r, size, f, length, zone) })?;
-    Ok((start as u64, (end - start) as u64))
+/// A file that the port has opened: its record, asked with the file's bytes.
+pub struct Opened<'a> {
+    record: Vec<u8>,
+    file: &'a [u8],
 }
 
-pub fn candidates(file: &[u8], lng: f64, lat: f64) -> Said<Candidates> {
-    let record = record(file)?;
-    let (r, size, f, length) = (record.as_ptr(), record.len(), file.as_ptr(), file.len());
-    let kind = said(unsafe { tzb_choice(r, size, f, length, lng, lat) }.into())?;
-    let listed = unsafe { tzb_listed(r, size, f, length, lng, lat) };
-    let (count, offset) = (listed >> 32, listed & 0xffff_ffff);
-    match kind {
-        0 => Ok(Candidates::Nothing),
-        1 => Ok(Candidates::EveryZone),
-        _ if count == 0 => Ok(Candidates::Nothing),
-        _ => Ok(Candidates::Cell { count, offset }),
+pub fn opened(file: &[u8]) -> Said<Opened<'_>> {
+    open_into(file, SIZE).map(|record| Opened { record, file })
+}
+
+impl Opened<'_> {
+    fn lent(&self) -> (*const u8, usize, *const u8, usize) {
+        (self.record.as_ptr(), self.record.len(), self.file.as_ptr(), self.file.len())
     }
-}
 
-pub fn candidate(file: &[u8], place: u32) -> Said<u64> {
-    let record = record(file)?;
-    let (r, size, f, length) = (record.as_ptr(), record.len(), file.as_ptr(), file.len());
-    said(unsafe { tzb_candidate(r, size, f, length, place) }).map(|zone| zone as u64)
+    pub fn name(&self, zone: u32) -> Said<(u64, u64)> {
+        let (r, size, f, length) = self.lent();
+        let start = said(unsafe { tzb_name_start(r, size, f, length, zone) })?;
+        let end = said(unsafe { tzb_name_end(r, size, f, length, zone) })?;
+        Ok((start as u64, (end - start) as u64))
+    }
+
+    pub fn candidates(&self, lng: f64, lat: f64) -> Said<Candidates> {
+        let (r, size, f, length) = self.lent();
+        let kind = said(unsafe { tzb_choice(r, size, f, length, lng, lat) }.into())?;
+        let listed = unsafe { tzb_listed(r, size, f, length, lng, lat) };
+        let (count, offset) = (listed >> 32, listed & 0xffff_ffff);
+        match kind {
+            0 => Ok(Candidates::Nothing),
+            1 => Ok(Candidates::EveryZone),
+            _ if count == 0 => Ok(Candidates::Nothing),
+            _ => Ok(Candidates::Cell { count, offset }),
+        }
+    }
+
+    pub fn candidate(&self, place: u32) -> Said<u64> {
+        let (r, size, f, length) = self.lent();
+        said(unsafe { tzb_candidate(r, size, f, length, place) }).map(|zone| zone as u64)
+    }
 }

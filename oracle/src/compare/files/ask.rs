@@ -86,64 +86,36 @@ fn of_original(side: &original::opening::Opened, rules: &Opened) -> Result<u64, 
     Ok(count)
 }
 
-/// The port opens the file anew for each question: all are put to one file in five hundred, and to the others a few.
-fn is_asked_all(file: &[u8]) -> bool {
-    file.iter().map(|&byte| u32::from(byte)).sum::<u32>() % 500 == 7
-}
-
-/// Where opening refuses, a question gives opening's number.
+/// Where the file opens, it is opened once and asked all.
 fn of_port(file: &[u8], document: &Said<Opened>) -> Result<u64, String> {
+    let (Ok(rules), Ok(side)) = (document, port::opening::opened(file)) else { return Ok(0) };
     let mut count = 0;
-    let rules = match document {
-        Ok(rules) => rules,
-        Err(n) => {
-            if is_asked_all(file) {
-                same("name: the port says", port::opening::name(file, 0), Err(*n))?;
-                same(
-                    "candidates: the port says",
-                    port::opening::candidates(file, 0.5, 0.5),
-                    Err(*n),
-                )?;
-                same("candidate: the port says", port::opening::candidate(file, 0), Err(*n))?;
-                return Ok(3);
-            }
-            return Ok(0);
-        }
-    };
-    if !is_asked_all(file) {
-        same("name: the port says", port::opening::name(file, 0), rules.name(0))?;
-        same("candidate: the port says", port::opening::candidate(file, 0), rules.candidate(0))?;
-        return Ok(2);
-    }
     for zone in numbers(rules.zones) {
-        same("name: the port says", port::opening::name(file, zone), rules.name(zone.into()))?;
+        same("name: the port says", side.name(zone), rules.name(zone.into()))?;
         count += 1;
     }
     for place in numbers(rules.candidate_total()) {
         let by_rules = rules.candidate(place.into());
-        same("candidate: the port says", port::opening::candidate(file, place), by_rules)?;
+        same("candidate: the port says", side.candidate(place), by_rules)?;
         count += 1;
     }
     for (lng, lat) in positions(rules) {
         let by_rules = rules.candidates(lng, lat);
-        same("candidates: the port says", port::opening::candidates(file, lng, lat), by_rules)?;
+        same("candidates: the port says", side.candidates(lng, lat), by_rules)?;
         count += 1;
     }
     Ok(count)
 }
 
-/// How many questions of each kind the port is asked of a large file: it opens it anew for each.
-const OF_PORT: usize = 2000;
-
 /// All that there is to ask of a large file that opens.
 pub fn all_of(file: &[u8], tally: &mut Tally) -> Result<(), String> {
     let Ok(rules) = rules::open(file, &[]) else { return Ok(()) };
     let Ok(side) = original::opening::open(file) else { return Ok(()) };
-    let every = |total: u64| (total as usize).div_ceil(OF_PORT);
+    let port = port::opening::opened(file).map_err(|n| format!("opening: the port says {n}"))?;
     for zone in 0..rules.zones {
         same("name: the original says", side.name(zone as u32), rules.name(zone))?;
         tally.add("names", 1);
-        same("name: the port says", port::opening::name(file, zone as u32), rules.name(zone))?;
+        same("name: the port says", port.name(zone as u32), rules.name(zone))?;
         tally.add("names, port", 1);
     }
     let total = rules.candidate_total();
@@ -151,23 +123,17 @@ pub fn all_of(file: &[u8], tally: &mut Tally) -> Result<(), String> {
         let by_rules = rules.candidate(place);
         same("candidate: the original says", side.candidate(place as u32), by_rules)?;
         tally.add("places of the candidates", 1);
-        if place as usize % every(total) == 0 || place >= total {
-            let port = port::opening::candidate(file, place as u32);
-            same("candidate: the port says", port, by_rules)?;
-            tally.add("places of the candidates, port", 1);
-        }
+        same("candidate: the port says", port.candidate(place as u32), by_rules)?;
+        tally.add("places of the candidates, port", 1);
     }
     let mut random = Random::new(6);
-    for i in 0..200_000 {
+    for _ in 0..200_000 {
         let (lng, lat) = position(&mut random);
         let by_rules = rules.candidates(lng, lat);
         same("candidates: the original says", side.candidates(lng, lat), by_rules)?;
         tally.add("positions", 1);
-        if i < OF_PORT {
-            let port = port::opening::candidates(file, lng, lat);
-            same("candidates: the port says", port, by_rules)?;
-            tally.add("positions, port", 1);
-        }
+        same("candidates: the port says", port.candidates(lng, lat), by_rules)?;
+        tally.add("positions, port", 1);
     }
     Ok(())
 }
