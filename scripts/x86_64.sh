@@ -22,10 +22,9 @@ fail() {
 setup() {
   wanted=
   here cargo || wanted=cargo-web
-  dpkg --add-architecture amd64
-  apt-get update -qq
-  apt-get install -y --no-install-recommends $wanted rustc-web libstd-rust-web-dev:amd64 \
-    gcc-x86-64-linux-gnu libc6-dev-amd64-cross qemu-user libc6:amd64 libgcc-s1:amd64
+  dpkg --add-architecture amd64 && apt-get update -qq &&
+    apt-get install -y --no-install-recommends $wanted rustc-web libstd-rust-web-dev:amd64 \
+      gcc-x86-64-linux-gnu libc6-dev-amd64-cross qemu-user libc6:amd64 libgcc-s1:amd64
 }
 
 # Whether a program can be built for x86-64 and run.
@@ -35,7 +34,7 @@ equipped() {
     here cc
   else
     here x86_64-linux-gnu-gcc && here qemu-x86_64 && [ -e /lib64/ld-linux-x86-64.so.2 ] &&
-      debian_rust rustc >/dev/null 2>&1
+      debian_rust rustc >/dev/null 2>&1 && dpkg -L libstd-rust-web-dev:amd64 >/dev/null 2>&1
   fi
 }
 
@@ -55,6 +54,7 @@ ready() {
     fail 'The x86-64 Rust and the emulator could not be installed.'
   fi
   rm -f "$log"
+  equipped || fail 'All was installed, and still something is missing: one of cargo, rustc-web, libstd-rust-web-dev:amd64, x86_64-linux-gnu-gcc, qemu-x86_64.'
 }
 
 case $task in
