@@ -84,10 +84,19 @@ fn names_and_what_the_file_says_of_itself() {
     let grid = index.grid().unwrap();
     assert_eq!((grid.lng, grid.lat, grid.columns, grid.rows), (-180, -90, 361, 181));
     let sections: Vec<_> = index.sections().map(|s| (s.name().unwrap(), s.records())).collect();
-    assert_eq!(sections.len(), 9);
-    assert_eq!(sections[1], ("TZDIR", Some(481)));
-    assert_eq!(sections[6], ("CHUNKDIR", Some(5408)));
-    assert_eq!(sections[7], ("GRID", None));
+    // The lengths in the file's table, over document 01's record sizes: 24, 24, 28, 4, 44 and 24 bytes.
+    let expected = [
+        ("NAMES", None),
+        ("TZDIR", Some(11_544 / 24)),
+        ("POLYDIR", Some(100_944 / 24)),
+        ("RINGDIR", Some(118_776 / 28)),
+        ("RINGOPS", Some(23_712 / 4)),
+        ("GROUPDIR", Some(221_364 / 44)),
+        ("CHUNKDIR", Some(129_792 / 24)),
+        ("GRID", None),
+        ("POINTS", None),
+    ];
+    assert_eq!(sections, expected);
 }
 
 #[test]
