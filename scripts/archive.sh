@@ -23,7 +23,7 @@ mkdir -p target
 {
   rt staticlib tzb_c 2>&1
   echo $? >$log.status
-} | tee $log | grep --line-buffered '^rt: .* proved' >&2
+} | tee $log | grep --line-buffered '^rt: .* proved ([0-9]* s)' >&2
 if [ "$(cat $log.status)" != 0 ]; then
   tail -n 20 $log >&2
   echo "The reader was not proved; $log has all that was said." >&2

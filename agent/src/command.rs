@@ -94,12 +94,11 @@ fn tell(
     numbered: bool,
     out: &mut impl Write,
 ) -> io::Result<Status> {
-    if found.is_empty() {
+    if found.status() == Status::No {
         say(&format_args!("no zone at {position}"));
-        return Ok(Status::No);
     }
     found.write_lines(out, numbered)?;
-    Ok(Status::Answered)
+    Ok(found.status())
 }
 
 /// The verdict of the full check is an answer too, so it goes to standard output either way.

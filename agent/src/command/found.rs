@@ -3,12 +3,13 @@
 use std::fmt::{self, Write as _};
 use std::io::{self, Write};
 
+use super::failure::Status;
 use super::position::Position;
 use super::words::Task;
 use tzb::{Index, Refusal};
 
 /// Zones with their names, in the order in which they are written.
-#[derive(Debug)]
+#[derive(Debug, Default)]
 pub struct Found<'a>(Vec<(u32, &'a str)>);
 
 impl<'a> Found<'a> {
@@ -29,8 +30,9 @@ impl<'a> Found<'a> {
         named.collect::<Result<_, _>>().map(Self)
     }
 
-    pub fn is_empty(&self) -> bool {
-        self.0.is_empty()
+    /// Whether a position has a zone.
+    pub fn status(&self) -> Status {
+        if self.0.is_empty() { Status::No } else { Status::Answered }
     }
 
     /// A line for each zone.

@@ -22,19 +22,11 @@ pub fn answer<'a>(
     let mut number = 0;
     while next_line(&mut input, &mut line, out)? {
         number += 1;
-        let (answer, met) = match answer_line(&line, &ask) {
-            Ok(found) if found.is_empty() => (Some(found), Status::No),
-            Ok(found) => (Some(found), Status::Answered),
-            Err((why, met)) => {
-                progress.say(&format_args!("line {number}: {why}"));
-                (None, met)
-            }
-        };
-        match answer {
-            Some(found) => found.write_line(out, numbered),
-            None => writeln!(out),
-        }
-        .map_err(Failure::Output)?;
+        let (found, met) = answer_line(&line, &ask).unwrap_or_else(|(why, met)| {
+            progress.say(&format_args!("line {number}: {why}"));
+            (Found::default(), met)
+        });
+        found.write_line(out, numbered).map_err(Failure::Output)?;
         status = status.max(met);
         progress.at(number);
     }
@@ -42,14 +34,16 @@ pub fn answer<'a>(
     Ok(status)
 }
 
-/// The zones of one line, or what to say of it.
+/// The zones of one line, or what to say of it; with the status.
 fn answer_line<'a>(
     line: &[u8],
     ask: &impl Fn(Position) -> Result<Found<'a>, Refusal>,
-) -> Result<Found<'a>, (String, Status)> {
+) -> Result<(Found<'a>, Status), (String, Status)> {
     let text = String::from_utf8_lossy(line);
     let position = Position::read(&text).map_err(|why| (why.to_string(), Status::Mistaken))?;
-    ask(position).map_err(|refusal| (refusal.to_string(), Status::No))
+    let found = ask(position).map_err(|refusal| (refusal.to_string(), Status::No))?;
+    let status = found.status();
+    Ok((found, status))
 }
 
 /// Reads a line, without its end. Whoever waits for answers gets them all before this waits for input.
