@@ -22,7 +22,7 @@ oracle compare file FILE.tzb
 oracle compare asking [SECONDS [SEED]]
 oracle compare asking FILE.tzb [SECONDS [SEED]]
 oracle lists FOLDER
-oracle bench [FILE.tzb]";
+oracle bench [FILE.tzb [ROWS]]";
 
 fn main() {
     let words: Vec<String> = std::env::args().skip(1).collect();
@@ -38,8 +38,9 @@ fn main() {
         ["compare", seconds] => compare::run(number(seconds), random::fresh_seed()),
         ["compare", seconds, seed] => compare::run(number(seconds), number(seed)),
         ["lists", folder] => lists::write(folder.as_ref()),
-        ["bench"] => bench::run(None),
-        ["bench", file] => bench::run(Some(file.as_ref())),
+        ["bench"] => bench::run(None, ""),
+        ["bench", file] => bench::run(Some(file.as_ref()), ""),
+        ["bench", file, rows] => bench::run(Some(file.as_ref()), rows),
         _ => usage(),
     }
 }
