@@ -33,7 +33,7 @@ impl<'a> Index<'a> {
     /// Opens a file: looks at its header, sections, names, grid, chunks and groups, and at its checksum.
     ///
     /// Opening does not look at every record and point. [`full_check`](crate::full_check) does, and on a file that it
-    /// accepts no question is refused.
+    /// accepts no question is refused but for a number that is too large.
     ///
     /// # Errors
     /// Refusals 1 to 34, the first that applies.
