@@ -7,6 +7,7 @@ mod exact;
 mod file;
 mod known;
 mod lists;
+mod load;
 mod original;
 mod port;
 mod random;
@@ -21,6 +22,7 @@ oracle compare files [SECONDS [SEED]]
 oracle compare file FILE.tzb
 oracle compare asking [SECONDS [SEED]]
 oracle compare asking FILE.tzb [SECONDS [SEED]]
+oracle load [INPUTS [SEED]] [--from NUMBER]
 oracle lists FOLDER
 oracle bench [FILE.tzb]";
 
@@ -37,6 +39,8 @@ fn main() {
         ["compare", "file", file] => compare::files::one(file.as_ref()),
         ["compare", seconds] => compare::run(number(seconds), random::fresh_seed()),
         ["compare", seconds, seed] => compare::run(number(seconds), number(seed)),
+        ["load", ref rest @ .., "--from", from] => load_from(rest, number(from)),
+        ["load", ref rest @ ..] => load_from(rest, 0),
         ["lists", folder] => lists::write(folder.as_ref()),
         ["bench"] => bench::run(None),
         ["bench", file] => bench::run(Some(file.as_ref())),
@@ -52,6 +56,16 @@ fn asking(one: &str, rest: &[&str]) {
     }
     let seconds = rest.first().map_or(60, |w| number(w));
     compare::asking::one(one.as_ref(), seconds, seed(rest.get(1)));
+}
+
+/// [INPUTS [SEED]], from this number on.
+fn load_from(rest: &[&str], from: u64) {
+    match *rest {
+        [] => load::run(load::MANY, random::fresh_seed(), from),
+        [inputs] => load::run(number(inputs), random::fresh_seed(), from),
+        [inputs, seed] => load::run(number(inputs), number(seed), from),
+        _ => usage(),
+    }
 }
 
 fn number(word: &str) -> u64 {
