@@ -73,7 +73,7 @@ impl Caller {
     fn opening(&mut self, input: &Input, (f, length): Slice) -> Result<Option<Vec<u8>>, String> {
         let Input { lng, lat, guard, .. } = *input;
         let room = input.rooms[0];
-        let lent = self.rooms[0].lend(room, input.at_end[3], guard);
+        let lent = self.rooms[0].lend(room, input.at_end[3], guard)?;
         let code = unsafe { (self.call(Export::Open).open)(f, length, lent, room) };
         let said = self.said(Export::Open, code.into(), 0, 0)?;
         hold(said.is_none() || room >= SIZE, || "opened without room".to_string())?;
@@ -135,7 +135,7 @@ impl Caller {
         let is = unsafe { export(r, size, f, length, zone, x, y) };
         self.said(Export::Contains, is.into(), 0, 1)?;
 
-        let out = self.rooms[1].lend(4 * room, input.at_end[4], guard).cast();
+        let out = self.rooms[1].lend(4 * room, input.at_end[4], guard)?.cast();
         let export = self.call(Export::Decode).decode;
         let points = unsafe { export(r, size, f, length, chunk, out, room) };
         let said = self.said(Export::Decode, points, 0, room as i64 / 2)?;
@@ -144,7 +144,7 @@ impl Caller {
         let found = unsafe { (self.call(Export::Ask).ask)(r, size, f, length, lng, lat) };
         self.said(Export::Ask, found, -1, u32::MAX.into())?;
 
-        let out = self.rooms[2].lend(4 * places, input.at_end[5], guard).cast();
+        let out = self.rooms[2].lend(4 * places, input.at_end[5], guard)?.cast();
         let export = self.call(Export::AskAll).ask_all;
         let zones = unsafe { export(r, size, f, length, lng, lat, out, places) };
         let said = self.said(Export::AskAll, zones, 0, places as i64)?;

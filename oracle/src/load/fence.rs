@@ -104,10 +104,12 @@ impl Room {
         unsafe { std::slice::from_raw_parts_mut(self.pages.own, self.pages.size) }
     }
 
-    pub fn lend(&mut self, length: usize, at_end: bool, guard: u64) -> *mut u8 {
+    /// Lends so many bytes. Since the last time nobody may have written there.
+    pub fn lend(&mut self, length: usize, at_end: bool, guard: u64) -> Result<*mut u8, String> {
+        self.take(0)?;
         self.fill(guard);
         self.place = self.pages.place(length, at_end);
-        unsafe { self.pages.lent.add(self.place) }
+        Ok(unsafe { self.pages.lent.add(self.place) })
     }
 
     /// Takes the first bytes of what was lent. All others must be as they were, also those around it.

@@ -8,6 +8,7 @@ use crate::random::Random;
 use crate::rules;
 use crate::scene::{self, Scene};
 use std::fmt;
+use std::ops::Range;
 
 /// The kinds of lent files, in the order of `Kind`.
 pub const KINDS: [&str; 8] = [
@@ -105,12 +106,13 @@ impl fmt::Debug for Input {
     }
 }
 
-/// A valid file with its record, the fields to damage, and points of it.
+/// A valid file with its record, the fields to damage, points of it, and where they stand.
 struct Made {
     file: Vec<u8>,
     record: Vec<u8>,
     aim: Aim,
     points: Vec<(i32, i32)>,
+    stored: Range<usize>,
 }
 
 /// So many inputs in a row are made from the same valid files, and so many files these are.
@@ -145,7 +147,9 @@ impl Made {
         let points = (0..chunks).flat_map(|i| opened.readable(i)).map(whole).collect();
         let record = port::opening::open_into(&file, port::opening::SIZE);
         let record = record.expect("a file of the builder");
-        Self { aim: Aim::at(&file), file, record, points }
+        let section = file::entries(&file).into_iter().find(|entry| entry[0] == file::POINTS);
+        let [_, off, len] = section.unwrap().map(|n| n as usize);
+        Self { aim: Aim::at(&file), file, record, points, stored: off..off + len }
     }
 }
 
@@ -287,12 +291,12 @@ fn lent_file(random: &mut Random, kind: Kind, made: &Made) -> Vec<u8> {
             repair(&mut file);
         }
         Kind::Repaired => {
-            damage(random, &made.aim, &mut file);
+            damage(random, made, &mut file);
             repair(&mut file);
         }
-        Kind::Damaged => damage(random, &made.aim, &mut file),
+        Kind::Damaged => damage(random, made, &mut file),
         Kind::Beheaded => {
-            damage(random, &made.aim, &mut file);
+            damage(random, made, &mut file);
             file[random.pick(&DECIDING)] ^= 1 << random.below(8);
         }
         Kind::Cut => {
@@ -335,14 +339,20 @@ fn table(random: &mut Random, file: &mut [u8]) {
     }
 }
 
-/// One to five fields or bytes.
-fn damage(random: &mut Random, aim: &Aim, file: &mut [u8]) {
+/// One to five fields, bytes, or runs of the bytes at which numbers turn among the points.
+fn damage(random: &mut Random, made: &Made, file: &mut [u8]) {
     for _ in 0..1 + random.below(5) {
-        if random.below(5) == 0 {
-            let at = random.below(file.len());
-            file[at] = random.byte();
-        } else {
-            aim.hit(random, file);
+        match random.below(6) {
+            0 => {
+                let at = random.below(file.len());
+                file[at] = random.byte();
+            }
+            1 => {
+                let at = made.stored.start + random.below(made.stored.len());
+                let end = made.stored.end.min(at + 1 + random.below(8));
+                file[at..end].iter_mut().for_each(|b| *b = random.pick(&bytes::OF_NUMBERS));
+            }
+            _ => made.aim.hit(random, file),
         }
     }
 }

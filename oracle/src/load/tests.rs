@@ -44,8 +44,8 @@ fn as_a_child() {
             "read behind none" => _ = lent.put(&none, true).0.read_volatile(),
             "read before" => _ = lent.put(&bytes, false).0.sub(1).read_volatile(),
             "write to what may be read" => lent.put(&bytes, false).0.cast_mut().write_volatile(1),
-            "write behind" => room.lend(84, true, 5).add(84).write_volatile(1),
-            "write before" => room.lend(84, false, 5).sub(1).write_volatile(1),
+            "write behind" => room.lend(84, true, 5).unwrap().add(84).write_volatile(1),
+            "write before" => room.lend(84, false, 5).unwrap().sub(1).write_volatile(1),
             "sum" => run(Exports { crc32: sum_that_reads_one_behind, ..PORT }),
             "count" => run(Exports { zone_count: count_that_writes, ..PORT }),
             "text" => run(Exports { utf8: text_without_end, ..PORT }),
@@ -71,7 +71,7 @@ fn up_to_the_fences_all_may_be_touched() {
         for length in [1, 84, PAGE] {
             let (from, _) = lent.put(&vec![7; length], at_end);
             assert_eq!(unsafe { from.read_volatile() + from.add(length - 1).read_volatile() }, 14);
-            let to = room.lend(length, at_end, 5);
+            let to = room.lend(length, at_end, 5).unwrap();
             unsafe { to.write_bytes(9, length) };
             assert_eq!(room.take(length), Ok(vec![9; length]));
         }
@@ -80,17 +80,17 @@ fn up_to_the_fences_all_may_be_touched() {
 
 #[test]
 fn a_room_tells_what_changed() {
-    let mut room = Room::new();
-    let lent = room.lend(100, true, 0x0102_0304_0506_0708);
-    assert_eq!(room.take(0), Ok(Vec::new()));
-    unsafe { lent.write_bytes(9, 84) };
-    assert_eq!(room.take(84), Ok(vec![9; 84]));
     for at in [-1isize, 0, 83, 84, 99] {
-        let lent = room.lend(100, true, at as u64);
+        let mut room = Room::new();
+        let lent = room.lend(100, true, 0x0102_0304_0506_0708).unwrap();
         unsafe { *lent.offset(at) ^= 1 };
         assert_eq!(room.take(84).is_ok(), (0..84).contains(&at), "byte {at}");
-        unsafe { *lent.offset(at) = room.lend(100, true, at as u64 + 1).read() };
     }
+    let mut room = Room::new();
+    let lent = room.lend(100, false, 5).unwrap();
+    assert_eq!(room.take(0), Ok(Vec::new()));
+    unsafe { *lent.add(200) ^= 1 };
+    assert!(room.lend(100, false, 5).is_err(), "a byte that changed between two calls");
 }
 
 #[test]
