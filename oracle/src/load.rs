@@ -20,11 +20,24 @@ const LIMIT: u64 = 20;
 /// After so many inputs the number is printed.
 const STEP: u64 = 500_000;
 
+/// All that is told of a run is told in the last line.
+pub fn short(inputs: u64, seed: u64) {
+    let tally = put_all(inputs, seed, 0);
+    println!("load: {} inputs, {} calls, no byte changed", inputs, tally.calls.iter().sum::<u64>());
+}
+
 pub fn run(inputs: u64, seed: u64, from: u64) {
     println!(
         "seed {seed}, {inputs} inputs from number {from} on; the present one stands in {}",
         watch::AT
     );
+    put_all(inputs, seed, from).print();
+    println!(
+        "seed {seed}: every call came back, every answer is one that may be given, no byte changed"
+    );
+}
+
+fn put_all(inputs: u64, seed: u64, from: u64) -> Tally {
     watch::start(seed, LIMIT);
     let mut made = Inputs::new(seed);
     let mut caller = Caller::new(PORT);
@@ -40,10 +53,7 @@ pub fn run(inputs: u64, seed: u64, from: u64) {
         caller.tally.inputs[input.kind as usize] += 1;
     }
     watch::stop();
-    caller.tally.print();
-    println!(
-        "seed {seed}: every call came back, every answer is one that may be given, no byte changed"
-    );
+    caller.tally
 }
 
 /// What was asked, and what was refused.

@@ -23,6 +23,7 @@ oracle compare file FILE.tzb
 oracle compare asking [SECONDS [SEED]]
 oracle compare asking FILE.tzb [SECONDS [SEED]]
 oracle load [INPUTS [SEED]] [--from NUMBER]
+oracle short [SECONDS [SEED]]
 oracle lists FOLDER
 oracle bench [FILE.tzb]";
 
@@ -41,6 +42,9 @@ fn main() {
         ["compare", seconds, seed] => compare::run(number(seconds), number(seed)),
         ["load", ref rest @ .., "--from", from] => load_from(rest, number(from)),
         ["load", ref rest @ ..] => load_from(rest, 0),
+        ["short"] => short(4, random::fresh_seed()),
+        ["short", seconds] => short(number(seconds), random::fresh_seed()),
+        ["short", seconds, seed] => short(number(seconds), number(seed)),
         ["lists", folder] => lists::write(folder.as_ref()),
         ["bench"] => bench::run(None),
         ["bench", file] => bench::run(Some(file.as_ref())),
@@ -56,6 +60,15 @@ fn asking(one: &str, rest: &[&str]) {
     }
     let seconds = rest.first().map_or(60, |w| number(w));
     compare::asking::one(one.as_ref(), seconds, seed(rest.get(1)));
+}
+
+/// Each comparison for so many seconds, without the long fixed lists, and then some load.
+fn short(seconds: u64, seed: u64) {
+    println!("seed {seed}, each comparison for {seconds} s");
+    compare::short(seconds, seed);
+    compare::files::short(seconds, seed);
+    compare::asking::short(seconds, seed);
+    load::short(5000 * seconds, seed);
 }
 
 /// [INPUTS [SEED]], from this number on.
