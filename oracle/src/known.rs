@@ -1,6 +1,9 @@
 //! The closed list of places at which the original's opening is known to depart from document 01.
 //! `rules` can judge with any set of them. The original must say what the rules say with all of them, the port what they say with none.
 
+#[cfg(test)]
+mod smallest;
+
 use crate::compare;
 use crate::file::smaller;
 use crate::rules::{self, Departure};

@@ -7,6 +7,7 @@ mod exact;
 mod file;
 mod known;
 mod lists;
+mod load;
 mod original;
 mod port;
 mod random;
@@ -23,8 +24,13 @@ oracle compare files [SECONDS [SEED]]
 oracle compare file FILE.tzb
 oracle compare asking [SECONDS [SEED]]
 oracle compare asking FILE.tzb [SECONDS [SEED]]
+<<<<<<< HEAD
 oracle compare exact [SECONDS [SEED]]
 oracle compare exact FILE.tzb [SECONDS [SEED]]
+=======
+oracle load [INPUTS [SEED]] [--from NUMBER]
+oracle short [SECONDS [SEED]]
+>>>>>>> load
 oracle lists FOLDER
 oracle bench [FILE.tzb [ROWS]]";
 
@@ -47,6 +53,11 @@ fn main() {
         ["compare", "file", file] => compare::files::one(file.as_ref()),
         ["compare", seconds] => compare::run(number(seconds), random::fresh_seed()),
         ["compare", seconds, seed] => compare::run(number(seconds), number(seed)),
+        ["load", ref rest @ .., "--from", from] => load_from(rest, number(from)),
+        ["load", ref rest @ ..] => load_from(rest, 0),
+        ["short"] => short(4, random::fresh_seed()),
+        ["short", seconds] => short(number(seconds), random::fresh_seed()),
+        ["short", seconds, seed] => short(number(seconds), number(seed)),
         ["lists", folder] => lists::write(folder.as_ref()),
         ["bench"] => bench::run(None, ""),
         ["bench", file] => bench::run(Some(file.as_ref()), ""),
@@ -63,6 +74,25 @@ fn timed(one: &str, rest: &[&str], small: fn(u64, u64), large: fn(&Path, u64, u6
     }
     let seconds = rest.first().map_or(60, |w| number(w));
     large(one.as_ref(), seconds, seed(rest.get(1)));
+}
+
+/// Each comparison for so many seconds, without the long fixed lists, and then some load.
+fn short(seconds: u64, seed: u64) {
+    println!("seed {seed}, each comparison for {seconds} s");
+    compare::short(seconds, seed);
+    compare::files::short(seconds, seed);
+    compare::asking::short(seconds, seed);
+    load::short(5000 * seconds, seed);
+}
+
+/// [INPUTS [SEED]], from this number on.
+fn load_from(rest: &[&str], from: u64) {
+    match *rest {
+        [] => load::run(load::MANY, random::fresh_seed(), from),
+        [inputs] => load::run(number(inputs), random::fresh_seed(), from),
+        [inputs, seed] => load::run(number(inputs), number(seed), from),
+        _ => usage(),
+    }
 }
 
 fn number(word: &str) -> u64 {

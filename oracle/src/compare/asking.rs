@@ -20,7 +20,7 @@ use std::time::{Duration, Instant};
 const MANY: usize = 1000;
 const FEW: usize = 60;
 
-/// Valid files first, each with damages that it still opens with, until the time is over.
+/// Fixed files first, then random ones until the time is over.
 pub fn run(seconds: u64, seed: u64) {
     println!("seed {seed}, random files for {seconds} s");
     let mut met = Met::default();
@@ -28,26 +28,42 @@ pub fn run(seconds: u64, seed: u64) {
     let mut random = Random::new(seed);
     let start = Instant::now();
     while start.elapsed() < Duration::from_secs(seconds) {
-        let draft = match random.below(4) {
-            0 => file::some(&mut random),
-            _ => file::on_lattice(&mut random),
-        };
-        let file = draft.lay();
-        assert_eq!(full_check(&file), Ok(()), "a file of the builder");
-        judge(&mut met, &file, MANY);
-        let cut = random.below(file.len());
-        judge_otherwise(&mut met, &file, &file[..cut]);
-        let aim = Aim::at_geometry(&file);
-        for _ in 0..40 {
-            let damages = 1 + random.below(2);
-            let damaged = aim.damage(&mut random, &file, damages);
-            judge(&mut met, &damaged, FEW);
-            judge_otherwise(&mut met, &file, &damaged);
-        }
+        some(&mut met, &mut random, MANY, 40);
     }
     met.make_small();
     met.print();
     println!("no difference but the known ones");
+}
+
+/// Those that show a known difference, then random ones, with fewer questions and less damage to each, until the time is over.
+pub fn short(seconds: u64, seed: u64) {
+    let (mut met, mut random) = (Met::default(), Random::new(seed));
+    file::departing().iter().for_each(|(_, file)| judge(&mut met, file, FEW));
+    let start = Instant::now();
+    while start.elapsed() < Duration::from_secs(seconds) {
+        some(&mut met, &mut random, FEW, 4);
+    }
+    println!("compare asking: {}, no difference but the known ones", met.in_short());
+}
+
+/// A valid file, and as many damaged ones that may still open.
+fn some(met: &mut Met, random: &mut Random, most: usize, count: usize) {
+    let draft = match random.below(4) {
+        0 => file::some(random),
+        _ => file::on_lattice(random),
+    };
+    let file = draft.lay();
+    assert_eq!(full_check(&file), Ok(()), "a file of the builder");
+    judge(met, &file, most);
+    let cut = random.below(file.len());
+    judge_otherwise(met, &file, &file[..cut]);
+    let aim = Aim::at_geometry(&file);
+    for _ in 0..count {
+        let damages = 1 + random.below(2);
+        let damaged = aim.damage(random, &file, damages);
+        judge(met, &damaged, FEW);
+        judge_otherwise(met, &file, &damaged);
+    }
 }
 
 /// Files whose answers are read off document 01 by hand: the rules must say the same.

@@ -26,6 +26,10 @@ impl Tally {
         }
     }
 
+    fn total(&self) -> u64 {
+        self.kinds.iter().map(|(_, count)| count).sum()
+    }
+
     fn print(&self) {
         for (kind, count) in &self.kinds {
             println!("{count:>12}  {kind}");
@@ -44,14 +48,27 @@ pub fn run(seconds: u64, seed: u64) {
     geometry::all(&mut tally);
     let start = Instant::now();
     while start.elapsed() < Duration::from_secs(seconds) {
-        checksum::some(&mut tally, &mut random);
-        utf8::some(&mut tally, &mut random);
-        varint::some(&mut tally, &mut random);
-        geometry::some(&mut tally, &mut random);
+        some(&mut tally, &mut random);
     }
     tally.print();
-    let total: u64 = tally.kinds.iter().map(|(_, count)| count).sum();
-    println!("{total:>12}  in all, 0 differences");
+    println!("{:>12}  in all, 0 differences", tally.total());
+}
+
+/// Random inputs alone, until the time is over.
+pub fn short(seconds: u64, seed: u64) {
+    let (mut tally, mut random) = (Tally::default(), Random::new(seed));
+    let start = Instant::now();
+    while start.elapsed() < Duration::from_secs(seconds) {
+        some(&mut tally, &mut random);
+    }
+    println!("compare: {} random inputs, 0 differences", tally.total());
+}
+
+fn some(tally: &mut Tally, random: &mut Random) {
+    checksum::some(tally, random);
+    utf8::some(tally, random);
+    varint::some(tally, random);
+    geometry::some(tally, random);
 }
 
 /// Prints an input on which the two sides differ, as found and made small, and ends the run.

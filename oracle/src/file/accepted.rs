@@ -100,7 +100,7 @@ fn has_short_ring(file: &[u8]) -> bool {
 #[test]
 fn the_full_check_accepts_every_file_made() {
     let mut random = Random::new(3);
-    for i in 0..3000 {
+    for i in 0..1000 {
         let file = if i % 2 == 0 { some(&mut random) } else { on_lattice(&mut random) }.lay();
         assert_eq!(full_check(&file), Ok(()));
         let r = Reader::open(Cow::Borrowed(&file)).unwrap();
@@ -112,7 +112,7 @@ fn the_full_check_accepts_every_file_made() {
 fn damaged_files_are_accepted_by_both_or_by_none() {
     let mut random = Random::new(4);
     let mut judged = [0; 2];
-    for _ in 0..2000 {
+    for _ in 0..500 {
         let file = on_lattice(&mut random).lay();
         let aim = Aim::at_geometry(&file);
         for _ in 0..10 {

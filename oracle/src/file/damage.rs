@@ -4,7 +4,7 @@ use super::fields::{self, Field};
 use super::*;
 
 /// Values that tell, whatever the field.
-const TELLING: [u32; 37] = [
+pub const TELLING: [u32; 37] = [
     0,
     1,
     2,
@@ -198,6 +198,22 @@ impl Aim {
             repair(&mut out);
         }
         out
+    }
+
+    /// One field set to a value that tells, to one beside its own, or to anything. Quicker than the others, and with less aim.
+    pub fn hit(&self, random: &mut Random, file: &mut [u8]) {
+        let field = self.field(random);
+        let now = get(file, field);
+        let step = random.pick(&[1, 2, 4, 24, 28, 44]);
+        let value = match random.below(8) {
+            0..3 => random.pick(&TELLING),
+            3 => random.pick(&TELLING).wrapping_neg(),
+            4 => now.wrapping_add(step),
+            5 => now.wrapping_sub(step),
+            6 => now ^ 1 << random.below(32),
+            _ => random.bits() as u32,
+        };
+        file[field.at..field.at + field.width].copy_from_slice(&value.to_le_bytes()[..field.width]);
     }
 
     fn set_field(&self, random: &mut Random, file: &mut Vec<u8>) {

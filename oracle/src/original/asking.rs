@@ -87,39 +87,3 @@ impl Voice for Opened<'_> {
         })
     }
 }
-
-#[cfg(test)]
-mod tests {
-    use super::super::opening::open;
-    use crate::file::{self, CHUNKDIR, broken, departing, entries};
-    use crate::rules::{self, Judge};
-    use crate::voice::{Answer, Question, Voice};
-
-    /// Document 01's answer and the original's, of a file that is opened and then asked with these bytes.
-    fn both(file: &[u8], lent: &[u8], q: Question) -> [Result<Answer, u32>; 2] {
-        let opened = rules::open(file, &[]).ok().unwrap().asked_with(lent);
-        let judge = Judge { opened, original: &[] };
-        let original = open(file).ok().unwrap().asked_with(lent);
-        [judge.ask(q).unwrap(), original.ask(q).unwrap()]
-    }
-
-    #[test]
-    fn the_triangle_with_its_last_chunk_in_no_stripe() {
-        let (_, file) = departing().pop().unwrap();
-        let said = both(&file, &file, Question::Contains(0, 1, 1));
-        assert_eq!(said, [Ok(Answer::Is(true)), Ok(Answer::Is(false))]);
-    }
-
-    #[test]
-    fn other_bytes_than_it_was_opened_from() {
-        let file = broken::whole();
-        let chunks = entries(&file).into_iter().find(|entry| entry[0] == CHUNKDIR).unwrap();
-        let points = entries(&file).into_iter().find(|entry| entry[0] == file::POINTS).unwrap();
-        let cut = &file[..(points[1] + points[2]) as usize - 1];
-        let last = Question::Decode(chunks[2] / 24 - 1, 64);
-        assert_eq!(both(&file, cut, last), [Err(44), Err(37)]);
-        let mut none = file.clone();
-        none[chunks[1] as usize + 4..chunks[1] as usize + 6].fill(0);
-        assert_eq!(both(&file, &none, Question::Decode(0, 64)), [Err(32), Err(34)]);
-    }
-}

@@ -6,6 +6,7 @@ use crate::voice::{Answer, Question, Voice};
 
 pub mod exports {
     unsafe extern "C" {
+        pub fn tzb_lookup(file: *const u8, length: usize, lng: f64, lat: f64) -> i32;
         pub fn tzb_ask(
             record: *const u8,
             size: usize,

@@ -94,6 +94,14 @@ pub fn opened(file: &[u8]) -> Said<Opened<'_>> {
     open_into(file, SIZE).map(|record| Opened { record, file })
 }
 
+impl<'a> Opened<'a> {
+    /// The same record, asked with other bytes.
+    #[cfg(test)]
+    pub fn asked_with(self, file: &'a [u8]) -> Self {
+        Self { file, ..self }
+    }
+}
+
 impl Opened<'_> {
     fn lent(&self) -> (*const u8, usize, *const u8, usize) {
         (self.record.as_ptr(), self.record.len(), self.file.as_ptr(), self.file.len())

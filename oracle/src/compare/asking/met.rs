@@ -97,6 +97,14 @@ impl Met {
         }
     }
 
+    pub fn in_short(&self) -> String {
+        let files: u64 = self.files.values().sum();
+        format!(
+            "{files} files, {} questions, {} more with other bytes",
+            self.questions, self.otherwise
+        )
+    }
+
     pub fn print(&self) {
         for (rule, count) in &self.files {
             match rule {

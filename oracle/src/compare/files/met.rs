@@ -63,6 +63,10 @@ impl Met {
         }
     }
 
+    pub fn in_short(&self) -> String {
+        format!("{} files, {} questions", self.files, self.questions)
+    }
+
     pub fn print(&self) {
         println!("{:>12}  files", self.files);
         println!("{:>12}  questions of names and candidates", self.questions);

@@ -1,0 +1,124 @@
+//! The smallest input of each listed difference, put to document 01's rules, to the port and to the original. None may change its answer.
+
+use crate::file::{self, CHUNKDIR, POINTS, broken, entries, put, word};
+use crate::original::opening::open as original;
+use crate::port;
+use crate::rules::{self, Judge};
+use crate::voice::{Answer, Question, Voice};
+
+/// With these files `crates/run_open/stdin` ends, where the gate opens them too. Their length, document 01's number and the original's; 0 where the file opens.
+const OF_OPENING: [(usize, u32, u32); 7] = [
+    (84, 15, 17),
+    (377, 15, 0),
+    (105, 17, 16),
+    (377, 0, 16),
+    (357, 32, 34),
+    (361, 33, 34),
+    (361, 0, 34),
+];
+
+#[test]
+fn of_opening() {
+    let list = include_bytes!("../../../crates/run_open/stdin");
+    let records = list.chunks(1024).rev().take(OF_OPENING.len()).rev();
+    for (record, (length, document, departed)) in records.zip(OF_OPENING) {
+        let file = &record[8..8 + word(record, 0) as usize];
+        assert_eq!((file.len(), word(record, 4)), (length, document));
+        assert_eq!(rules::open(file, &[]).err().unwrap_or(0), document);
+        assert_eq!(port::opening::open(file).err().unwrap_or(0), document);
+        assert_eq!(original(file).err().unwrap_or(0), departed);
+    }
+}
+
+/// A ring of one point, and nothing else that is not as it should be.
+const SHORT_RING: &str = "\
+    545a46420100400000000000a08601006901000008000000000000000000000000000000000000000100000001000000\
+    0000000000000000000000000000000002000000c0000000180000000000000003000000d80000001800000000000000\
+    04000000f00000001c00000000000000050000000c010000040000000000000006000000100100002c00000000000000\
+    070000003c01000018000000000000000900000054010000040000000000000001000000580100000d00000000000000\
+    000000000100000000000000000000000000000000000000000000000100000000000000000000000000000000000000\
+    000000000100000001000000000000000000000000000000000000000000000000000000020000000100000000000000\
+    000000000000000000000000000000000000000000000000000000000000000002000000000000000000000000000000\
+    000000000000000001000000000000000100000001e1871c66";
+
+/// Four points of which two are stored: the first segment is a hit, and behind it the bytes run out.
+const HIT_BEFORE_THE_END: &str = "\
+    545a46420100400000000000a08601006901000008000000000000000000000000000000000000000100000001000000\
+    0000000000000000000000000000000002000000c0000000180000000000000003000000d80000001800000000000000\
+    04000000f00000001c00000000000000050000000c010000040000000000000006000000100100002c00000000000000\
+    070000003c01000018000000000000000900000054010000040000000000000001000000580100000d00000000000000\
+    000000000100000000000000000000000000000000000000000000000100000000000000000000000000000000000000\
+    000000000300000001000000000000000000000000000000000000000000000000000000040000000100000000000000\
+    000000000000000000000000000000000000000000000000000000000000000004000000000000000000000000000000\
+    00000000000000000100000000000000010000000111d8f5d2";
+
+fn bytes(hex: &str) -> Vec<u8> {
+    let byte = |at: usize| u8::from_str_radix(&hex[at..at + 2], 16).unwrap();
+    (0..hex.len()).step_by(2).map(byte).collect()
+}
+
+/// The rules, the port and the original, of a file that is opened and then asked with these bytes.
+fn all(file: &[u8], lent: &[u8], q: Question) -> [Result<Answer, u32>; 3] {
+    let opened = rules::open(file, &[]).ok().unwrap().asked_with(lent);
+    let port = port::asking::open(file).ok().unwrap().asked_with(lent);
+    let original = original(file).ok().unwrap().asked_with(lent);
+    let judge = Judge { opened, original: &[] };
+    [judge.ask(q), port.ask(q), original.ask(q)].map(Option::unwrap)
+}
+
+fn differs(
+    file: &[u8],
+    lent: &[u8],
+    q: Question,
+    document: Result<Answer, u32>,
+    departed: Result<Answer, u32>,
+) {
+    assert_eq!(all(file, lent, q), [document.clone(), document, departed]);
+}
+
+#[test]
+fn of_a_short_ring() {
+    let file = bytes(SHORT_RING);
+    assert_eq!(file.len(), 361);
+    assert_eq!(port::asking::full_check(&file), (0, 0));
+    differs(&file, &file, Question::Contains(0, 0, 0), Ok(Answer::Is(true)), Err(34));
+    differs(&file, &file, Question::Lookup(0.0, 0.0), Ok(Answer::Zone(Some(0))), Err(34));
+    let list = Question::LookupInto(0.0, 0.0, 1);
+    differs(&file, &file, list, Ok(Answer::Zones(vec![0])), Err(34));
+}
+
+#[test]
+fn of_a_hit_before_the_end() {
+    let file = bytes(HIT_BEFORE_THE_END);
+    assert_eq!(file.len(), 361);
+    differs(&file, &file, Question::Contains(0, 0, 0), Ok(Answer::Is(true)), Err(38));
+}
+
+/// The triangle whose last chunk lies in no stripe.
+#[test]
+fn of_a_chunk_below_its_group() {
+    let (_, file) = file::departing().pop().unwrap();
+    assert_eq!(file.len(), 545);
+    let (inside, outside) = (Ok(Answer::Is(true)), Ok(Answer::Is(false)));
+    differs(&file, &file, Question::Contains(0, 1, 1), inside, outside);
+}
+
+/// No caller of the original gets there: its reader owns its bytes.
+#[test]
+fn of_other_bytes_than_it_was_opened_from() {
+    let file = broken::whole();
+    let place = |typ| entries(&file).into_iter().find(|entry| entry[0] == typ).unwrap();
+    let (chunks, points, names) = (place(CHUNKDIR), place(POINTS), place(file::NAMES));
+    let cut = &file[..(points[1] + points[2]) as usize - 1];
+    let last = Question::Decode(chunks[2] / 24 - 1, 64);
+    differs(&file, cut, last, Err(44), Err(37));
+    let mut none = file.clone();
+    none[chunks[1] as usize + 4..chunks[1] as usize + 6].fill(0);
+    differs(&file, &none, Question::Decode(0, 64), Err(32), Err(34));
+    let mut turned = file.clone();
+    let first = names[1] as usize + 4;
+    put(&mut turned, first, word(&file, first + 4) + 1);
+    assert_eq!(rules::open(&file, &[]).ok().unwrap().asked_with(&turned).name(0), Err(23));
+    assert_eq!(port::opening::opened(&file).unwrap().asked_with(&turned).name(0), Err(23));
+    assert_eq!(original(&file).ok().unwrap().asked_with(&turned).name(0), Err(44));
+}

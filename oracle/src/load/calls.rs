@@ -1,0 +1,172 @@
+//! One input through every export. What is wrong with an answer, or with lent memory after it, is told.
+
+use super::Tally;
+use super::exports::{Export, Exports};
+use super::fence::{Lent, Room};
+use super::inputs::{Input, LONGEST, SHORT};
+use super::watch;
+use crate::port::opening::SIZE;
+
+pub struct Caller {
+    exports: Exports,
+    file: Lent,
+    record: Lent,
+    part: Lent,
+    rooms: [Room; 3],
+    pub tally: Tally,
+}
+
+type Slice = (*const u8, usize);
+
+/// An answer, or None where it was refused.
+type Answer = Option<i64>;
+
+fn hold(holds: bool, what: impl FnOnce() -> String) -> Result<(), String> {
+    if holds { Ok(()) } else { Err(what()) }
+}
+
+impl Caller {
+    pub fn new(exports: Exports) -> Self {
+        Self {
+            exports,
+            file: Lent::new(LONGEST),
+            record: Lent::new(SHORT),
+            part: Lent::new(SHORT),
+            rooms: [(); 3].map(|()| Room::new()),
+            tally: Tally::new(),
+        }
+    }
+
+    pub fn put(&mut self, input: &Input) -> Result<(), String> {
+        let file = self.file.put(&input.file, input.at_end[0]);
+        let opened = self.opening(input, file)?;
+        let record = match (&input.record, &opened) {
+            (Some(record), _) | (None, Some(record)) => record.as_slice(),
+            (None, None) => &[0; SIZE],
+        };
+        let record = self.record.put(record, input.at_end[1]);
+        self.names(input, record, file)?;
+        self.candidates(input, record, file)?;
+        self.walks(input, record, file)?;
+        let part = self.part.put(&input.part, input.at_end[2]);
+        self.parts(input, part)
+    }
+
+    /// Counts a call that is about to be made.
+    fn call(&mut self, export: Export) -> Exports {
+        watch::call(export as usize);
+        self.tally.calls[export as usize] += 1;
+        self.exports
+    }
+
+    /// A code from `first` to `last` answers; -1001 to -1047 refuses.
+    fn said(&mut self, export: Export, code: i64, first: i64, last: i64) -> Result<Answer, String> {
+        if (first..=last).contains(&code) {
+            return Ok(Some(code));
+        }
+        hold((-1047..=-1001).contains(&code), || format!("{code} is no answer and no refusal"))?;
+        self.tally.refused[export as usize][(-1000 - code) as usize] += 1;
+        Ok(None)
+    }
+
+    /// What opens the file. The record that was written, if one was.
+    fn opening(&mut self, input: &Input, (f, length): Slice) -> Result<Option<Vec<u8>>, String> {
+        let Input { lng, lat, guard, .. } = *input;
+        let room = input.rooms[0];
+        let lent = self.rooms[0].lend(room, input.at_end[3], guard)?;
+        let code = unsafe { (self.call(Export::Open).open)(f, length, lent, room) };
+        let said = self.said(Export::Open, code.into(), 0, 0)?;
+        hold(said.is_none() || room >= SIZE, || "opened without room".to_string())?;
+        let record = self.rooms[0].take(if said.is_some() { SIZE } else { 0 })?;
+        let refused = said.is_none() && code != -1046;
+        let agrees = |other: i32, otherwise: bool| {
+            let may = if refused { other == code } else { otherwise };
+            hold(may, || format!("{other}, where tzb_open says {code}"))
+        };
+        let zone = unsafe { (self.call(Export::Lookup).lookup)(f, length, lng, lat) };
+        self.said(Export::Lookup, zone.into(), -1, i32::MAX.into())?;
+        agrees(zone, zone > -1000 || zone <= -1032)?;
+        let check = unsafe { (self.call(Export::FullCheck).full_check)(f, length) };
+        self.said(Export::FullCheck, check.into(), 0, 0)?;
+        agrees(check, check == 0 || check == -1047)?;
+        let rule = unsafe { (self.call(Export::FullCheckRule).full_check_rule)(f, length) };
+        let rules = if check == -1047 { 2..=6 } else { 0..=0 };
+        hold(rules.contains(&rule), || format!("rule {rule}, where the full check says {check}"))?;
+        Ok(said.map(|_| record))
+    }
+
+    fn names(&mut self, input: &Input, (r, size): Slice, (f, length): Slice) -> Result<(), String> {
+        let count = unsafe { (self.call(Export::ZoneCount).zone_count)(r, size) };
+        self.said(Export::ZoneCount, count, 0, u32::MAX.into())?;
+        let zone = input.zone;
+        let last = length as i64;
+        let start = unsafe { (self.call(Export::NameStart).name_start)(r, size, f, length, zone) };
+        let first = self.said(Export::NameStart, start, 0, last)?;
+        let end = unsafe { (self.call(Export::NameEnd).name_end)(r, size, f, length, zone) };
+        self.said(Export::NameEnd, end, first.unwrap_or(0), last)?;
+        hold(first.is_some() || end == start, || format!("{end}, where the start is {start}"))
+    }
+
+    fn candidates(
+        &mut self,
+        input: &Input,
+        (r, size): Slice,
+        (f, length): Slice,
+    ) -> Result<(), String> {
+        let Input { lng, lat, place, .. } = *input;
+        let code = unsafe { (self.call(Export::Choice).choice)(r, size, f, length, lng, lat) };
+        let choice = self.said(Export::Choice, code.into(), 0, 2)?;
+        let listed = unsafe { (self.call(Export::Listed).listed)(r, size, f, length, lng, lat) };
+        let may = match choice {
+            Some(2) => listed >> 32 < 16 && listed & 0xffff_ffff < 1 << 28,
+            Some(1) => listed <= u32::MAX.into(),
+            _ => listed == 0,
+        };
+        hold(may, || format!("{listed}, where tzb_choice says {code}"))?;
+        let export = self.call(Export::Candidate).candidate;
+        let zone = unsafe { export(r, size, f, length, place) };
+        self.said(Export::Candidate, zone, 0, u16::MAX.into())?;
+        Ok(())
+    }
+
+    fn walks(&mut self, input: &Input, (r, size): Slice, (f, length): Slice) -> Result<(), String> {
+        let Input { zone, chunk, x, y, lng, lat, guard, rooms: [_, room, places], .. } = *input;
+        let export = self.call(Export::Contains).contains;
+        let is = unsafe { export(r, size, f, length, zone, x, y) };
+        self.said(Export::Contains, is.into(), 0, 1)?;
+
+        let out = self.rooms[1].lend(4 * room, input.at_end[4], guard)?.cast();
+        let export = self.call(Export::Decode).decode;
+        let points = unsafe { export(r, size, f, length, chunk, out, room) };
+        let said = self.said(Export::Decode, points, 0, room as i64 / 2)?;
+        self.rooms[1].take(8 * said.unwrap_or(0) as usize)?;
+
+        let found = unsafe { (self.call(Export::Ask).ask)(r, size, f, length, lng, lat) };
+        self.said(Export::Ask, found, -1, u32::MAX.into())?;
+
+        let out = self.rooms[2].lend(4 * places, input.at_end[5], guard)?.cast();
+        let export = self.call(Export::AskAll).ask_all;
+        let zones = unsafe { export(r, size, f, length, lng, lat, out, places) };
+        let said = self.said(Export::AskAll, zones, 0, places as i64)?;
+        self.rooms[2].take(4 * said.unwrap_or(0) as usize)?;
+        Ok(())
+    }
+
+    fn parts(&mut self, input: &Input, (p, length): Slice) -> Result<(), String> {
+        let (at, s) = (input.at, input.scene);
+        let number = unsafe { (self.call(Export::Number).number)(p, length, at) };
+        let count = unsafe { (self.call(Export::NumberLength).number_length)(p, length, at) };
+        let said = self.said(Export::NumberLength, count.into(), 1, 5)?;
+        hold(said.is_some() || number == 0, || format!("{count}, and the number is {number}"))?;
+        unsafe { (self.call(Export::Crc32).crc32)(p, length) };
+        let is = |what: u32| hold(what < 2, || format!("{what} is no answer"));
+        is(unsafe { (self.call(Export::Utf8).utf8)(p, length) })?;
+        is((self.call(Export::BoxContains).box_contains)(s.ax, s.ay, s.bx, s.by, s.x, s.y))?;
+        is((self.call(Export::BoxRelevant).box_relevant)(s.ax, s.ay, s.bx, s.by, s.x, s.y))?;
+        is((self.call(Export::Parity).parity)(s.ax, s.ay, s.bx, s.by, s.x, s.y))?;
+        let seen = (self.call(Export::Ray).ray)(s.ax, s.ay, s.bx, s.by, s.x, s.y);
+        hold((0..=2).contains(&seen), || format!("{seen} is no answer"))?;
+        (self.call(Export::NextUp).next_up)(s.x);
+        Ok(())
+    }
+}

@@ -1,0 +1,254 @@
+//! That the run can fail: fences fault, and a wrong export is found out.
+
+use super::calls::Caller;
+use super::exports::{Exports, NAMES, PORT};
+use super::fence::{Lent, PAGE, Room};
+use super::inputs::Inputs;
+use super::watch;
+use std::os::unix::process::ExitStatusExt;
+use std::process::{Command, Stdio};
+
+/// Names to a child what it is to do.
+const TASK: &str = "ORACLE_LOAD_TASK";
+/// SIGSEGV.
+const FAULT: (Option<i32>, Option<i32>) = (None, Some(11));
+/// The run has told what is wrong.
+const TOLD: (Option<i32>, Option<i32>) = (Some(1), None);
+
+/// How this program ends, started anew for one task: its status and its signal. An emulator is started as cargo does it.
+fn child(task: &str) -> (Option<i32>, Option<i32>) {
+    let own = std::env::current_exe().unwrap();
+    let mut command = match std::env::var("CARGO_TARGET_X86_64_UNKNOWN_LINUX_GNU_RUNNER") {
+        Ok(emulator) => Command::new(emulator),
+        Err(_) => Command::new(&own),
+    };
+    if command.get_program() != own.as_os_str() {
+        command.arg(&own);
+    }
+    command.args(["--exact", "load::tests::as_a_child", "--test-threads", "1"]);
+    command.env(TASK, task).stdout(Stdio::null()).stderr(Stdio::null());
+    let status = command.status().expect("a child");
+    (status.code(), status.signal())
+}
+
+/// Does its task in a child, and nothing otherwise.
+#[test]
+fn as_a_child() {
+    let Ok(task) = std::env::var(TASK) else { return };
+    let (mut lent, mut room) = (Lent::new(PAGE), Room::new());
+    let (bytes, none) = ([7; 84], []);
+    unsafe {
+        match task.as_str() {
+            "nothing" => {}
+            "read behind" => _ = lent.put(&bytes, true).0.add(84).read_volatile(),
+            "read behind none" => _ = lent.put(&none, true).0.read_volatile(),
+            "read before" => _ = lent.put(&bytes, false).0.sub(1).read_volatile(),
+            "write to what may be read" => lent.put(&bytes, false).0.cast_mut().write_volatile(1),
+            "write behind" => room.lend(84, true, 5).unwrap().add(84).write_volatile(1),
+            "write before" => room.lend(84, false, 5).unwrap().sub(1).write_volatile(1),
+            "sum" => run(Exports { crc32: sum_that_reads_one_behind, ..PORT }),
+            "count" => run(Exports { zone_count: count_that_writes, ..PORT }),
+            "text" => run(Exports { utf8: text_without_end, ..PORT }),
+            other => panic!("no task {other}"),
+        }
+    }
+}
+
+#[test]
+fn a_byte_past_a_fence_faults() {
+    assert_eq!(child("nothing"), (Some(0), None));
+    for task in ["read behind", "read behind none", "read before", "write behind", "write before"] {
+        assert_eq!(child(task), FAULT, "{task}");
+    }
+    assert_eq!(child("write to what may be read"), FAULT);
+}
+
+#[test]
+fn up_to_the_fences_all_may_be_touched() {
+    let mut lent = Lent::new(PAGE);
+    let mut room = Room::new();
+    for at_end in [true, false] {
+        for length in [1, 84, PAGE] {
+            let (from, _) = lent.put(&vec![7; length], at_end);
+            assert_eq!(unsafe { from.read_volatile() + from.add(length - 1).read_volatile() }, 14);
+            let to = room.lend(length, at_end, 5).unwrap();
+            unsafe { to.write_bytes(9, length) };
+            assert_eq!(room.take(length), Ok(vec![9; length]));
+        }
+    }
+}
+
+#[test]
+fn a_room_tells_what_changed() {
+    for at in [-1isize, 0, 83, 84, 99] {
+        let mut room = Room::new();
+        let lent = room.lend(100, true, 0x0102_0304_0506_0708).unwrap();
+        unsafe { *lent.offset(at) ^= 1 };
+        assert_eq!(room.take(84).is_ok(), (0..84).contains(&at), "byte {at}");
+    }
+    let mut room = Room::new();
+    let lent = room.lend(100, false, 5).unwrap();
+    assert_eq!(room.take(0), Ok(Vec::new()));
+    unsafe { *lent.add(200) ^= 1 };
+    assert!(room.lend(100, false, 5).is_err(), "a byte that changed between two calls");
+}
+
+#[test]
+fn every_export_of_the_header_is_called() {
+    let header = include_str!("../../../include/tzb.h");
+    let line = |line: &&str| line.ends_with(");") && !line.starts_with(" *");
+    let name = |line: &'static str| line.split('(').next().unwrap().rsplit([' ', '*']).next();
+    let names: Vec<&str> = header.lines().filter(line).filter_map(name).collect();
+    let mut known = NAMES.to_vec();
+    let mut sorted = names.clone();
+    known.sort_unstable();
+    sorted.sort_unstable();
+    assert_eq!(sorted, known);
+    let mut caller = Caller::new(PORT);
+    caller.put(&Inputs::new(1).input(0)).unwrap();
+    assert_eq!(caller.tally.calls, [1; NAMES.len()]);
+}
+
+/// What is told of these exports, by some thousand inputs.
+fn told(exports: Exports) -> Option<String> {
+    let (mut inputs, mut caller) = (Inputs::new(5), Caller::new(exports));
+    (0..3000).find_map(|number| caller.put(&inputs.input(number)).err())
+}
+
+#[test]
+fn the_port_is_not_found_fault_with() {
+    assert_eq!(told(PORT), None);
+}
+
+unsafe extern "C" fn open_that_writes_where_it_refuses(
+    file: *const u8,
+    length: usize,
+    record: *mut u8,
+    room: usize,
+) -> i32 {
+    let code = unsafe { (PORT.open)(file, length, record, room) };
+    if code < 0 && room > 0 {
+        unsafe { *record.add(room - 1) ^= 1 };
+    }
+    code
+}
+
+unsafe extern "C" fn open_that_writes_one_behind(
+    file: *const u8,
+    length: usize,
+    record: *mut u8,
+    room: usize,
+) -> i32 {
+    let code = unsafe { (PORT.open)(file, length, record, room) };
+    if code == 0 && room > 84 {
+        unsafe { *record.add(84) ^= 1 };
+    }
+    code
+}
+
+unsafe extern "C" fn decode_that_writes_where_it_refuses(
+    record: *const u8,
+    size: usize,
+    file: *const u8,
+    length: usize,
+    chunk: u32,
+    out: *mut i32,
+    room: usize,
+) -> i64 {
+    let code = unsafe { (PORT.decode)(record, size, file, length, chunk, out, room) };
+    if code == -1042 && room > 0 {
+        unsafe { *out ^= 1 };
+    }
+    code
+}
+
+unsafe extern "C" fn decode_that_writes_one_behind(
+    record: *const u8,
+    size: usize,
+    file: *const u8,
+    length: usize,
+    chunk: u32,
+    out: *mut i32,
+    room: usize,
+) -> i64 {
+    let code = unsafe { (PORT.decode)(record, size, file, length, chunk, out, room) };
+    if code > 0 && 2 * (code as usize) < room {
+        unsafe { *out.add(2 * code as usize) ^= 1 };
+    }
+    code
+}
+
+unsafe extern "C" fn list_that_writes_where_it_refuses(
+    record: *const u8,
+    size: usize,
+    file: *const u8,
+    length: usize,
+    lng: f64,
+    lat: f64,
+    zones: *mut u32,
+    places: usize,
+) -> i64 {
+    let code = unsafe { (PORT.ask_all)(record, size, file, length, lng, lat, zones, places) };
+    if code < 0 && places > 0 {
+        unsafe { *zones ^= 1 };
+    }
+    code
+}
+
+unsafe extern "C" fn contains_that_says_two(
+    _: *const u8,
+    _: usize,
+    _: *const u8,
+    _: usize,
+    _: u32,
+    _: i32,
+    _: i32,
+) -> i32 {
+    2
+}
+
+#[test]
+fn a_wrong_export_is_found_out() {
+    let changed = |exports| told(exports).is_some_and(|what| what.contains("changed"));
+    assert!(changed(Exports { open: open_that_writes_where_it_refuses, ..PORT }));
+    assert!(changed(Exports { open: open_that_writes_one_behind, ..PORT }));
+    assert!(changed(Exports { decode: decode_that_writes_where_it_refuses, ..PORT }));
+    assert!(changed(Exports { decode: decode_that_writes_one_behind, ..PORT }));
+    assert!(changed(Exports { ask_all: list_that_writes_where_it_refuses, ..PORT }));
+    assert!(told(Exports { contains: contains_that_says_two, ..PORT }).is_some());
+}
+
+unsafe extern "C" fn sum_that_reads_one_behind(bytes: *const u8, length: usize) -> u32 {
+    unsafe { bytes.add(length).read_volatile().into() }
+}
+
+unsafe extern "C" fn count_that_writes(record: *const u8, size: usize) -> i64 {
+    if size > 0 {
+        unsafe { record.cast_mut().write_volatile(0) };
+    }
+    0
+}
+
+unsafe extern "C" fn text_without_end(_: *const u8, _: usize) -> u32 {
+    loop {
+        std::hint::spin_loop();
+    }
+}
+
+/// Some inputs, watched as in a run, where a call may take a second.
+fn run(exports: Exports) {
+    watch::start(5, 1);
+    let (mut inputs, mut caller) = (Inputs::new(5), Caller::new(exports));
+    for number in 0..100 {
+        let input = inputs.input(number);
+        watch::now(number, &input);
+        caller.put(&input).unwrap();
+    }
+}
+
+#[test]
+fn a_fault_and_a_call_without_end_are_told() {
+    for task in ["sum", "count", "text"] {
+        assert_eq!(child(task), TOLD, "{task}");
+    }
+}
