@@ -39,6 +39,7 @@ fn main() {
         ["compare", seconds, seed] => compare::run(number(seconds), number(seed)),
         ["lists", folder] => lists::write(folder.as_ref()),
         ["bench"] => bench::run(None),
+        ["bench", "zones"] => bench::zones::run(),
         ["bench", file] => bench::run(Some(file.as_ref())),
         _ => usage(),
     }

@@ -2,5 +2,6 @@
 pub mod Bytes
 pub mod Sorted
 pub mod Only
+pub mod Halving
 pub mod Shift
 pub mod Determined

@@ -19,7 +19,7 @@ loop-holds : tie.Need-loop-holds Inv-loop μ-loop
 loop-holds c = sort-start _ _
 
 settle-requires : tie.Need-settle-requires Inv-loop μ-loop
-settle-requires c κs = (search needs, first-in-order _ _ _ _ (c .before .before .loop .inv) (c .before .loop-test .taken))
+settle-requires c κs = ((omega (arith, c .before .before .loop .inv .some), search needs), first-in-order _ _ _ _ (c .before .before .loop .inv) (c .before .loop-test .taken))
 
 add-k : tie.Need-add-k Inv-loop μ-loop
 add-k c =
