@@ -2,16 +2,19 @@
 -- Assumes nothing.
 use Prim.Native.Nat.{ℕ, zero, suc, _+_, _-_, _≤_, _<_}
 use native.Mathlib.Omega.{arith}
+use native.Mathlib.Nat.{le-of-lt}
 use native.Mathlib.Numerals.{add-one}
 use mathlib.Core.Path.{_≡_, refl, sym, ap, _∙_}
-use mathlib.Core.Bool.{Bool, true, false, cond}
-use mathlib.Core.List.{List, [], _∷_, _++_, append-assoc}
-use lib.ListN.{length, take, drop, set, getD, drop-of-length-le}
-use lib.Seq.{getD-take, length-take-le, take-take, split-at, append-snoc, set-append-left, take-set-lt, take-suc-set}
+use mathlib.Core.Bool.{Bool, true, false, not, cond}
+use borrow.Author.Tests.{not-true, not-false}
+use mathlib.Core.List.{List, [], _∷_, _++_}
+use lib.ListN.{length, take, drop, set, getD}
+use lib.Seq.{getD-take, length-take-le, take-take}
 use Rattle.reader_order.specs.Order.{comesBefore, insert, inOrder}
 use Rattle.reader_order.specs.Place.{placeFor, movedUp}
 use Rattle.reader_order.proofs.Bytes.{not-before}
 use Rattle.reader_order.proofs.Sorted.{From, Sorted, sorted-in}
+use Rattle.reader_order.proofs.Shift.{written}
 
 module _ (name : ℕ → List ℕ) where
   -- ---- what a test says
@@ -59,17 +62,21 @@ module _ (name : ℕ → List ℕ) where
     pub inside : high ≤ k
 
   module _ (m own : List ℕ) (k : ℕ) where
-    pub place-inside : k < length m → (place : ℕ) → place ≡ placeFor name own (take k m) → place ≤ k
-    place-inside h place p = omega (arith, p, place-most own (take k m), length-take-le k m (omega (arith, h)))
+    pub place-inside : k ≤ length m → (place : ℕ) → place ≡ placeFor name own (take k m) → place ≤ k
+    place-inside h place p = omega (arith, p, place-most own (take k m), length-take-le k m h)
 
     pub halving-start : k ≤ length m → inOrder name (take k m) ≡ true → Halving m own k 0 k
     halving-start h s = record {
       room = h;
       sorted = s;
       from-low = omega arith;
-      to-high = omega (arith, place-most own (take k m), length-take-le k m h);
+      to-high = place-inside h _ refl;
       inside = omega arith;
     }
+
+    pub place-none : k ≡ 0 → 0 ≡ placeFor name own (take k m)
+    unfolding placeFor
+    place-none e = rw e
 
     module _ (low high : ℕ) (h : Halving m own k low high) where
       pub halving-end : high ≤ low → low ≡ placeFor name own (take k m)
@@ -101,6 +108,19 @@ module _ (name : ℕ → List ℕ) where
           inside = h .inside;
         }
 
+    -- the last zone, and the test whether own comes before it
+    module _ (h : k ≤ length m) (s : inOrder name (take k m) ≡ true) (g : 0 < k) (r : Bool) (t : r ≡ comesBefore own (name (getD m (k - 1) 0))) where
+      some : k - 1 < k
+      some = omega (arith, g)
+
+      pub last-stays : not r ≡ true → k ≡ placeFor name own (take k m)
+      last-stays e =
+          let c = halve-up 0 k (halving-start h s) (k - 1) some r t (not-true r e) in
+          omega (arith, c .from-low, c .to-high, some)
+
+      pub last-moves : not r ≡ false → Halving m own k 0 (k - 1)
+      last-moves e = halve-down 0 k (halving-start h s) (k - 1) some r t (not-false r e)
+
   -- ---- the insertion, at that place
   insert-at : (z : ℕ) (l : List ℕ) → insert name z l ≡ take (placeFor name (name z) l) l ++ z ∷ drop (placeFor name (name z) l) l
   unfolding insert placeFor
@@ -112,10 +132,10 @@ module _ (name : ℕ → List ℕ) where
       go true h = refl
       go false h = rw (add-one (placeFor name (name z) l)) (ap (λ (k : List ℕ). x ∷ k) h)
 
-  -- the zone at k, the zones before it in order, and the test whether its name own comes before that of the last of these
+  -- the zone at k, put into the zones before it
   module _ (m : List ℕ) (k : ℕ) (room : k < length m) (own : List ℕ) (e : own ≡ name (getD m k 0)) where
     inside : (place : ℕ) → place ≡ placeFor name own (take k m) → place ≤ k
-    inside = place-inside m own k room
+    inside = place-inside m own k (le-of-lt room)
 
     at-place : (place : ℕ) → place ≡ placeFor name own (take k m) → take place m ++ getD m k 0 ∷ drop place (take k m) ++ drop (k + 1) m ≡ insert name (getD m k 0) (take k m) ++ drop (k + 1) m
     at-place place p =
@@ -126,29 +146,6 @@ module _ (name : ℕ → List ℕ) where
 
     -- those from its place on moved up, and the zone written there
     pub settled : (place : ℕ) → place ≡ placeFor name own (take k m) → (l : List ℕ) → l ≡ movedUp m place k 1 → set l place (getD m k 0) ≡ insert name (getD m k 0) (take k m) ++ drop (k + 1) m
-    unfolding movedUp
     settled place p l g =
-        let z : ℕ = getD m k 0 in
-        let b : List ℕ = drop place (take k m) in
-        let d : List ℕ = drop (k + 1) m in
         let i : place < length m = omega (arith, inside place p, room) in
-        let f : take (place + 1) m ≡ take (suc place) m = ap (λ (n : ℕ). take n m) (add-one place) in
-        ap (λ (x : List ℕ). set x place z) (g ∙ ap (λ (x : List ℕ). x ++ b ++ d) f)
-        ∙ ap (λ (x : List ℕ). set x place z) (append-assoc (take (suc place) m) b d)
-        ∙ set-append-left (take (suc place) m) (b ++ d) place z (omega (arith, length-take-le (suc place) m (omega (arith, i))))
-        ∙ ap (λ (x : List ℕ). x ++ (b ++ d)) (sym (take-set-lt (suc place) m place z (omega arith)) ∙ take-suc-set m place z i)
-        ∙ append-snoc (take place m) z (b ++ d)
-        ∙ sym (append-assoc (take place m) (z ∷ b) d)
-        ∙ at-place place p
-
-    -- left where it stands
-    pub stays : 0 < k → inOrder name (take k m) ≡ true → (r : Bool) → r ≡ comesBefore own (name (getD m (k - 1) 0)) → r ≡ false
-        → m ≡ insert name (getD m k 0) (take k m) ++ drop (k + 1) m
-    stays g s r t f =
-        let whole = halving-start m own k (omega (arith, room)) s in
-        let high = halve-up m own k 0 k whole (k - 1) (omega (arith, g)) r t f in
-        let p : k ≡ placeFor name own (take k m) = omega (arith, high .from-low, inside _ refl, g) in
-        unmoved ∙ at-place k p
-      where
-        unmoved : m ≡ take k m ++ getD m k 0 ∷ drop k (take k m) ++ drop (k + 1) m
-        unmoved = rw (drop-of-length-le (take k m) {i = k} (omega (arith, length-take-le k m (omega (arith, room)))), add-one k) (split-at m k 0 room ∙ sym (append-snoc (take k m) (getD m k 0) (drop (suc k) m)))
+        ap (λ (x : List ℕ). set x place (getD m k 0)) g ∙ written m place k 1 place (getD m k 0) (add-one place) i ∙ at-place place p

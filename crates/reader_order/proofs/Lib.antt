@@ -2,6 +2,7 @@
 pub mod Bytes
 pub mod Sorted
 pub mod Only
-pub mod Halving
 pub mod Shift
+pub mod Halving
+pub mod Merged
 pub mod Determined

@@ -6,11 +6,11 @@ use native.Mathlib.Numerals.{add-one}
 use mathlib.Core.Path.{_≡_, refl, sym, ap, ap₂, _∙_}
 use mathlib.Core.Bool.{true}
 use mathlib.Core.List.{List, [], _∷_, _++_, append-assoc, append-nil}
-use lib.ListN.{length, take, drop, set, getD, length-set, length-append, take-append-drop, drop-of-length-le}
-use lib.Seq.{take-suc, drop-cons, getD-set-same, drop-set-lt, getD-at, drop-at, take-set-le, set-split, getD-take, take-take, take-all, drop-drop, length-take-le, take-at}
+use lib.ListN.{length, take, drop, set, getD, length-set, length-append, length-drop, take-append-drop, drop-of-length-le}
+use lib.Seq.{take-suc, drop-cons, getD-set-same, drop-set-lt, getD-at, drop-at, take-set-le, getD-take, take-take, take-all, drop-drop, length-take-le, take-at, append-snoc, set-append-left, take-set-lt, take-suc-set}
 use Rattle.reader_order.specs.Order.{insert, insertAll, ordered, inOrder}
 use Rattle.reader_order.specs.Place.{movedUp}
-use Rattle.reader_order.proofs.Sorted.{is-ordered, same-length}
+use Rattle.reader_order.proofs.Sorted.{all-last, is-ordered, same-length}
 
 -- ---- the move
 -- The zones from place i on, up to the last that is to move, have moved up.
@@ -83,16 +83,39 @@ module _ (m l : List ℕ) (from to by i : ℕ) (h : Moving m l from to by i) whe
           let j : suc (i - 1) ≡ i = omega (arith, g) in
           drop-cons (take to m) (i - 1) 0 (omega (arith, g, h .up-to, short)) ∙ ap (λ (n : ℕ). getD (take to m) (i - 1) 0 ∷ drop n (take to m)) j
 
+-- After the move one zone is written into the last of the places that were left: z at n.
+module _ (l : List ℕ) (from to by n z : ℕ) (left : from + by ≡ suc n) (inside : n < length l) where
+  pub written : set (movedUp l from to by) n z ≡ take n l ++ z ∷ drop from (take to l) ++ drop (to + by) l
+  unfolding movedUp
+  written =
+      let b : List ℕ = drop from (take to l) in
+      let d : List ℕ = drop (to + by) l in
+      ap (λ (i : ℕ). set (take i l ++ b ++ d) n z) left
+      ∙ ap (λ (x : List ℕ). set x n z) (append-assoc (take (suc n) l) b d)
+      ∙ set-append-left (take (suc n) l) (b ++ d) n z (omega (arith, length-take-le (suc n) l (omega (arith, inside))))
+      ∙ ap (λ (x : List ℕ). x ++ (b ++ d)) (sym (take-set-lt (suc n) l n z (omega arith)) ∙ take-suc-set l n z inside)
+      ∙ append-snoc (take n l) z (b ++ d)
+      ∙ sym (append-assoc (take n l) (z ∷ b) d)
+
+pub moved-length : (l : List ℕ) (from to by : ℕ) → from ≤ to → to + by ≤ length l → length (movedUp l from to by) ≡ length l
+unfolding movedUp
+moved-length l from to by h g =
+    omega (
+      arith,
+      h,
+      g,
+      length-append (take (from + by) l ++ drop from (take to l)) (drop (to + by) l),
+      length-append (take (from + by) l) (drop from (take to l)),
+      length-take-le (from + by) l (omega (arith, h, g)),
+      length-drop from (take to l),
+      length-take-le to l (omega (arith, g)),
+      length-drop (to + by) l,
+    )
+
 module _ (name : ℕ → List ℕ) where
   -- ---- all zones
-  all-last : (l rest : List ℕ) (z : ℕ) → insertAll name l (rest ++ (z ∷ [])) ≡ insert name z (insertAll name l rest)
-  unfolding insertAll
-  all-last l [] z = refl
-  all-last l (x ∷ rest) z = all-last (insert name x l) rest z
-
   -- the first k of the zones m are in order, the others as they were
   pub record Sorting (m l : List ℕ) (k : ℕ) : Type 0 where
-    pub some : 0 < k
     pub so-far : l ≡ ordered name (take k m) ++ drop k m
 
   module _ (m l : List ℕ) (k : ℕ) (h : Sorting m l k) where
@@ -133,10 +156,10 @@ module _ (name : ℕ → List ℕ) where
       unfolding ordered
       sort-on next e =
           let t : take (k + 1) m ≡ take k m ++ (getD m k 0 ∷ []) = ap (λ (n : ℕ). take n m) (add-one k) ∙ take-suc m k 0 (omega (arith, all-there)) in
-          record { some = omega arith; so-far = e ∙ ap₂ (λ (f b : List ℕ). f ++ b) (ap₂ (insert name) zone-is front-of ∙ sym (all-last [] (take k m) (getD m k 0)) ∙ ap (insertAll name []) (sym t)) back-of }
+          record { so-far = e ∙ ap₂ (λ (f b : List ℕ). f ++ b) (ap₂ (insert name) zone-is front-of ∙ sym (all-last name [] (take k m) (getD m k 0)) ∙ ap (insertAll name []) (sym t)) back-of }
 
   -- one zone alone is in order
   pub sort-start : (m : List ℕ) → Sorting m m 1
   unfolding ordered insertAll insert
-  sort-start [] = record { some = omega arith; so-far = refl }
-  sort-start (x ∷ m) = record { some = omega arith; so-far = refl }
+  sort-start [] = record { so-far = refl }
+  sort-start (x ∷ m) = record { so-far = refl }

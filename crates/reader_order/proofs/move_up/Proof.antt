@@ -1,7 +1,6 @@
 -- `move_up` meets its contract. The loop's invariant: the zones from place i on have moved up.
 -- Assumes nothing.
 use Rattle.reader_order.proofs.Shift.{Moving, move-start, move-on, move-end}
-use native.Mathlib.Omega.{arith}
 use borrow.Author.Needs.{needs}
 use Rattle.reader_order.proofs.move_up.Statement.{statement}
 use Rattle.reader_order.proofs.move_up.Tie as tie
