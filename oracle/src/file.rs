@@ -223,7 +223,7 @@ fn finish(random: &mut Random, mut draft: Draft) -> Draft {
     draft
 }
 
-fn shuffle<T>(random: &mut Random, all: &mut [T]) {
+pub fn shuffle<T>(random: &mut Random, all: &mut [T]) {
     for i in (1..all.len()).rev() {
         all.swap(i, random.below(i + 1));
     }

@@ -59,9 +59,15 @@ fn main() {
         ["short", seconds] => short(number(seconds), random::fresh_seed()),
         ["short", seconds, seed] => short(number(seconds), number(seed)),
         ["lists", folder] => lists::write(folder.as_ref()),
+<<<<<<< HEAD
         ["bench"] => bench::run(None, ""),
         ["bench", file] => bench::run(Some(file.as_ref()), ""),
         ["bench", file, rows] => bench::run(Some(file.as_ref()), rows),
+=======
+        ["bench"] => bench::run(None),
+        ["bench", "zones"] => bench::zones::run(),
+        ["bench", file] => bench::run(Some(file.as_ref())),
+>>>>>>> order
         _ => usage(),
     }
 }

@@ -3,4 +3,6 @@ pub mod Bytes
 pub mod Sorted
 pub mod Only
 pub mod Shift
+pub mod Halving
+pub mod Merged
 pub mod Determined

@@ -1,135 +1,119 @@
--- A zone put into zones in order from the end, as the code moves them: z goes in, i is its place so far, m the zones as they were, l as they are.
+-- The move that puts a zone in its place, as the code makes it, and the sort zone by zone: m are the zones as they were, l as they are.
 -- Assumes nothing.
 use Prim.Native.Nat.{ℕ, suc, _+_, _-_, _≤_, _<_}
 use native.Mathlib.Omega.{arith}
 use native.Mathlib.Numerals.{add-one}
 use mathlib.Core.Path.{_≡_, refl, sym, ap, ap₂, _∙_}
-use mathlib.Core.Bool.{Bool, true, false, not, cond}
+use mathlib.Core.Bool.{true}
 use mathlib.Core.List.{List, [], _∷_, _++_, append-assoc, append-nil}
-use lib.ListN.{length, take, drop, set, getD, length-set, length-append, take-append-drop, drop-of-length-le}
-use lib.Seq.{take-suc, drop-cons, getD-set-same, drop-set-lt, getD-at, drop-at, take-set-le, set-split, getD-take, take-take, take-all, drop-drop, length-take-le, take-at}
-use Rattle.answer.specs.CheckLaws.{told-yes, told-no}
-use Rattle.reader_order.specs.Order.{comesBefore, insert, insertAll, ordered, inOrder}
-use Rattle.reader_order.proofs.Bytes.{not-before}
-use Rattle.reader_order.proofs.Sorted.{From, Sorted, sorted-in, insert-on, is-ordered, same-length}
+use lib.ListN.{length, take, drop, set, getD, length-set, length-append, length-drop, take-append-drop, drop-of-length-le}
+use lib.Seq.{take-suc, drop-cons, getD-set-same, drop-set-lt, getD-at, drop-at, take-set-le, getD-take, take-take, take-all, drop-drop, length-take-le, take-at, append-snoc, set-append-left, take-set-lt, take-suc-set}
+use Rattle.reader_order.specs.Order.{insert, insertAll, ordered, inOrder}
+use Rattle.reader_order.specs.Place.{movedUp}
+use Rattle.reader_order.proofs.Sorted.{all-last, is-ordered, same-length}
+
+-- ---- the move
+-- The zones from place i on, up to the last that is to move, have moved up.
+pub record Moving (m l : List ℕ) (from to by i : ℕ) : Type 0 where
+  pub room : to + by ≤ length m
+  pub down-to : from ≤ i
+  pub up-to : i ≤ to
+  pub same : length l ≡ length m
+  pub kept : take (i + by) l ≡ take (i + by) m
+  pub behind : drop (i + by) l ≡ drop i (take to m) ++ drop (to + by) m
+
+pub move-start : (m : List ℕ) (from to by : ℕ) → from ≤ to → to + by ≤ length m → Moving m m from to by to
+move-start m from to by h g = record {
+  room = g;
+  down-to = h;
+  up-to = omega arith;
+  same = refl;
+  kept = refl;
+  behind = rw (drop-of-length-le (take to m) {i = to} (omega (arith, length-take-le to m (omega (arith, g)))));
+}
+
+module _ (m l : List ℕ) (from to by i : ℕ) (h : Moving m l from to by i) where
+  pub move-end : i ≤ from → l ≡ movedUp m from to by
+  unfolding movedUp
+  move-end e =
+      let p : i ≡ from = omega (arith, e, h .down-to) in
+      sym (take-append-drop (i + by) l)
+      ∙ ap₂ (λ (f b : List ℕ). f ++ b) (h .kept) (h .behind)
+      ∙ sym (append-assoc (take (i + by) m) (drop i (take to m)) (drop (to + by) m))
+      ∙ ap (λ (n : ℕ). take (n + by) m ++ drop n (take to m) ++ drop (to + by) m) p
+
+  -- one zone more
+  pub move-on : from < i → Moving m (set l (i - 1 + by) (getD l (i - 1) 0)) from to by (i - 1)
+  move-on g = record {
+    room = h .room;
+    down-to = omega (arith, g);
+    up-to = omega (arith, h .up-to);
+    same = length-set l n x ∙ h .same;
+    kept = take-set-le n l n x (omega arith) ∙ sym (take-take n (i + by) l (omega arith)) ∙ ap (take n) (h .kept) ∙ take-take n (i + by) m (omega arith);
+    behind =
+        drop-cons (set l n x) n 0 (omega (arith, length-set l n x, inside))
+        ∙ ap₂ (λ (y : ℕ) (b : List ℕ). y ∷ b) (getD-set-same l n x 0 inside ∙ x-is) (drop-set-lt (suc n) l n x (omega arith) ∙ ap (λ (j : ℕ). drop j l) after ∙ h .behind)
+        ∙ ap (λ (f : List ℕ). f ++ drop (to + by) m) (sym front);
+  }
+    where
+      n : ℕ
+      n = i - 1 + by
+
+      x : ℕ
+      x = getD l (i - 1) 0
+
+      after : suc n ≡ i + by
+      after = omega (arith, g)
+
+      inside : n < length l
+      inside = omega (arith, g, h .up-to, h .room, h .same)
+
+      short : length (take to m) ≡ to
+      short = length-take-le to m (omega (arith, h .room))
+
+      x-is : x ≡ getD (take to m) (i - 1) 0
+      x-is =
+          sym (getD-take (i + by) l (i - 1) 0 (omega (arith, g)))
+          ∙ ap (λ (f : List ℕ). getD f (i - 1) 0) (h .kept)
+          ∙ getD-take (i + by) m (i - 1) 0 (omega (arith, g))
+          ∙ sym (getD-take to m (i - 1) 0 (omega (arith, g, h .up-to)))
+
+      front : drop (i - 1) (take to m) ≡ getD (take to m) (i - 1) 0 ∷ drop i (take to m)
+      front =
+          let j : suc (i - 1) ≡ i = omega (arith, g) in
+          drop-cons (take to m) (i - 1) 0 (omega (arith, g, h .up-to, short)) ∙ ap (λ (n : ℕ). getD (take to m) (i - 1) 0 ∷ drop n (take to m)) j
+
+-- After the move one zone is written into the last of the places that were left: z at n.
+module _ (l : List ℕ) (from to by n z : ℕ) (left : from + by ≡ suc n) (inside : n < length l) where
+  pub written : set (movedUp l from to by) n z ≡ take n l ++ z ∷ drop from (take to l) ++ drop (to + by) l
+  unfolding movedUp
+  written =
+      let b : List ℕ = drop from (take to l) in
+      let d : List ℕ = drop (to + by) l in
+      ap (λ (i : ℕ). set (take i l ++ b ++ d) n z) left
+      ∙ ap (λ (x : List ℕ). set x n z) (append-assoc (take (suc n) l) b d)
+      ∙ set-append-left (take (suc n) l) (b ++ d) n z (omega (arith, length-take-le (suc n) l (omega (arith, inside))))
+      ∙ ap (λ (x : List ℕ). x ++ (b ++ d)) (sym (take-set-lt (suc n) l n z (omega arith)) ∙ take-suc-set l n z inside)
+      ∙ append-snoc (take n l) z (b ++ d)
+      ∙ sym (append-assoc (take n l) (z ∷ b) d)
+
+pub moved-length : (l : List ℕ) (from to by : ℕ) → from ≤ to → to + by ≤ length l → length (movedUp l from to by) ≡ length l
+unfolding movedUp
+moved-length l from to by h g =
+    omega (
+      arith,
+      h,
+      g,
+      length-append (take (from + by) l ++ drop from (take to l)) (drop (to + by) l),
+      length-append (take (from + by) l) (drop from (take to l)),
+      length-take-le (from + by) l (omega (arith, h, g)),
+      length-drop from (take to l),
+      length-take-le to l (omega (arith, g)),
+      length-drop (to + by) l,
+    )
 
 module _ (name : ℕ → List ℕ) where
-  -- ---- the last zone of a list
-  -- it comes after z: z goes in before it
-  insert-before : (z x : ℕ) (front : List ℕ) → comesBefore (name z) (name x) ≡ true → insert name z (front ++ (x ∷ [])) ≡ insert name z front ++ (x ∷ [])
-  unfolding insert
-  insert-before z x [] h = rw h
-  insert-before z x (y ∷ front) h = go (insert-before z x front h) (comesBefore (name z) (name y))
-    where
-      go : insert name z (front ++ (x ∷ [])) ≡ insert name z front ++ (x ∷ []) → (t : Bool)
-          → cond t (z ∷ y ∷ front ++ (x ∷ [])) (y ∷ insert name z (front ++ (x ∷ []))) ≡ cond t (z ∷ y ∷ front) (y ∷ insert name z front) ++ (x ∷ [])
-      go rest true = refl
-      go rest false = ap (λ (k : List ℕ). y ∷ k) rest
-
-  from-last : (y x : ℕ) (front : List ℕ) → From name y (front ++ (x ∷ [])) → comesBefore (name x) (name y) ≡ false
-  from-last y x [] f = f .0
-  from-last y x (w ∷ front) f = from-last y x front (f .1)
-
-  -- it does not, and the list is in order: z goes in behind it
-  insert-behind : (z x : ℕ) (front : List ℕ) → Sorted name (front ++ (x ∷ [])) → comesBefore (name z) (name x) ≡ false
-      → insert name z (front ++ (x ∷ [])) ≡ front ++ (x ∷ []) ++ (z ∷ [])
-  unfolding insert
-  insert-behind z x [] s h = rw h
-  insert-behind z x (y ∷ front) s h =
-      insert-on name z y (front ++ (x ∷ [])) (not-before (name y) (name x) (name z) (from-last y x front (s .0)) h)
-      ∙ ap (λ (k : List ℕ). y ∷ k) (insert-behind z x front (s .1) h)
-
-  sorted-front : (l m : List ℕ) → Sorted name (l ++ m) → Sorted name l
-  sorted-front [] m s = tt
-  sorted-front (x ∷ l) m s = (from-front x l (s .0), sorted-front l m (s .1))
-    where
-      from-front : (x : ℕ) (l : List ℕ) → From name x (l ++ m) → From name x l
-      from-front x [] f = tt
-      from-front x (y ∷ l) f = (f .0, from-front x l (f .1))
-
-  -- the first i of k in order are in order
-  sorted-take : (m : List ℕ) (k i : ℕ) → i ≤ k → inOrder name (take k m) ≡ true → Sorted name (take i m)
-  sorted-take m k i h e =
-      rw (take-take i k m h) at (sorted-front (take i (take k m)) (drop i (take k m)) (rw (take-append-drop i (take k m)) (sorted-in name (take k m) e)))
-
-  -- ---- one step
-  -- The zone z of place k has come down to place i. What lies in front of i is as it was; z put into that, and what lies behind i, make what is promised.
-  pub record Shifting (m l : List ℕ) (z k i : ℕ) : Type 0 where
-    pub room : k < length m
-    pub sorted : inOrder name (take k m) ≡ true
-    pub place : i ≤ k
-    pub same : length l ≡ length m
-    pub kept : take i l ≡ take i m
-    pub left : insert name z (take i m) ++ drop (i + 1) l ≡ insert name z (take k m) ++ drop (k + 1) m
-
-  module _ (m l : List ℕ) (z k i : ℕ) (h : Shifting m l z k i) where
-    -- z comes to rest at place i
-    rest-at : insert name z (take i m) ≡ take i m ++ (z ∷ []) → set l i z ≡ insert name z (take k m) ++ drop (k + 1) m
-    rest-at e =
-        set-split l i z (omega (arith, h))
-        ∙ ap₂ (λ (f b : List ℕ). f ++ z ∷ b) (h .kept) (ap (λ (n : ℕ). drop n l) (sym (add-one i)))
-        ∙ sym (append-assoc (take i m) (z ∷ []) (drop (i + 1) l))
-        ∙ ap (λ (f : List ℕ). f ++ drop (i + 1) l) (sym e)
-        ∙ h .left
-
-    pub shift-end : i ≤ 0 → set l i z ≡ insert name z (take k m) ++ drop (k + 1) m
-    unfolding insert
-    shift-end g =
-        let e : i ≡ 0 = omega arith in
-        rest-at (rw e)
-
-    -- the zone in front of place i, and the test r whether z, whose name is own, comes before it
-    module _ (g : 0 < i) (own : List ℕ) (e : own ≡ name z) (r : Bool) (t : r ≡ comesBefore own (name (getD l (i - 1) 0))) where
-      test-is : r ≡ comesBefore (name z) (name (getD l (i - 1) 0))
-      test-is = t ∙ ap (λ (n : List ℕ). comesBefore n (name (getD l (i - 1) 0))) e
-
-      front-is : take i m ≡ take (i - 1) m ++ (getD l (i - 1) 0 ∷ [])
-      front-is =
-          let n : i ≡ suc (i - 1) = omega arith in
-          let x : getD m (i - 1) 0 ≡ getD l (i - 1) 0 =
-          sym (getD-take i m (i - 1) 0 (omega arith)) ∙ ap (λ (f : List ℕ). getD f (i - 1) 0) (sym (h .kept)) ∙ getD-take i l (i - 1) 0 (omega arith) in
-          ap (λ (j : ℕ). take j m) n ∙ take-suc m (i - 1) 0 (omega (arith, h)) ∙ ap (λ (y : ℕ). take (i - 1) m ++ (y ∷ [])) x
-
-      -- it does not: z comes to rest
-      pub shift-stop : not r ≡ true → set l i z ≡ insert name z (take k m) ++ drop (k + 1) m
-      shift-stop n =
-          rest-at
-          (ap (insert name z) front-is
-          ∙ insert-behind z (getD l (i - 1) 0) (take (i - 1) m) (rw front-is at (sorted-take m k i (h .place) (h .sorted))) (told-no r _ test-is n)
-          ∙ ap (λ (f : List ℕ). f ++ (z ∷ [])) (sym front-is))
-
-      -- it does: that zone moves up
-      pub shift-on : not r ≡ false → Shifting m (set l i (getD l (i - 1) 0)) z k (i - 1)
-      shift-on n = record {
-        room = h .room;
-        sorted = h .sorted;
-        place = omega (arith, h .place);
-        same = length-set l i x ∙ h .same;
-        kept = take-set-le (i - 1) l i x (omega arith) ∙ sym (take-take (i - 1) i l (omega arith)) ∙ ap (take (i - 1)) (h .kept) ∙ take-take (i - 1) i m (omega arith);
-        left =
-            ap (λ (b : List ℕ). insert name z (take (i - 1) m) ++ b) moved
-            ∙ sym (append-assoc (insert name z (take (i - 1) m)) (x ∷ []) (drop (i + 1) l))
-            ∙ ap (λ (f : List ℕ). f ++ drop (i + 1) l) (sym (insert-before z x (take (i - 1) m) (told-yes r _ test-is n)) ∙ ap (insert name z) (sym front-is))
-            ∙ h .left;
-      }
-        where
-          x : ℕ
-          x = getD l (i - 1) 0
-
-          moved : drop (i - 1 + 1) (set l i x) ≡ x ∷ drop (i + 1) l
-          moved =
-              let n : i - 1 + 1 ≡ i = omega arith in
-              let room : i < length l = omega (arith, h) in
-              ap (λ (j : ℕ). drop j (set l i x)) n
-              ∙ drop-cons (set l i x) i 0 (omega (arith, length-set l i x))
-              ∙ ap₂ (λ (y : ℕ) (b : List ℕ). y ∷ b) (getD-set-same l i x 0 room) (drop-set-lt (suc i) l i x (omega arith) ∙ ap (λ (j : ℕ). drop j l) (sym (add-one i)))
-
   -- ---- all zones
-  all-last : (l rest : List ℕ) (z : ℕ) → insertAll name l (rest ++ (z ∷ [])) ≡ insert name z (insertAll name l rest)
-  unfolding insertAll
-  all-last l [] z = refl
-  all-last l (x ∷ rest) z = all-last (insert name x l) rest z
-
   -- the first k of the zones m are in order, the others as they were
   pub record Sorting (m l : List ℕ) (k : ℕ) : Type 0 where
     pub so-far : l ≡ ordered name (take k m) ++ drop k m
@@ -172,7 +156,7 @@ module _ (name : ℕ → List ℕ) where
       unfolding ordered
       sort-on next e =
           let t : take (k + 1) m ≡ take k m ++ (getD m k 0 ∷ []) = ap (λ (n : ℕ). take n m) (add-one k) ∙ take-suc m k 0 (omega (arith, all-there)) in
-          record { so-far = e ∙ ap₂ (λ (f b : List ℕ). f ++ b) (ap₂ (insert name) zone-is front-of ∙ sym (all-last [] (take k m) (getD m k 0)) ∙ ap (insertAll name []) (sym t)) back-of }
+          record { so-far = e ∙ ap₂ (λ (f b : List ℕ). f ++ b) (ap₂ (insert name) zone-is front-of ∙ sym (all-last name [] (take k m) (getD m k 0)) ∙ ap (insertAll name []) (sym t)) back-of }
 
   -- one zone alone is in order
   pub sort-start : (m : List ℕ) → Sorting m m 1

@@ -1,13 +1,14 @@
 -- What the sort gives: the zones that went in, each as often as before, in the order of their names, equal names as they came.
 -- Assumes nothing.
-use Prim.Native.Nat.{ℕ, suc, _+_}
+use Prim.Native.Nat.{ℕ, suc, _+_, _≤_}
 use native.Mathlib.Omega.{arith}
 use mathlib.Core.Path.{_≡_, refl, sym, ap, _∙_}
 use mathlib.Core.Bool.{Bool, true, false, not, cond, true≢false}
 use mathlib.Core.List.{List, [], _∷_, _++_, append-nil, append-assoc}
 use borrow.Author.Tests.{not-true}
 use lib.Dec.{eqb}
-use lib.ListN.{length}
+use lib.ListN.{length, take, drop, take-append-drop}
+use lib.Seq.{take-take}
 use Rattle.basics.specs.Truth.{and-i, and-l, and-r}
 use Rattle.reader_order.specs.Order.{comesBefore, sameBytes, insert, insertAll, ordered, inOrder, called, times}
 use Rattle.reader_order.proofs.Bytes.{asym, not-before, never-self, same-eq}
@@ -41,6 +42,19 @@ module _ (name : ℕ → List ℕ) where
   in-sorted [] s = refl
   in-sorted (x ∷ []) s = refl
   in-sorted (x ∷ y ∷ l) s = and-i (not (comesBefore (name y) (name x))) (inOrder name (y ∷ l)) (rw (s .0 .0)) (in-sorted (y ∷ l) (s .1))
+
+  -- ---- the first zones of some in order
+  sorted-front : (l m : List ℕ) → Sorted (l ++ m) → Sorted l
+  sorted-front [] m s = tt
+  sorted-front (x ∷ l) m s = (from-front x l (s .0), sorted-front l m (s .1))
+    where
+      from-front : (x : ℕ) (l : List ℕ) → From x (l ++ m) → From x l
+      from-front x [] f = tt
+      from-front x (y ∷ l) f = (f .0, from-front x l (f .1))
+
+  pub sorted-take : (m : List ℕ) (k i : ℕ) → i ≤ k → inOrder name (take k m) ≡ true → Sorted (take i m)
+  sorted-take m k i h e =
+      rw (take-take i k m h) at (sorted-front (take i (take k m)) (drop i (take k m)) (rw (take-append-drop i (take k m)) (sorted-in (take k m) e)))
 
   -- ---- one zone put in
   -- by the test that decides its place
@@ -126,6 +140,11 @@ module _ (name : ℕ → List ℕ) where
       go rest false e = past (sameBytes n (name x)) rest
 
   -- ---- all zones put in
+  pub all-last : (l rest : List ℕ) (z : ℕ) → insertAll name l (rest ++ (z ∷ [])) ≡ insert name z (insertAll name l rest)
+  unfolding insertAll
+  all-last l [] z = refl
+  all-last l (x ∷ rest) z = all-last (insert name x l) rest z
+
   pub all-sorted : (l rest : List ℕ) → Sorted l → Sorted (insertAll name l rest)
   unfolding insertAll
   all-sorted l [] s = s
@@ -139,7 +158,7 @@ module _ (name : ℕ → List ℕ) where
       step : times y (insert name z l) ≡ cond (eqb y z) 1 0 + times y l → times y (insert name z l) + times y rest ≡ times y l + (cond (eqb y z) 1 0 + times y rest)
       step h = omega (arith, h)
 
-  all-called : (n : List ℕ) (l rest : List ℕ) → Sorted l → called name n (insertAll name l rest) ≡ called name n l ++ called name n rest
+  pub all-called : (n : List ℕ) (l rest : List ℕ) → Sorted l → called name n (insertAll name l rest) ≡ called name n l ++ called name n rest
   unfolding insertAll called
   all-called n l [] s = sym (append-nil (called name n l))
   all-called n l (z ∷ rest) s =

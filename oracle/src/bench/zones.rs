@@ -1,0 +1,132 @@
+//! The largest files: a point that lies in all of 65,535 zones of a file without GRID, and a group of 65,535 chunks. The best of three runs of each side, in milliseconds.
+
+use super::time;
+use crate::file::{Chunks, Draft, NAMES, Op, Part, Shape, TZDIR, names, shuffle};
+use crate::port::asking::exports::*;
+use crate::port::opening::refusal;
+use crate::random::Random;
+use crate::{original, port};
+use std::time::Duration;
+
+const MOST: usize = 65_535;
+const RUNS: usize = 3;
+
+pub fn run() {
+    println!("{:<52}{:>12}{:>12}", "item, ms", "port", "original");
+    for (order, all) in orders() {
+        of_zones(order, &file_of(&square(), &all));
+    }
+    for points in [1, 2, 64] {
+        of_chunks(points, &file_of(&comb(points), &[b"Z".to_vec()]));
+    }
+}
+
+type Names = Vec<Vec<u8>>;
+
+/// A name of a zone for each number, with the same letters before it.
+fn named(before: &str, numbers: impl Iterator<Item = usize>) -> Names {
+    numbers.map(|n| format!("{before}{n:05}").into_bytes()).collect()
+}
+
+fn orders() -> [(&'static str, Names); 6] {
+    let mut mixed: Vec<usize> = (0..MOST).collect();
+    shuffle(&mut Random::new(1), &mut mixed);
+    let long = "Zone/".repeat(20);
+    [
+        ("names rising", named("Zone/", 0..MOST)),
+        ("names falling", named("Zone/", (0..MOST).rev())),
+        ("names shuffled", named("Zone/", mixed.iter().copied())),
+        ("names all the same", vec![b"Zone/00000".to_vec(); MOST]),
+        ("names of 105 bytes, falling", named(&long, (0..MOST).rev())),
+        ("names of 105 bytes, shuffled", named(&long, mixed.iter().copied())),
+    ]
+}
+
+/// One ring of one group.
+fn shape_of(chunks: Chunks) -> Shape {
+    let mut shape = Shape::default();
+    let group = shape.add_group(chunks);
+    shape.zones.push(vec![vec![vec![Op { group, turned: false }]]]);
+    shape
+}
+
+fn square() -> Shape {
+    let corners = [(-1000, -1000), (1000, -1000), (1000, 1000), (-1000, 1000), (-1000, -1000)];
+    shape_of(Chunks(vec![corners.to_vec()]))
+}
+
+/// So many points in each chunk, in turn below and above, so that a ray from the left meets every chunk's box.
+fn comb(points: i32) -> Shape {
+    let tooth = |i: i32| (i, if i % 2 == 0 { -1000 } else { 1000 });
+    let chunk = |c: i32| (c * points..(c + 1) * points).map(tooth).collect();
+    shape_of(Chunks((0..MOST as i32).map(chunk).collect()))
+}
+
+/// As many zones as there are names, each with the shape's one polygon.
+fn file_of(shape: &Shape, all: &[Vec<u8>]) -> Vec<u8> {
+    let mut parts = shape.parts();
+    let zones = parts.iter_mut().find(|part| part.typ == TZDIR).unwrap();
+    zones.bytes = zones.bytes.repeat(all.len());
+    parts.push(Part { typ: NAMES, bytes: names(&[], all), gap: 0 });
+    Draft::new(all.len() as u32, parts).lay()
+}
+
+fn of_zones(order: &str, file: &[u8]) {
+    of_file(order, file);
+    let opened = port::asking::open(file).expect("a file that opens");
+    let (r, size, f, length) = opened.parts();
+    let other = original::opening::open(file).ok().expect("a file that opens");
+    let mut ask = || unsafe { tzb_ask(r, size, f, length, 0.0, 0.0) } as u64;
+    row(&format!("{order}: ask"), &mut ask, Some(&mut || other.zone(0.0, 0.0) as u64));
+    let mut places = vec![0u32; MOST];
+    let mut all = || {
+        let (to, room) = (places.as_mut_ptr(), places.len());
+        let count = unsafe { tzb_ask_all(r, size, f, length, 0.0, 0.0, to, room) };
+        listed(&places[..count as usize])
+    };
+    let mut list = Vec::new();
+    let mut other_all = || {
+        other.zones(0.0, 0.0, &mut list);
+        listed(&list)
+    };
+    row(&format!("{order}: ask_all"), &mut all, Some(&mut other_all));
+}
+
+/// A number for a list of zones, in its order.
+fn listed(zones: &[u32]) -> u64 {
+    assert_eq!(zones.len(), MOST, "a point in every zone");
+    zones.iter().fold(0, |sum: u64, &zone| sum.wrapping_mul(31).wrapping_add(zone.into()))
+}
+
+fn of_chunks(points: i32, file: &[u8]) {
+    let what = format!("{MOST} chunks of {points}");
+    of_file(&what, file);
+    let opened = port::asking::open(file).expect("a file that opens");
+    let (r, size, f, length) = opened.parts();
+    let other = original::opening::open(file).ok().expect("a file that opens");
+    let mut contains = || unsafe { tzb_contains(r, size, f, length, 0, 0, 1) } as u64;
+    row(&format!("{what}: contains"), &mut contains, Some(&mut || other.is_in(0, 0, 1) as u64));
+}
+
+/// Opening and the full check, which the original has not.
+fn of_file(what: &str, file: &[u8]) {
+    let (data, length) = (file.as_ptr(), file.len());
+    let mut open = || unsafe { refusal(data, length) }.into();
+    let mut other = || original::opening::open(file).err().unwrap_or(0).into();
+    row(&format!("{what}: opening {length} bytes"), &mut open, Some(&mut other));
+    let mut check = || unsafe { tzb_full_check(data, length) } as u64;
+    assert_eq!(check(), 0, "a file that the full check accepts");
+    row(&format!("{what}: full check"), &mut check, None);
+}
+
+fn row(name: &str, port: &mut dyn FnMut() -> u64, original: Option<&mut dyn FnMut() -> u64>) {
+    let answer = port();
+    let best = |f: &mut dyn FnMut() -> u64| (0..RUNS).map(|_| time(f)).min().unwrap();
+    let told = |d: Duration| format!("{:.1}", d.as_secs_f64() * 1e3);
+    let port = told(best(port));
+    let original = original.map_or("-".to_owned(), |f| {
+        assert_eq!(answer, f(), "{name}: the answers differ");
+        told(best(f))
+    });
+    println!("{name:<52}{port:>12}{original:>12}");
+}
