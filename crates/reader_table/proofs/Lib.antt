@@ -1,2 +1,4 @@
--- What follows from the promises.
+-- What follows from the promises, and what the code's loops rest on.
 pub mod Determined
+pub mod Marks
+pub mod Windows

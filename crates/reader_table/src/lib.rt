@@ -1,12 +1,15 @@
 // Opening, 12 to 16: the section table.
 ghost use mathlib.Core.Path.{_≡_};
-ghost use mathlib.Core.Bool.{true};
 ghost use Prim.Native.Nat.{_+_, _-_, _*_, _≤_, _<_};
 ghost use lib.ListN.{length};
 ghost use Rattle.fields.specs.Le.{le};
 ghost use Rattle.reader_head.specs.Head.{Headed};
 ghost use Rattle.answer.specs.Checks.{seek, each};
-ghost use Rattle.reader_table.specs.Table.{sections, entryField, isType, has, repeats, banned, apart, apartAt, placedCheck, typedCheck, entryCheck, entriesCheck, sectionOf, Covered};
+ghost use Rattle.reader_table.specs.Table.{sections, entryField, isType, has, repeats, banned, apart, apartAt, placedCheck, typedCheck, entryCheck, entriesCheck, sectionOf};
+ghost use Rattle.reader_table.specs.Shared.{Settled};
+
+mod units;
+
 use answer::Checked;
 
 // A section's place in the file.
@@ -153,58 +156,20 @@ fn typed(s: &[u8], i: usize) -> Checked
     Checked::Fine
 }
 
-// The stretch of the file outside which no section seen so far has a byte.
-pub struct Stretch {
-    pub low: usize,
-    pub high: usize,
-}
-
-// Entry i lies outside the stretch of the earlier ones, or is empty: then none of them need be looked at.
-fn is_clear(s: &[u8], i: usize, f: Stretch) -> bool
-    requires { ⌜ Headed (now s) × (i < sections (now s)) × Covered (now s) i f ⌝ }
-    ensures { λ r. ⌜ (r ≡ true → each (apartAt (now (s .entry)) i) i 0 ≡ Checked.Fine) ⌝ }
+// The entries up to which no pair need be looked at. A short table is done by pairs.
+fn known(s: &[u8]) -> usize
+    requires { ⌜ Headed (now s) ⌝ }
+    ensures { λ r. ⌜ Settled (now (s .entry)) r ⌝ }
 {
-    let off = field(s, i, 4);
-    let len = field(s, i, 8);
-    if len == 0 {
-        return true;
+    if count(s) <= 64 {
+        return 0;
     }
-    if f.high <= off {
-        return true;
-    }
-    off + len <= f.low
+    units::settled(s)
 }
 
-fn least(a: usize, b: usize) -> usize
-    ensures { λ r. ⌜ (r ≤ a) × (r ≤ b) ⌝ }
-{
-    if a < b { a } else { b }
-}
-
-fn greatest(a: usize, b: usize) -> usize
-    ensures { λ r. ⌜ (a ≤ r) × (b ≤ r) ⌝ }
-{
-    if a < b { b } else { a }
-}
-
-// The stretch, with entry i in it.
-fn stretched(s: &[u8], i: usize, f: Stretch) -> Stretch
-    requires { ⌜ Headed (now s) × (i < sections (now s)) × Covered (now s) i f ⌝ }
-    ensures { λ r. ⌜ Covered (now (s .entry)) (i + 1) r ⌝ }
-{
-    let off = field(s, i, 4);
-    let len = field(s, i, 8);
-    if len == 0 {
-        return f;
-    }
-    let low = least(f.low, off);
-    let high = greatest(f.high, off + len);
-    Stretch { low, high }
-}
-
-// 12 to 16 of one entry.
-fn entry(s: &[u8], i: usize, f: Stretch) -> Checked
-    requires { ⌜ Headed (now s) × (i < sections (now s)) × Covered (now s) i f ⌝ }
+// 12 to 16 of one entry, where the first n are known to share no byte with an earlier one.
+fn entry(s: &[u8], i: usize, n: usize) -> Checked
+    requires { ⌜ Headed (now s) × (i < sections (now s)) × Settled (now s) n ⌝ }
     ensures { λ r. ⌜ r ≡ entryCheck (now (s .entry)) i ⌝ }
 {
     let a = placed(s, i);
@@ -215,7 +180,7 @@ fn entry(s: &[u8], i: usize, f: Stretch) -> Checked
     if let Checked::Refused(k) = b {
         return Checked::Refused(k);
     }
-    if is_clear(s, i, f) {
+    if i < n {
         return Checked::Fine;
     }
     apart_before(s, i)
@@ -227,17 +192,13 @@ pub fn entries(s: &[u8]) -> Checked
     ensures { λ r. ⌜ r ≡ entriesCheck (now (s .entry)) ⌝ }
 {
     let n = count(s);
-    let mut f = Stretch {
-        low: 0x1_0000_0000,
-        high: 0,
-    };
+    let k = known(s);
     let mut i = 0;
     while i < n {
-        let a = entry(s, i, f);
+        let a = entry(s, i, k);
         if let Checked::Refused(k) = a {
             return Checked::Refused(k);
         }
-        f = stretched(s, i, f);
         i += 1;
     }
     Checked::Fine

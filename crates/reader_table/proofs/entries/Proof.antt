@@ -1,28 +1,32 @@
--- `reader_table::entries` meets its contract: each entry in turn, with the stretch that the earlier ones lie in.
+-- `reader_table::entries` meets its contract: each entry in turn.
 -- Assumes nothing.
 use Prim.Native.Nat.{_≤_, _-_}
 use mathlib.Core.Path.{_≡_}
 use Rattle.answer.specs.Checks.{each}
 use Rattle.answer.specs.CheckLaws.{each-from, each-stop, each-fine, each-end}
 use Rattle.reader_head.specs.Head.{Headed}
-use Rattle.reader_table.specs.Table.{entryCheck, entriesCheck, sections, Covered, covered-none}
+use Rattle.reader_table.specs.Table.{entryCheck, entriesCheck, sections}
+use Rattle.reader_table.specs.Shared.{Settled}
 use native.Mathlib.Omega.{arith}
 use borrow.Author.Needs.{needs}
 use Rattle.reader_table.proofs.entries.Statement.{statement}
 use Rattle.reader_table.proofs.entries.Tie as tie
 
 abbrev Inv-loop : tie.InvT-loop
-Inv-loop s n f₀ i₀ f i = (i ≤ n) × Headed s × (n ≡ sections s) × (each (entryCheck s) (n - i) i ≡ entriesCheck s) × Covered s i f
+Inv-loop s n k i₀ i = (i ≤ n) × Headed s × (n ≡ sections s) × (each (entryCheck s) (n - i) i ≡ entriesCheck s) × Settled s k
 
 abbrev μ-loop : tie.MeasureT-loop
-μ-loop s n f₀ i₀ f i = n - i
+μ-loop s n k i₀ i = n - i
 
 count-requires : tie.Need-count-requires Inv-loop μ-loop
 count-requires c κs = search needs
 
+known-requires : tie.Need-known-requires Inv-loop μ-loop
+known-requires c κs = search needs
+
 loop-holds : tie.Need-loop-holds Inv-loop μ-loop
 unfolding entriesCheck
-loop-holds c = (omega arith, search needs, c .count .ensures .0, each-from _ _ _ (c .count .ensures .0), covered-none _ _)
+loop-holds c = (omega arith, search needs, c .before .count .ensures .0, each-from _ _ _ (c .before .count .ensures .0), c .known .ensures)
 
 entry-requires : tie.Need-entry-requires Inv-loop μ-loop
 entry-requires c κs = (search needs, omega arith, c .before .loop .inv .4)
@@ -37,9 +41,6 @@ returns c = each-stop _ _ _ _ (c .before .before .before .before .before .loop .
 enum-told : tie.Need-enum-told Inv-loop μ-loop
 enum-told c = search needs
 
-stretched-requires : tie.Need-stretched-requires Inv-loop μ-loop
-stretched-requires c κs = (search needs, omega arith, c .before .before .before .before .loop .inv .4)
-
 add-i : tie.Need-add-i Inv-loop μ-loop
 add-i c = search needs
 
@@ -47,7 +48,7 @@ loop-less : tie.Need-loop-less Inv-loop μ-loop
 loop-less c = omega arith
 
 loop-again : tie.Need-loop-again Inv-loop μ-loop
-loop-again c = (omega arith, search needs, search needs, each-fine _ _ _ _ (c .before .before .before .before .before .loop .inv .3) (omega arith) (cc), c .stretched .ensures)
+loop-again c = (omega arith, search needs, search needs, each-fine _ _ _ _ (c .before .before .before .before .loop .inv .3) (omega arith) (cc), search needs)
 
 returns-2 : tie.Need-returns-2 Inv-loop μ-loop
 unfolding entriesCheck
@@ -60,12 +61,12 @@ entries-spec =
     Inv-loop
     μ-loop
     count-requires
+    known-requires
     loop-holds
     entry-requires
     enum-known-a
     returns
     enum-told
-    stretched-requires
     add-i
     loop-less
     loop-again

@@ -33,12 +33,9 @@ returns-2 c = met-by _ _ _ (cc) (unmet-by _ _ _ (cc))
 enum-told-2 : tie.Need-enum-told-2
 enum-told-2 c = search needs
 
-is-clear-requires : tie.Need-is-clear-requires
-is-clear-requires c κs = search needs
-
 returns-3 : tie.Need-returns-3
 unfolding entryCheck
-returns-3 c = met-by _ _ _ (cc) (met-by _ _ _ (cc) (sym (c .before .is-clear .ensures (c .if1 .taken)) ∙ none-left _))
+returns-3 c = met-by _ _ _ (cc) (met-by _ _ _ (cc) (sym (c .before .before .before .before .before .before .before .before .pre .2 .apart-each _ (c .if1 .taken)) ∙ none-left _))
 
 apart-before-requires : tie.Need-apart-before-requires
 apart-before-requires c κs = search needs
@@ -59,7 +56,6 @@ entry-spec =
     enum-known-b
     returns-2
     enum-told-2
-    is-clear-requires
     returns-3
     apart-before-requires
     returns-4)
