@@ -1,1 +1,2 @@
+-- That answers are determined.
 pub mod Determined

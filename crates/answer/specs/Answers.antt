@@ -1,6 +1,7 @@
 -- What a question answers: a value, or a refusal. One thing after another: the first refusal stands.
 -- Assumes nothing.
 use Prim.Native.Nat.{ℕ}
+use native.Mathlib.Omega.{arith}
 use mathlib.Core.Path.{_≡_, refl, sym, ap, _∙_}
 use mathlib.Core.Bool.{Bool, true, false}
 use Rattle.answer.specs.declared.Refusal.{Refusal}
@@ -44,3 +45,18 @@ need-met n b x e = rw e
 
 pub need-not : {A : Type 0} (n : ℕ) (b : Bool) (x : Answer A) → b ≡ false → no n ≡ need n b x
 need-not n b x e = rw e
+
+-- what an answer of several steps was made of
+pub zero-one : _≡_ {A = ℕ} 0 1 → ⊥
+zero-one z = omega arith
+
+pub then-inv : {A B : Type 0} (x : Answer A) (k : A → Answer B) (b : B) → ok b ≡ (x then k) → (a : A) × (ok a ≡ x) × (ok b ≡ k a)
+then-inv (ok a) k b e = (a, refl, e)
+then-inv (refused r) k b e = let z : _≡_ {A = ℕ} 0 1 = cc in absurd (zero-one z)
+
+pub need-inv : {A : Type 0} (n : ℕ) (c : Bool) (x : Answer A) (a : A) → ok a ≡ need n c x → (c ≡ true) × (ok a ≡ x)
+need-inv n true x a e = (refl, e)
+need-inv n false x a e = let z : _≡_ {A = ℕ} 0 1 = cc in absurd (zero-one z)
+
+pub ok-inv : {A : Type 0} (a b : A) → ok a ≡ ok b → a ≡ b
+ok-inv a b e = cc

@@ -4,8 +4,7 @@ use Prim.Native.Nat.{ℕ}
 use mathlib.Core.Path.{_≡_, sym, _∙_, subst}
 use mathlib.Core.List.{List}
 use mathlib.Core.Logic.{_↔_}
-use Rattle.answer.specs.Answers.{ok}
-use Rattle.tzb_core.proofs.Decoded.{ok-inv}
+use Rattle.answer.specs.Answers.{ok, ok-inv}
 use Rattle.reader_opened.specs.declared.Opened.{Opened}
 use Rattle.reader_check.specs.FullCheck as Rules
 use Rattle.reader_check.specs.FullCheck.{accepted}

@@ -8,10 +8,9 @@ use lib.IntN.{pos}
 use lib.Ieee.{Float, binary64, ofBits, ofInt, lt, mul}
 use lib.ListN.{length}
 use Rattle.plane.specs.declared.Point.{Point}
-use Rattle.answer.specs.Answers.{ok, need}
+use Rattle.answer.specs.Answers.{ok, need, ok-inv}
 use Rattle.answer.specs.Checks.{atMost}
 use Rattle.tzb_core.specs.Ray.{pointOf}
-use Rattle.tzb_core.proofs.Decoded.{ok-inv}
 use Rattle.reader_opened.specs.declared.Opened.{Opened}
 use Rattle.reader_names.specs.Asked.{nameOr}
 use Rattle.reader_order.specs.Order.{ordered}

@@ -9,12 +9,11 @@ use lib.IntN.{ℤ}
 use lib.Dec.{leb}
 use lib.Ieee.{Float}
 use lib.ListN.{length}
-use Rattle.answer.specs.Answers.{Answer, ok, need-met}
+use Rattle.answer.specs.Answers.{Answer, ok, need-met, ok-inv}
 use Rattle.answer.specs.CheckLaws.{le-at}
 use Rattle.answer.specs.Checks.{atMost}
 use Rattle.shapes.specs.Walk.{floatTests, zoneWalk}
 use Rattle.shapes.specs.Layout as Layout
-use Rattle.tzb_core.proofs.Decoded.{ok-inv}
 use Rattle.reader_opened.specs.declared.Opened.{Opened}
 use Rattle.reader_grid.specs.Asked.{Chosen, none, all, listed, candidatesOf, candidateAt}
 use Rattle.reader_names.specs.Asked.{nameOr}

@@ -3,8 +3,7 @@
 use Prim.Native.Nat.{ℕ, zero, suc, _+_, _%_}
 use mathlib.Core.Path.{_≡_, sym, ap, ap₂, _∙_}
 use mathlib.Core.List.{List}
-use Rattle.answer.specs.Answers.{ok, _then_}
-use Rattle.tzb_core.proofs.Decoded.{then-inv, ok-inv}
+use Rattle.answer.specs.Answers.{ok, _then_, then-inv, ok-inv}
 use Rattle.reader_opened.specs.declared.Opened.{Opened}
 use Rattle.reader_records.specs.declared.GroupRecord.{GroupRecord}
 use Rattle.reader_records.specs.Records.{opAt, groupAt}

@@ -1,12 +1,13 @@
 -- A position lies in document 01's domain. A zone's exact meaning as a test (shapes, `zoneIn`) and in words (specs/Words, `InZone`): the one says yes exactly when the other holds.
 -- Assumes nothing.
-use Prim.Native.Nat.{ℕ, suc, _≤_}
+use Prim.Native.Nat.{ℕ, zero, suc, _≤_}
 use native.Mathlib.Omega.{arith}
 use mathlib.Core.Path.{_≡_, refl, sym, ap, _∙_}
 use mathlib.Core.Bool.{Bool, true, false, not, _&&_, _||_, cond, false≢true}
 use mathlib.Core.List.{List, [], _∷_, List·Memᴰ, List·Memᴰ·head, List·Memᴰ·tail, List·Memᴰ·not-nil, List·Memᴰ·cases-cons}
 use mathlib.Core.Logic.{_↔_, _⊎_, inl, inr}
 use borrow.Author.Tests.{le-leb}
+use lib.Dec.{leb}
 use lib.IntN.{ℤ, pos, negsuc, natAbs}
 use Rattle.basics.specs.Truth.{and-i, and-l, and-r}
 use Rattle.plane.specs.declared.I32Point.{I32Point}
@@ -19,15 +20,17 @@ use Rattle.shapes.proofs.Words.{ring-in-words}
 use Rattle.demands.specs.Words.{Position, OnRing, Inside, InPolygon, InZone}
 
 -- ---- a position lies in the domain
-in-span : (n : ℕ) (z : ℤ) → natAbs z ≤ suc n → within n z ≡ true
-in-span n (pos m) h = le-leb m (suc n) h
-in-span n (negsuc m) h = rw (le-leb m n (omega arith))
+in-span : (n : ℕ) (z : ℤ) → natAbs z ≤ n → within n z ≡ true
+in-span zero (pos m) h = and-i (leb zero m) (leb m zero) (le-leb zero m (omega arith)) (le-leb m zero h)
+in-span zero (negsuc m) h = absurd (omega arith)
+in-span (suc n) (pos m) h = le-leb m (suc n) h
+in-span (suc n) (negsuc m) h = rw (le-leb m n (omega arith))
 
 pub position-in : (p : Position) → inDomain (p .at) ≡ true
 unfolding inDomain
 position-in p =
     let q = p .at in
-    and-i (within 17_999_999 (q .x)) (within 8_999_999 (q .y)) (in-span 17_999_999 (q .x) (p .longitude)) (in-span 8_999_999 (q .y) (p .latitude))
+    and-i (within 18_000_000 (q .x)) (within 9_000_000 (q .y)) (in-span 18_000_000 (q .x) (p .longitude)) (in-span 9_000_000 (q .y) (p .latitude))
 
 -- ---- some element of a list
 module _ {A : Type 0} (P : A → Bool) where

@@ -11,9 +11,9 @@ use lib.IntN.{ℤ}
 use borrow.Author.Tests.{le-leb, lt-leb}
 use Rattle.plane.specs.declared.I32Point.{I32Point}
 use Rattle.answer.specs.declared.Checked.the-variants.{Fine}
-use Rattle.answer.specs.Answers.{ok, no, _then_, need}
+use Rattle.answer.specs.Answers.{ok, no, _then_, need, then-inv, need-inv}
 use Rattle.tzb_core.specs.Decode.{pointsOf, flat, filled}
-use Rattle.tzb_core.proofs.Decoded.{then-inv, need-inv, outcome-fine}
+use Rattle.tzb_core.proofs.Decoded.{outcome-fine}
 use Rattle.tzb_core.proofs.Neighbours.{count-list, never-empty}
 use Rattle.reader_opened.specs.declared.Opened.{Opened}
 use Rattle.reader_records.specs.declared.ChunkRecord.{ChunkRecord}

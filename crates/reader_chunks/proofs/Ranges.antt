@@ -7,11 +7,11 @@ use lib.ListN.{length}
 use lib.Dec.{ltb, leb}
 use borrow.Author.Tests.{ltb-true, leb-true}
 use Rattle.answer.specs.declared.Checked.the-variants.{Fine}
-use Rattle.answer.specs.Answers.{ok, need}
+use Rattle.answer.specs.Answers.{ok, need, then-inv, need-inv}
 use Rattle.fields.specs.Part.{part}
 use Rattle.fields.specs.Loads.{inside}
 use Rattle.tzb_core.specs.Decode.{outcome}
-use Rattle.tzb_core.proofs.Decoded.{outcome-fine, then-inv, need-inv}
+use Rattle.tzb_core.proofs.Decoded.{outcome-fine}
 use Rattle.reader_opened.specs.declared.Opened.{Opened}
 use Rattle.reader_records.specs.declared.ChunkRecord.{ChunkRecord}
 use Rattle.reader_records.specs.Records.{place, recordAt, ruled, chunkIn, chunkRule, chunkAt}

@@ -12,14 +12,13 @@ use Rattle.plane.specs.declared.Seen.{Seen}
 use Rattle.plane.specs.Tally.{none}
 use Rattle.plane.specs.Lines.{every, lastFrom, chain}
 use Rattle.plane.specs.Domain.{inDomain}
-use Rattle.answer.specs.Answers.{ok, _then_, need}
+use Rattle.answer.specs.Answers.{ok, _then_, need, then-inv, need-inv, ok-inv}
 use Rattle.answer.specs.Walks.{done}
 use Rattle.tzb_core.specs.declared.bbox.BBox.{BBox}
 use Rattle.tzb_core.specs.Box.{boxInDomain, relevant, right}
 use Rattle.tzb_core.specs.Ray.{rayOf, parityOf}
 use Rattle.tzb_core.specs.Scan.{past}
 use Rattle.tzb_core.specs.Decode.{pointsOf}
-use Rattle.tzb_core.proofs.Decoded.{then-inv, need-inv, ok-inv}
 use Rattle.tzb_core.proofs.Neighbours.{scan-list, first-list, domain-list, never-empty}
 use Rattle.shapes.specs.Shapes.{Chunk, chunkInDomain}
 use Rattle.shapes.specs.Walk.{floatTests, chunkWalk}

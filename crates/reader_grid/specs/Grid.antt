@@ -4,7 +4,7 @@ use Prim.Native.Nat.{ℕ, _+_, _*_}
 use mathlib.Core.Bool.{Bool, _&&_}
 use mathlib.Core.List.{List, [], _∷_}
 use lib.Dec.{ltb}
-use lib.IntN.{ℤ, pos, negsuc, _+ℤ_, _-ℤ_}
+use lib.IntN.{ℤ, pos, negℤ, _+ℤ_, _-ℤ_}
 use lib.Signed.{leZ}
 use Rattle.fields.specs.Le.{le}
 use Rattle.answer.specs.declared.Checked.{Checked}
@@ -21,8 +21,8 @@ lastOf first count = first +ℤ pos count -ℤ pos 1
 unfoldable pub dimensions : Grid → Bool
 dimensions g =
     (ltb 0 (g .cols) && ltb 0 (g .rows))
-    && ((leZ (negsuc 180) (g .lng) && leZ (g .lng) (pos 180))
-    && (leZ (negsuc 90) (g .lat) && leZ (g .lat) (pos 90)))
+    && ((leZ (negℤ (pos 181)) (g .lng) && leZ (g .lng) (pos 180))
+    && (leZ (negℤ (pos 91)) (g .lat) && leZ (g .lat) (pos 90)))
     && (leZ (lastOf (g .lng) (g .cols)) (pos 181) && leZ (lastOf (g .lat) (g .rows)) (pos 91))
     && ltb (g .total) 0x1000_0000
 

@@ -7,10 +7,9 @@ use mathlib.Core.List.{List, [], _∷_}
 use lib.IntN.{pos, negℤ}
 use lib.Ieee.{Float, binary64, ofInt, lt}
 use lib.ListN.{length}
-use Rattle.answer.specs.Answers.{Answer, ok, _then_}
+use Rattle.answer.specs.Answers.{Answer, ok, _then_, then-inv, need-inv, ok-inv}
 use Rattle.answer.specs.Checks.{same, atMost}
 use Rattle.answer.specs.CheckLaws.{at-le}
-use Rattle.tzb_core.proofs.Decoded.{then-inv, need-inv, ok-inv}
 use Rattle.reader_opened.specs.declared.Opened.{Opened}
 use Rattle.reader_names.specs.Asked.{nameOr}
 use Rattle.reader_order.specs.Order.{ordered, inOrder, called, times}

@@ -9,10 +9,9 @@ use lib.Seq.{sets, sets-eq, length-sets, take-at, drop-at}
 use Rattle.answer.specs.declared.Refusal.{Refusal}
 use Rattle.answer.specs.declared.Checked.{Checked}
 use Rattle.answer.specs.declared.Checked.the-variants.{Fine, Refused}
-use Rattle.answer.specs.Answers.{Answer, ok, refused, no, _then_, _before_, need-met, need-not}
+use Rattle.answer.specs.Answers.{Answer, ok, refused, no, _then_, _before_, need-met, need-not, then-inv, ok-inv, zero-one}
 use Rattle.answer.specs.Checks.{andThen}
 use Rattle.answer.specs.CheckLaws.{le-at, gt-at}
-use Rattle.tzb_core.proofs.Decoded.{then-inv, ok-inv, zero-one}
 use Rattle.reader_opened.specs.declared.Opened.{Opened}
 use Rattle.reader_names.specs.Asked.{nameOr}
 use Rattle.reader_order.specs.Order.{ordered}

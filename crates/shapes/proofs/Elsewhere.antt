@@ -1,9 +1,9 @@
 -- A point outside the domain is in no zone of the domain.
 -- Assumes nothing.
-use Prim.Native.Nat.{ℕ, suc}
+use Prim.Native.Nat.{ℕ}
 use mathlib.Core.Path.{_≡_, refl, sym, ap, _∙_}
 use mathlib.Core.Bool.{Bool, true, false, _&&_, true≢false}
-use lib.IntN.{ℤ, pos, negsuc}
+use lib.IntN.{ℤ, pos, negℤ}
 use lib.Signed.{leZ}
 use Rattle.basics.specs.Truth.{and-i, and-l, and-r}
 use Rattle.basics.specs.Whole.{le-le}
@@ -21,9 +21,9 @@ use Rattle.shapes.proofs.Whole.{skips-are-exact}
 -- between two numbers within the bounds
 between : (n : ℕ) (lo z hi : ℤ) → within n lo ≡ true → within n hi ≡ true → leZ lo z ≡ true → leZ z hi ≡ true → within n z ≡ true
 between n lo z hi a b h k =
-    and-i (leZ (negsuc n) z) (leZ z (pos (suc n)))
-    (le-le (negsuc n) lo z (and-l (leZ (negsuc n) lo) (leZ lo (pos (suc n))) a) h)
-    (le-le z hi (pos (suc n)) k (and-r (leZ (negsuc n) hi) (leZ hi (pos (suc n))) b))
+    and-i (leZ (negℤ (pos n)) z) (leZ z (pos n))
+    (le-le (negℤ (pos n)) lo z (and-l (leZ (negℤ (pos n)) lo) (leZ lo (pos n)) a) h)
+    (le-le z hi (pos n) k (and-r (leZ (negℤ (pos n)) hi) (leZ hi (pos n)) b))
 
 -- what a box of the domain covers lies in the domain
 pub box-domain : (b : BBox) (p : I32Point) → boxInDomain b ≡ true → inBox b p ≡ true → inDomain p ≡ true
@@ -33,9 +33,9 @@ box-domain b p h k =
     let lo = and-l (inDomain (least b)) (inDomain (greatest b)) c in
     let hi = and-r (inDomain (least b)) (inDomain (greatest b)) c in
     let u = sides (leZ (b .minx) (p .x)) (leZ (p .x) (b .maxx)) (leZ (b .miny) (p .y)) (leZ (p .y) (b .maxy)) k in
-    and-i (within 17_999_999 (p .x)) (within 8_999_999 (p .y))
-    (between 17_999_999 (b .minx) (p .x) (b .maxx) (and-l (within 17_999_999 (b .minx)) (within 8_999_999 (b .miny)) lo) (and-l (within 17_999_999 (b .maxx)) (within 8_999_999 (b .maxy)) hi) (u .0) (u .1))
-    (between 8_999_999 (b .miny) (p .y) (b .maxy) (and-r (within 17_999_999 (b .minx)) (within 8_999_999 (b .miny)) lo) (and-r (within 17_999_999 (b .maxx)) (within 8_999_999 (b .maxy)) hi) (u .2) (u .3))
+    and-i (within 18_000_000 (p .x)) (within 9_000_000 (p .y))
+    (between 18_000_000 (b .minx) (p .x) (b .maxx) (and-l (within 18_000_000 (b .minx)) (within 9_000_000 (b .miny)) lo) (and-l (within 18_000_000 (b .maxx)) (within 9_000_000 (b .maxy)) hi) (u .0) (u .1))
+    (between 9_000_000 (b .miny) (p .y) (b .maxy) (and-r (within 18_000_000 (b .minx)) (within 9_000_000 (b .miny)) lo) (and-r (within 18_000_000 (b .maxx)) (within 9_000_000 (b .maxy)) hi) (u .2) (u .3))
 
 module _ (p : I32Point) (e : inDomain p ≡ false) where
   outside : (b : BBox) → boxInDomain b ≡ true → inBox b p ≡ false

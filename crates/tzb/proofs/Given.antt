@@ -15,8 +15,7 @@ use Rattle.answer.specs.declared.Refusal.{Refusal}
 use Rattle.answer.specs.declared.Checked.{Checked}
 use Rattle.answer.specs.declared.Checked.the-variants as C
 use Rattle.answer.specs.CheckLaws.{fine-one, fine-rest, fine-claim, same-eq, at-le, ne-same}
-use Rattle.answer.specs.Answers.{Answer, ok, refused, _before_}
-use Rattle.tzb_core.proofs.Decoded.{zero-one, ok-inv}
+use Rattle.answer.specs.Answers.{Answer, ok, refused, _before_, zero-one, ok-inv}
 use Rattle.reader_head.specs.Head.{headCheck, fieldsCheck, isCount}
 use Rattle.reader_table.specs.Table.{sections, has, sectionOf}
 use Rattle.reader_opened.specs.declared.Directory.{Directory}

@@ -136,7 +136,7 @@ pub enum FullCheck {
     Broken(Refusal, u32),
 }
 
-// Looks at everything in the file once. Of a file that it accepts no question is refused.
+// Checks F1 to F6 over the whole file. Of an accepted file no question is refused but for a number that is too large, a place of the candidate list that no cell lists, or room that is too short.
 pub fn full_check(s: &[u8]) -> FullCheck
     ensures { λ r. ⌜ checkTold r ≡ fullCheckOf (now (s .entry)) ⌝ }
 {

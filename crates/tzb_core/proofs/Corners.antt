@@ -1,9 +1,9 @@
 -- Of an ordered box the least x, the greatest x, the least y and the greatest y, each held to one bound, put both corners into the domain.
 -- Assumes nothing.
-use Prim.Native.Nat.{ℕ, suc}
+use Prim.Native.Nat.{ℕ}
 use mathlib.Core.Path.{_≡_, refl, ap₂, _∙_}
 use mathlib.Core.Bool.{Bool, true, false, _&&_}
-use lib.IntN.{ℤ, pos, negsuc}
+use lib.IntN.{ℤ, pos, negℤ}
 use lib.Signed.{leZ}
 use Rattle.basics.specs.Truth.{and-l, and-r}
 use Rattle.basics.specs.Whole.{le-le}
@@ -25,16 +25,16 @@ swap true true c d = refl
 swap true false true d = refl
 swap true false false d = refl
 
-axis : (n : ℕ) (lo hi : ℤ) → leZ lo hi ≡ true → leZ (negsuc n) lo && leZ hi (pos (suc n)) ≡ within n lo && within n hi
+axis : (n : ℕ) (lo hi : ℤ) → leZ lo hi ≡ true → leZ (negℤ (pos n)) lo && leZ hi (pos n) ≡ within n lo && within n hi
 axis n lo hi h =
-    squeeze (leZ (negsuc n) lo) (leZ lo (pos (suc n))) (leZ (negsuc n) hi) (leZ hi (pos (suc n)))
-    (λ l. le-le (negsuc n) lo hi l h) (λ l. le-le lo hi (pos (suc n)) h l)
+    squeeze (leZ (negℤ (pos n)) lo) (leZ lo (pos n)) (leZ (negℤ (pos n)) hi) (leZ hi (pos n))
+    (λ l. le-le (negℤ (pos n)) lo hi l h) (λ l. le-le lo hi (pos n) h l)
 
 -- the four bounds of an ordered box
 abbrev pub bounded : BBox → Bool
 bounded b =
-    (leZ (negsuc 17_999_999) (b .minx) && leZ (b .maxx) (pos 18_000_000))
-    && (leZ (negsuc 8_999_999) (b .miny) && leZ (b .maxy) (pos 9_000_000))
+    (leZ (negℤ (pos 18_000_000)) (b .minx) && leZ (b .maxx) (pos 18_000_000))
+    && (leZ (negℤ (pos 9_000_000)) (b .miny) && leZ (b .maxy) (pos 9_000_000))
 
 pub corners : (b : BBox) → ordered b && bounded b ≡ boxInDomain b
 unfolding boxInDomain ordered inDomain
@@ -44,6 +44,6 @@ corners b = go (ordered b) refl
     go false e = refl
     go true e =
         ap₂ _&&_
-        (axis 17_999_999 (b .minx) (b .maxx) (and-l (leZ (b .minx) (b .maxx)) (leZ (b .miny) (b .maxy)) e))
-        (axis 8_999_999 (b .miny) (b .maxy) (and-r (leZ (b .minx) (b .maxx)) (leZ (b .miny) (b .maxy)) e))
-        ∙ swap (within 17_999_999 (b .minx)) (within 17_999_999 (b .maxx)) (within 8_999_999 (b .miny)) (within 8_999_999 (b .maxy))
+        (axis 18_000_000 (b .minx) (b .maxx) (and-l (leZ (b .minx) (b .maxx)) (leZ (b .miny) (b .maxy)) e))
+        (axis 9_000_000 (b .miny) (b .maxy) (and-r (leZ (b .minx) (b .maxx)) (leZ (b .miny) (b .maxy)) e))
+        ∙ swap (within 18_000_000 (b .minx)) (within 18_000_000 (b .maxx)) (within 9_000_000 (b .miny)) (within 9_000_000 (b .maxy))

@@ -11,27 +11,13 @@ use lib.IntN.{ℤ}
 use Rattle.answer.specs.declared.Refusal.{Refusal}
 use Rattle.answer.specs.declared.Checked.the-variants.{Fine, Refused}
 use Rattle.answer.specs.Checks.{claim}
-use Rattle.answer.specs.Answers.{Answer, ok, refused, _then_, need}
+use Rattle.answer.specs.Answers.{Answer, ok, refused, _then_, need, zero-one, then-inv, need-inv, ok-inv}
 use Rattle.plane.specs.declared.I32Point.{I32Point}
 use Rattle.tzb_core.specs.Varint.{atEnd}
 use Rattle.tzb_core.specs.Points.{nextAt}
 use Rattle.tzb_core.specs.Decode.{led, pointsFrom, outcome, flat, filled, readFrom, put}
 
--- ---- what an answer of several steps was made of
-pub zero-one : _≡_ {A = ℕ} 0 1 → ⊥
-zero-one z = omega arith
-
-pub then-inv : {A B : Type 0} (x : Answer A) (k : A → Answer B) (b : B) → ok b ≡ (x then k) → (a : A) × (ok a ≡ x) × (ok b ≡ k a)
-then-inv (ok a) k b e = (a, refl, e)
-then-inv (refused r) k b e = let z : _≡_ {A = ℕ} 0 1 = cc in absurd (zero-one z)
-
-pub need-inv : {A : Type 0} (n : ℕ) (c : Bool) (x : Answer A) (a : A) → ok a ≡ need n c x → (c ≡ true) × (ok a ≡ x)
-need-inv n true x a e = (refl, e)
-need-inv n false x a e = let z : _≡_ {A = ℕ} 0 1 = cc in absurd (zero-one z)
-
-pub ok-inv : {A : Type 0} (a b : A) → ok a ≡ ok b → a ≡ b
-ok-inv a b e = cc
-
+-- ---- what an outcome was made of
 pub outcome-fine : {A : Type 0} (x : Answer A) → Fine ≡ outcome x → (a : A) × (ok a ≡ x)
 outcome-fine (ok a) e = (a, refl)
 outcome-fine (refused r) e = let z : _≡_ {A = ℕ} 0 1 = cc in absurd (zero-one z)

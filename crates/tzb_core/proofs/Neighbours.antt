@@ -9,7 +9,7 @@ use lib.ListN.{length}
 use lib.Dec.{ltb}
 use borrow.Author.Tests.{ltb-true}
 use Rattle.basics.specs.Truth.{and-i}
-use Rattle.answer.specs.Answers.{ok, _then_}
+use Rattle.answer.specs.Answers.{ok, _then_, then-inv, need-inv, ok-inv}
 use Rattle.answer.specs.Walks.{Walk, add, _go_}
 use Rattle.plane.specs.declared.Point.{Point}
 use Rattle.plane.specs.declared.I32Point.{I32Point}
@@ -23,7 +23,7 @@ use Rattle.tzb_core.specs.Varint.{atEnd}
 use Rattle.tzb_core.specs.Points.{numbersAt, movedBy, inside, firstOf, nextAt}
 use Rattle.tzb_core.specs.Scan.{past, stepAt, onward, scanOf}
 use Rattle.tzb_core.specs.Decode.{led, pointsFrom, pointsOf}
-use Rattle.tzb_core.proofs.Decoded.{then-inv, need-inv, ok-inv, read-all}
+use Rattle.tzb_core.proofs.Decoded.{read-all}
 
 -- ---- a point that was read lies in the domain
 inside-in : (q : I32Point) (p : ℕ) (t : I32Point × ℕ) → ok t ≡ inside q p → inDomain (t .0) ≡ true

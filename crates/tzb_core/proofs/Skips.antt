@@ -136,7 +136,7 @@ around-all y (pos n) h = (λ k. absurd (false≢true k), λ k. absurd (omega (ar
 around-all y (negsuc n) h = (λ k. absurd (omega (arith, ltb-true 8_999_999 n k)), λ k. absurd (false≢true k))
 
 -- a number of the domain's heights is an i32
-pub within-fits : (z : ℤ) → within 8_999_999 z ≡ true → SFits w32 z
+pub within-fits : (z : ℤ) → within 9_000_000 z ≡ true → SFits w32 z
 within-fits (pos n) h = record { sfits = omega (arith, leb-true n 9_000_000 (and-r true (leZ (pos n) (pos 9_000_000)) h)) }
 within-fits (negsuc n) h = record { sfits = omega (arith, leb-true n 8_999_999 (and-l (leZ (negsuc 8_999_999) (negsuc n)) true h)) }
 

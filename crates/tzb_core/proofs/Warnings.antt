@@ -1,14 +1,16 @@
 -- Document 01, "Errors that look right", of the ray test: floats are not exact everywhere. Each line is computed from the definitions.
 -- Assumes nothing.
 use mathlib.Core.Path.{_≡_, refl}
-use mathlib.Core.Bool.{true, false}
+use mathlib.Core.Bool.{true, false, _&&_}
 use lib.IntN.{ℤ, pos, negsuc}
-use lib.Ieee.{fin, inf, ofInt, lt, eq, sub, div}
+use lib.Ieee.{fin, inf, ofInt, lt, le, eq, sub, div}
 use Rattle.plane.specs.declared.Point.{Point}
 use Rattle.plane.specs.declared.I32Point.{I32Point}
 use Rattle.plane.specs.declared.Seen.the-variants.{On, Off}
 use Rattle.plane.specs.Segment.{seg, cross, onZ, countsZ, amidZ}
-use Rattle.tzb_core.specs.Ray.{rayOf, rayAt, touches, pointOf}
+use Rattle.tzb_core.specs.declared.bbox.BBox.{BBox}
+use Rattle.tzb_core.specs.Box.{relevant, right}
+use Rattle.tzb_core.specs.Ray.{rayOf, rayAt, touches, aboveOf, parityOf, pointOf}
 
 abbrev pub spot : ℤ → ℤ → I32Point
 spot x y = record { x = x; y = y }
@@ -20,6 +22,18 @@ aside = record { x = fin true 1 (negsuc 59); y = fin false 1 (pos 0) }
 pub beside-is-on : rayOf (spot (pos 1) (pos 0)) (spot (pos 0) (pos 1)) aside ≡ On
 unfolding rayOf rayAt touches lt ofInt eq div sub
 beside-is-on = refl
+
+-- the skip takes it for a segment to the right of the point, and asks its ends alone: neither of them is above the point, so it reports nothing
+abbrev pub besideBox : BBox
+besideBox = record { minx = pos 0; miny = pos 0; maxx = pos 1; maxy = pos 1 }
+
+pub beside-skipped : relevant besideBox aside && right besideBox aside ≡ true
+unfolding relevant right lt le ofInt
+beside-skipped = refl
+
+pub beside-skip : parityOf aside (spot (pos 1) (pos 0)) (spot (pos 0) (pos 1)) ≡ false
+unfolding parityOf aboveOf lt ofInt
+beside-skip = refl
 
 -- outside the domain, (-2^31, -2^31) to (2^31 - 1, 2^31 - 2) at (2^31 - 2, 2^31 - 3): on by floats, and in truth neither on nor counted
 abbrev pub least : I32Point
