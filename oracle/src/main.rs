@@ -24,13 +24,10 @@ oracle compare files [SECONDS [SEED]]
 oracle compare file FILE.tzb
 oracle compare asking [SECONDS [SEED]]
 oracle compare asking FILE.tzb [SECONDS [SEED]]
-<<<<<<< HEAD
 oracle compare exact [SECONDS [SEED]]
 oracle compare exact FILE.tzb [SECONDS [SEED]]
-=======
 oracle load [INPUTS [SEED]] [--from NUMBER]
 oracle short [SECONDS [SEED]]
->>>>>>> load
 oracle lists FOLDER
 oracle bench [FILE.tzb [ROWS]]";
 
@@ -59,15 +56,10 @@ fn main() {
         ["short", seconds] => short(number(seconds), random::fresh_seed()),
         ["short", seconds, seed] => short(number(seconds), number(seed)),
         ["lists", folder] => lists::write(folder.as_ref()),
-<<<<<<< HEAD
         ["bench"] => bench::run(None, ""),
+        ["bench", "zones"] => bench::zones::run(),
         ["bench", file] => bench::run(Some(file.as_ref()), ""),
         ["bench", file, rows] => bench::run(Some(file.as_ref()), rows),
-=======
-        ["bench"] => bench::run(None),
-        ["bench", "zones"] => bench::zones::run(),
-        ["bench", file] => bench::run(Some(file.as_ref())),
->>>>>>> order
         _ => usage(),
     }
 }
