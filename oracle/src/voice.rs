@@ -1,4 +1,4 @@
-//! Who can be asked of an opened file, and what. The rules, the original and later the port are voices.
+//! Who can be asked of an opened file, and what. The rules, the original and the port are voices.
 
 use crate::rules::{Judge, Said};
 
