@@ -1,24 +1,32 @@
-//! The largest files: a point that lies in all of 65,535 zones of a file without GRID, and a group of 65,535 chunks. The best of three runs of each side, in milliseconds.
+//! The largest files: a point that lies in all of 65,535 zones of a file without GRID, a group of 65,535 chunks, and many records that name the same chunks. The best of three runs of each side, in milliseconds of processor time, so that other work on the machine does not count.
 
-use super::time;
-use crate::file::{Chunks, Draft, NAMES, Op, Part, Shape, TZDIR, names, shuffle};
+use crate::file::{
+    Chunks, Draft, GROUPDIR, NAMES, Op, Part, RINGDIR, RINGOPS, Shape, TZDIR, names, put, shuffle,
+};
 use crate::port::asking::exports::*;
 use crate::port::opening::refusal;
 use crate::random::Random;
 use crate::{original, port};
-use std::time::Duration;
+use std::hint::black_box;
 
 const MOST: usize = 65_535;
+/// How many records name the same chunks.
+const SHARED: usize = 10;
 const RUNS: usize = 3;
 
 pub fn run() {
-    println!("{:<52}{:>12}{:>12}", "item, ms", "port", "original");
+    println!("{:<58}{:>12}{:>12}", "item, ms", "port", "original");
     for (order, all) in orders() {
-        of_zones(order, &file_of(&square(), &all));
+        of_zones(order, &file_of(square().parts(), &all));
     }
+    let one = [b"Z".to_vec()];
     for points in [1, 2, 64] {
-        of_chunks(points, &file_of(&comb(points), &[b"Z".to_vec()]));
+        let parts = shape_of(zigzag(points)).parts();
+        of_chunks(&format!("{MOST} chunks of {points}"), &file_of(parts, &one));
     }
+    let [groups, ring] = shared();
+    of_chunks(&format!("{MOST} chunks, {SHARED} groups of them"), &file_of(groups, &one));
+    of_chunks(&format!("{MOST} chunks, {SHARED} times in a ring"), &file_of(ring, &one));
 }
 
 type Names = Vec<Vec<u8>>;
@@ -55,16 +63,34 @@ fn square() -> Shape {
     shape_of(Chunks(vec![corners.to_vec()]))
 }
 
-/// So many points in each chunk, in turn below and above, so that a ray from the left meets every chunk's box.
-fn comb(points: i32) -> Shape {
-    let tooth = |i: i32| (i, if i % 2 == 0 { -1000 } else { 1000 });
-    let chunk = |c: i32| (c * points..(c + 1) * points).map(tooth).collect();
-    shape_of(Chunks((0..MOST as i32).map(chunk).collect()))
+/// So many points in each chunk, in turn below and above on either side of a point, so that it lies in every chunk's box.
+fn zigzag(points: usize) -> Chunks {
+    let point = |i: usize| if i % 2 == 0 { (-1000, -1000) } else { (1000, 1000) };
+    let chunk = |c: usize| (c * points..(c + 1) * points).map(point).collect();
+    Chunks((0..MOST).map(chunk).collect())
 }
 
-/// As many zones as there are names, each with the shape's one polygon.
-fn file_of(shape: &Shape, all: &[Vec<u8>]) -> Vec<u8> {
-    let mut parts = shape.parts();
+/// The same chunks in so many groups, of which the ring has one; and their one group so many times in the ring.
+fn shared() -> [Vec<Part>; 2] {
+    let parts = shape_of(zigzag(1)).parts();
+    let bytes = |typ| parts.iter().find(|part| part.typ == typ).unwrap().bytes.clone();
+    let with = |typ, bytes| {
+        let other = |part: &Part| part.typ != typ;
+        let rest = parts.iter().filter(|part| other(part)).cloned();
+        rest.chain([Part { typ, bytes, gap: 0 }]).collect::<Vec<Part>>()
+    };
+    let groups = with(GROUPDIR, bytes(GROUPDIR).repeat(SHARED));
+    let mut ring = bytes(RINGDIR);
+    put(&mut ring, 4, (SHARED * (MOST - 1)) as u32);
+    put(&mut ring, 8, SHARED as u32);
+    let mut turns = with(RINGDIR, ring);
+    turns.iter_mut().find(|part| part.typ == RINGOPS).unwrap().bytes =
+        bytes(RINGOPS).repeat(SHARED);
+    [groups, turns]
+}
+
+/// As many zones as there are names, each with the one polygon.
+fn file_of(mut parts: Vec<Part>, all: &[Vec<u8>]) -> Vec<u8> {
     let zones = parts.iter_mut().find(|part| part.typ == TZDIR).unwrap();
     zones.bytes = zones.bytes.repeat(all.len());
     parts.push(Part { typ: NAMES, bytes: names(&[], all), gap: 0 });
@@ -90,6 +116,12 @@ fn of_zones(order: &str, file: &[u8]) {
         listed(&list)
     };
     row(&format!("{order}: ask_all"), &mut all, Some(&mut other_all));
+    let mut refused = || unsafe { tzb_ask_all(r, size, f, length, 0.0, 0.0, to_none(), 0) } as u64;
+    row(&format!("{order}: ask_all, no places: 46"), &mut refused, None);
+}
+
+fn to_none() -> *mut u32 {
+    std::ptr::NonNull::dangling().as_ptr()
 }
 
 /// A number for a list of zones, in its order.
@@ -98,14 +130,13 @@ fn listed(zones: &[u32]) -> u64 {
     zones.iter().fold(0, |sum: u64, &zone| sum.wrapping_mul(31).wrapping_add(zone.into()))
 }
 
-fn of_chunks(points: i32, file: &[u8]) {
-    let what = format!("{MOST} chunks of {points}");
-    of_file(&what, file);
+fn of_chunks(what: &str, file: &[u8]) {
+    of_file(what, file);
     let opened = port::asking::open(file).expect("a file that opens");
     let (r, size, f, length) = opened.parts();
     let other = original::opening::open(file).ok().expect("a file that opens");
-    let mut contains = || unsafe { tzb_contains(r, size, f, length, 0, 0, 1) } as u64;
-    row(&format!("{what}: contains"), &mut contains, Some(&mut || other.is_in(0, 0, 1) as u64));
+    let mut contains = || unsafe { tzb_contains(r, size, f, length, 0, -1, 0) } as u64;
+    row(&format!("{what}: contains"), &mut contains, Some(&mut || other.is_in(0, -1, 0) as u64));
 }
 
 /// Opening and the full check, which the original has not.
@@ -122,11 +153,22 @@ fn of_file(what: &str, file: &[u8]) {
 fn row(name: &str, port: &mut dyn FnMut() -> u64, original: Option<&mut dyn FnMut() -> u64>) {
     let answer = port();
     let best = |f: &mut dyn FnMut() -> u64| (0..RUNS).map(|_| time(f)).min().unwrap();
-    let told = |d: Duration| format!("{:.1}", d.as_secs_f64() * 1e3);
+    let told = |micros: i64| format!("{:.1}", micros as f64 / 1e3);
     let port = told(best(port));
     let original = original.map_or("-".to_owned(), |f| {
         assert_eq!(answer, f(), "{name}: the answers differ");
         told(best(f))
     });
-    println!("{name:<52}{port:>12}{original:>12}");
+    println!("{name:<58}{port:>12}{original:>12}");
+}
+
+unsafe extern "C" {
+    /// C's own: the processor time of the program, on Linux in millionths of a second.
+    safe fn clock() -> i64;
+}
+
+fn time(f: &mut dyn FnMut() -> u64) -> i64 {
+    let start = clock();
+    black_box(f());
+    clock() - start
 }
