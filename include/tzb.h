@@ -1,7 +1,8 @@
 /* The reader of time-zone index files (.tzb), for C and for whatever can call C: link libtzb_c.a.
  *
- * Bytes are lent for a call as a pointer and a length. A pointer is never null, not even where the length is 0.
- * What is lent for writing does not overlap what else is lent to the same call.
+ * Memory is lent for a call as a pointer and a length. A length counts what is pointed to: bytes for uint8_t, numbers
+ * for int32_t, uint32_t and uint64_t, of which sizeof is a multiple. A pointer is never null, not even where the length
+ * is 0. What is lent for writing does not overlap what else is lent to the same call.
  *
  * Every function is total: any bytes and any numbers get an answer, or a refusal, whose number n is that of
  * document 01. A refusal is told as -1000 - n, and leaves lent memory as it was. No function keeps anything
@@ -13,9 +14,9 @@
  *     int32_t opened = tzb_open(file, file_length, record, sizeof record);
  *     if (opened < 0) -> refused by -1000 - opened
  *     int64_t zone = tzb_ask(record, sizeof record, file, file_length, lng, lat);
- *     if (zone >= 0) -> its name stands from
- *         tzb_name_start(record, sizeof record, file, file_length, (uint32_t) zone)
- *         to tzb_name_end(record, sizeof record, file, file_length, (uint32_t) zone)
+ *     uint64_t ends[2];
+ *     if (zone >= 0 && tzb_name(record, sizeof record, file, file_length, (uint32_t) zone, ends, 2) == 0)
+ *         -> its name is the bytes of the file from ends[0] up to ends[1]
  *
  * A record is numbers only, little-endian: it holds no pointer, and may be kept or copied. It is not trusted: one
  * that was made by hand, or from another file, is answered by what it says, or refused.
@@ -48,6 +49,10 @@ int64_t tzb_name_start(const uint8_t *record, size_t record_length, const uint8_
 /* Where it ends: the place after its last byte. Or -1000 - n, by the same refusal. The name is UTF-8 in a file that was opened. */
 int64_t tzb_name_end(const uint8_t *record, size_t record_length, const uint8_t *file, size_t file_length, uint32_t zone);
 
+/* Both at once: where it starts and where it ends, into the first two of the lent numbers; those behind stay.
+ * 0, or -1000 - n for refusal n: the name's own, then 46 where fewer than two numbers are lent. */
+int32_t tzb_name(const uint8_t *record, size_t record_length, const uint8_t *file, size_t file_length, uint32_t zone, uint64_t *ends, size_t ends_length);
+
 /* What the candidates of a position are: 0 none, 1 all zones in order, 2 those listed for a cell. Or -1000 - n.
  * Longitude and latitude in degrees; any float may be asked. */
 int32_t tzb_choice(const uint8_t *record, size_t record_length, const uint8_t *file, size_t file_length, double lng, double lat);
@@ -74,18 +79,19 @@ int64_t tzb_decode(const uint8_t *record, size_t record_length, const uint8_t *f
 int32_t tzb_lookup(const uint8_t *file, size_t file_length, double lng, double lat);
 
 /* The same with the record of a file that was opened. A record that was made by hand may have zone numbers up to
- * 4,294,967,295: so the answer has 64 bits. */
+ * 4,294,967,294: so the answer has 64 bits. */
 int64_t tzb_ask(const uint8_t *record, size_t record_length, const uint8_t *file, size_t file_length, double lng, double lat);
 
 /* Writes the numbers of all zones that a position lies in, in the order of their names' bytes, into the first of the lent
  * places; those behind stay. How many zones, or -1000 - n: 46 where there are more zones than places. 15 places are
- * always enough for a file with a GRID, and tzb_zone_count() places for any file. */
+ * always enough for a file with a GRID, tzb_zone_count() places for one without. */
 int64_t tzb_ask_all(const uint8_t *record, size_t record_length, const uint8_t *file, size_t file_length, double lng, double lat, uint32_t *zones, size_t zones_length);
 
 /* ---- the full check */
 
-/* Looks at everything in the file. 0: accepted, and then no question is refused but for a number that is too large or
- * room that is too short. -1000 - n for opening's refusal n; -1047 where the file opens and breaks another rule. */
+/* Checks F1 to F6 over the whole file. 0: accepted. -1000 - n for opening's refusal n; -1047 where the file opens and
+ * breaks another rule. Of an accepted file no question is refused but for a number that is too large, a place of the
+ * candidate list that no cell lists, or room that is too short. */
 int32_t tzb_full_check(const uint8_t *file, size_t file_length);
 
 /* The lowest broken rule, 2 to 6, where tzb_full_check says -1047; else 0. */

@@ -12,6 +12,7 @@ use Rattle.tzb_asked.specs.Asked.{countTold}
 use Rattle.tzb_asked.specs.declared.Count.{Count}
 use Rattle.tzb_asked.specs.declared.Count.the-variants as C
 use Rattle.tzb_asked.proofs.name_bounds.Reads as name-bounds-reads
+use Rattle.tzb_asked.proofs.name_ends.Reads as name-ends-reads
 use Rattle.tzb_asked.proofs.candidates.Reads as candidates-reads
 use Rattle.tzb_asked.proofs.candidate_at.Reads as candidate-at-reads
 use Rattle.tzb_asked.proofs.contains.Reads as contains-reads
@@ -27,6 +28,13 @@ one-count (C.Refused k) (C.Refused l) x e f = cc
 
 pub name-bounds : Determined name-bounds-reads.Learnt
 name-bounds κ a r r' e e' p q = one-bounds r r' _ p q
+
+pub name-ends : Determined name-ends-reads.Learnt
+name-ends κ a r r' e e' p q = p .0 ∙ sym (q .0)
+
+-- the lent numbers at exit
+pub name-ends-memory : DeterminedMemory name-ends-reads.Learnt (λ κ e. e .1 .1 .1 .0 .now)
+name-ends-memory κ a r r' e e' p q = p .1 ∙ sym (q .1)
 
 pub candidates : Determined candidates-reads.Learnt
 candidates κ a r r' e e' p q = one-choice r r' _ p q

@@ -7,12 +7,11 @@ use mathlib.Core.Bool.{Bool, true, false, cond}
 use mathlib.Core.List.{List}
 use lib.IntN.{ℤ}
 use lib.Ieee.{Float}
-use Rattle.answer.specs.Answers.{Answer, ok, refused, _then_}
+use Rattle.answer.specs.Answers.{Answer, ok, refused, _then_, zero-one, then-inv, need-inv, ok-inv}
 use Rattle.answer.specs.Checks.{below, same}
 use Rattle.answer.specs.CheckLaws.{below-lt}
 use Rattle.plane.specs.declared.Point.{Point}
 use Rattle.fields.specs.Loads.{loadAt}
-use Rattle.tzb_core.proofs.Decoded.{zero-one, then-inv, need-inv, ok-inv}
 use Rattle.reader_opened.specs.declared.Grid.{Grid}
 use Rattle.reader_opened.specs.declared.Opened.{Opened}
 use Rattle.reader_grid.specs.Asked.{Chosen, none, all, listed, onEarth, inGrid, read, cellOf, cellCandidates, candidatesOf, candidatePlace, zoneBelow, candidateAt}

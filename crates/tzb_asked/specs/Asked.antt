@@ -1,15 +1,18 @@
 -- Questions over the opened record as bytes and the file's bytes. A record that cannot be read is refused first; none is trusted.
 -- Assumes nothing.
-use Prim.Native.Nat.{ℕ}
+use Prim.Native.Nat.{ℕ, _≤_, _<_}
+use native.Mathlib.Omega.{arith}
 use mathlib.Core.Path.{_≡_, refl, ap, _∙_}
 use mathlib.Core.Bool.{Bool}
-use mathlib.Core.List.{List}
+use mathlib.Core.List.{List, [], _∷_}
 use lib.IntN.{ℤ}
 use lib.Ieee.{Float}
-use lib.ListN.{length}
+use lib.ListN.{length, set, drop}
 use Rattle.plane.specs.declared.I32Point.{I32Point}
 use Rattle.answer.specs.declared.Refusal.{Refusal}
-use Rattle.answer.specs.Answers.{Answer, ok, refused, _then_}
+use Rattle.answer.specs.Checks.{atMost}
+use Rattle.answer.specs.CheckLaws.{le-at, gt-at}
+use Rattle.answer.specs.Answers.{Answer, ok, refused, no, need, _then_}
 use Rattle.reader_opened.specs.declared.Opened.{Opened}
 use Rattle.reader_names.specs.declared.Bounds.{Bounds}
 use Rattle.reader_names.specs.Asked as N
@@ -63,6 +66,15 @@ zonesAsked b = recordOf b then λ o. ok (o .zones .count)
 unfoldable pub nameAsked : List ℕ → List ℕ → ℕ → Answer (ℕ × ℕ)
 nameAsked b s zone = recordOf b then λ o. N.boundsAt s (o .names .off) (o .zones .count) zone
 
+-- the same into lent numbers, how many there are: 46 where they are fewer than two
+unfoldable pub endsAsked : List ℕ → List ℕ → ℕ → ℕ → Answer (ℕ × ℕ)
+endsAsked b s zone room = nameAsked b s zone then λ e. need 46 (atMost 2 room) (ok e)
+
+-- lent numbers afterwards: where the name starts, where it ends, and what lies behind as it was; all as it was after a refusal
+abbrev pub endsAfter : List ℕ → Answer (ℕ × ℕ) → List ℕ
+endsAfter out (ok e) = e .0 ∷ e .1 ∷ drop 2 out
+endsAfter out (refused k) = out
+
 -- the candidates of a position
 unfoldable pub choiceAsked : List ℕ → List ℕ → Float → Float → Answer Chosen
 choiceAsked b s lng lat = recordOf b then λ o. G.candidatesOf o s lng lat
@@ -88,8 +100,8 @@ unfoldable pub listAsked : List ℕ → List ℕ → Float → Float → ℕ →
 listAsked b s lng lat places = recordOf b then λ o. listOf o s lng lat places
 
 -- lent places afterwards
-abbrev pub listed : List ℕ → Answer (List ℕ) → List ℕ
-listed = L.filled
+abbrev pub placesAfter : List ℕ → Answer (List ℕ) → List ℕ
+placesAfter = L.filled
 
 -- how many they are
 unfoldable pub howMany : {A : Type 0} → Answer (List A) → Answer ℕ
@@ -112,6 +124,26 @@ module _ {A : Type 0} (b : List ℕ) (f : Opened → Answer A) where
 
   pub asked : (o : Opened) (x : Answer A) → ok o ≡ recordOf b → x ≡ f o → x ≡ (recordOf b then f)
   asked o x e g = rw (← e) g
+
+-- a name's refusal, then 46 of the room, then both ends
+module _ (b s : List ℕ) (zone : ℕ) (out : List ℕ) where
+  pub ends-barred : (k : Refusal) → refused k ≡ nameAsked b s zone → refused k ≡ endsAsked b s zone (length out)
+  unfolding endsAsked
+  ends-barred k e = rw (← e)
+
+  module _ (from to : ℕ) (e : ok (from, to) ≡ nameAsked b s zone) where
+    pub ends-short : length out < 2 → no 46 ≡ endsAsked b s zone (length out)
+    unfolding endsAsked
+    ends-short h = rw (← e, gt-at 2 (length out) h)
+
+    pub ends-asked : 2 ≤ length out → ok (from, to) ≡ endsAsked b s zone (length out)
+    unfolding endsAsked
+    ends-asked h = rw (← e, le-at 2 (length out) h)
+
+pub two-set : (out : List ℕ) (from to : ℕ) → 2 ≤ length out → set (set out 0 from) 1 to ≡ from ∷ to ∷ drop 2 out
+two-set [] from to h = absurd (omega arith)
+two-set (x ∷ []) from to h = absurd (omega arith)
+two-set (x ∷ y ∷ l) from to h = refl
 
 module _ (b s : List ℕ) (chunk : ℕ) (out : List ℤ) where
   pub decode-barred : (k : Refusal) → refused k ≡ recordOf b → refused k ≡ decodeAsked b s chunk out

@@ -2,9 +2,9 @@
 ghost use mathlib.Core.Path.{_≡_};
 ghost use lib.ListN.{length};
 ghost use Rattle.tzb_core.specs.Points.{point};
-ghost use Rattle.tzb_core.specs.Decode.{filled};
+ghost use Rattle.tzb_core.specs.Decode.{outcome, filled};
 ghost use Rattle.reader_chunks.specs.Chunks.{decodeIn};
-ghost use Rattle.tzb_asked.specs.Asked.{nameTold, choiceTold, candidateTold, verdictTold, countTold, foundTold, listingTold, listed, howMany, countAt, nameAsked, choiceAsked, candidateAsked, containsAsked, decodeAsked, lookupAsked, listAsked};
+ghost use Rattle.tzb_asked.specs.Asked.{nameTold, choiceTold, candidateTold, verdictTold, countTold, foundTold, listingTold, placesAfter, howMany, countAt, nameAsked, endsAsked, endsAfter, choiceAsked, candidateAsked, containsAsked, decodeAsked, lookupAsked, listAsked};
 use answer::Checked;
 use answer::Refusal;
 use reader_grid::Candidate;
@@ -31,6 +31,25 @@ pub fn name_bounds(record: &[u8], file: &[u8], zone: u32) -> Bounds
     match a {
         RecordRead::Refused(k) => Bounds::Refused(k),
         RecordRead::Is(o) => reader_names::name_bounds(file, o.names.off, o.zones.count, zone),
+    }
+}
+
+// Where it starts and where it ends, into the first two lent numbers; those behind are never touched. A refusal leaves them all as they were.
+pub fn name_ends(record: &[u8], file: &[u8], zone: u32, ends: &mut [u64]) -> Checked
+    ensures { λ r. ⌜ r ≡ outcome (endsAsked (now («record» .entry)) (now (file .entry)) zone (length (now (ends .entry)))) ⌝ }
+    ensures memory { λ r. ⌜ now (ends .exit) ≡ endsAfter (now (ends .entry)) (endsAsked (now («record» .entry)) (now (file .entry)) zone (length (now (ends .entry)))) ⌝ }
+{
+    let a = name_bounds(record, file, zone);
+    match a {
+        Bounds::Refused(k) => Checked::Refused(k),
+        Bounds::At(from, to) => {
+            if ends.len() < 2 {
+                return answer::fail(46);
+            }
+            ends[0] = from as u64;
+            ends[1] = to as u64;
+            Checked::Fine
+        }
     }
 }
 
@@ -117,7 +136,7 @@ pub fn lookup(record: &[u8], file: &[u8], lng: f64, lat: f64) -> Found
 // All zones that a position lies in, in the order of their names, into the first places of `zones`: how many there are. A refusal leaves the lent places as they were, and those behind the zones are never touched.
 pub fn lookup_into(record: &[u8], file: &[u8], lng: f64, lat: f64, zones: &mut [u32]) -> Listing
     ensures { λ r. ⌜ listingTold r ≡ howMany (listAsked (now («record» .entry)) (now (file .entry)) lng lat (length (now (zones .entry)))) ⌝ }
-    ensures memory { λ r. ⌜ now (zones .exit) ≡ listed (now (zones .entry)) (listAsked (now («record» .entry)) (now (file .entry)) lng lat (length (now (zones .entry)))) ⌝ }
+    ensures memory { λ r. ⌜ now (zones .exit) ≡ placesAfter (now (zones .entry)) (listAsked (now («record» .entry)) (now (file .entry)) lng lat (length (now (zones .entry)))) ⌝ }
 {
     let a = tzb_record::read_record(record);
     match a {

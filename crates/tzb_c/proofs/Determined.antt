@@ -15,6 +15,7 @@ use Rattle.tzb_c.proofs.tzb_open.Reads as open-reads
 use Rattle.tzb_c.proofs.tzb_zone_count.Reads as zone-count-reads
 use Rattle.tzb_c.proofs.tzb_name_start.Reads as name-start-reads
 use Rattle.tzb_c.proofs.tzb_name_end.Reads as name-end-reads
+use Rattle.tzb_c.proofs.tzb_name.Reads as name-reads
 use Rattle.tzb_c.proofs.tzb_choice.Reads as choice-reads
 use Rattle.tzb_c.proofs.tzb_listed.Reads as listed-reads
 use Rattle.tzb_c.proofs.tzb_candidate.Reads as candidate-reads
@@ -41,6 +42,13 @@ name-start κ a r r' e e' p q = p ∙ sym q
 
 pub name-end : Determined name-end-reads.Learnt
 name-end κ a r r' e e' p q = p ∙ sym q
+
+pub name : Determined name-reads.Learnt
+name κ a r r' e e' p q = p .0 ∙ sym (q .0)
+
+-- the lent numbers at exit
+pub name-memory : DeterminedMemory name-reads.Learnt (λ κ e. e .1 .1 .1 .0 .now)
+name-memory κ a r r' e e' p q = p .1 ∙ sym (q .1)
 
 pub choice : Determined choice-reads.Learnt
 choice κ a r r' e e' p q = p ∙ sym q

@@ -10,8 +10,7 @@ use Rattle.answer.specs.declared.Refusal.{Refusal}
 use Rattle.answer.specs.declared.Checked.{Checked}
 use Rattle.answer.specs.declared.Checked.the-variants as C
 use Rattle.answer.specs.CheckLaws.{fine-claim, at-le}
-use Rattle.answer.specs.Answers.{Answer, ok, refused, _then_, _before_, then-ok}
-use Rattle.tzb_core.proofs.Decoded.{then-inv}
+use Rattle.answer.specs.Answers.{Answer, ok, refused, _then_, _before_, then-ok, then-inv}
 use Rattle.reader_opened.specs.declared.Opened.{Opened}
 use Rattle.reader_names.specs.Asked as N
 use Rattle.reader_names.proofs.Places.{bounds-good}

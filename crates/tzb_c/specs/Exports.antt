@@ -27,6 +27,11 @@ unfoldable pub refusalCode : Refusal → ℤ
 refusalCode r = negsuc (999 + min (r .number) 999)
 
 -- ---- answers as numbers, -1000 - n for refusal n
+-- 0 where it was done, and what is asked for stands in lent memory
+abbrev pub doneCode : {A : Type 0} → Answer A → ℤ
+doneCode (ok a) = pos 0
+doneCode (refused k) = refusalCode k
+
 -- a count, a zone or a place
 abbrev pub numberCode : Answer ℕ → ℤ
 numberCode (ok n) = pos n

@@ -3,7 +3,6 @@
 use Prim.Native.Nat.{ℕ}
 use mathlib.Core.Path.{_≡_, refl, sym, ap, _∙_}
 use mathlib.Core.List.{List}
-use lib.IntN.{ℤ, pos}
 use lib.Ieee.{Float}
 use Rattle.answer.specs.declared.Refusal.{Refusal}
 use Rattle.answer.specs.declared.Checked.the-variants as C
@@ -12,7 +11,6 @@ use Rattle.reader_opened.specs.declared.Opened.{Opened}
 use Rattle.reader_lookup.specs.Asking.{Sought, lookupOf}
 use Rattle.tzb_record.specs.Layout.{recordOf, roomFor, written, written-not}
 use Rattle.tzb.specs.Opening.{openOf}
-use Rattle.tzb_c.specs.Exports.{refusalCode}
 
 -- the first refusal of opening, then 46 where there is no room for the record
 unfoldable pub openInto : List ℕ → List ℕ → Answer Opened
@@ -22,11 +20,6 @@ openInto s room = openOf s then λ o. roomFor room before ok o
 unfoldable pub keptIn : List ℕ → Answer Opened → List ℕ
 keptIn room (ok o) = written o room
 keptIn room (refused k) = room
-
--- 0 for an opened file, -1000 - n for refusal n
-abbrev pub openCode : Answer Opened → ℤ
-openCode (ok o) = pos 0
-openCode (refused k) = refusalCode k
 
 -- opens and asks for the zone that a position lies in
 unfoldable pub lookupOnce : List ℕ → Float → Float → Answer Sought

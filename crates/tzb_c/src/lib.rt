@@ -11,9 +11,9 @@ ghost use Rattle.tzb_core.specs.Varint.{numberAt};
 ghost use Rattle.tzb_core.specs.Points.{point};
 ghost use Rattle.tzb_core.specs.Decode.{filled};
 ghost use Rattle.tzb.specs.FullCheck.{fullCheckOf, checkTold};
-ghost use Rattle.tzb_asked.specs.Asked.{verdictTold, foundTold, zonesAsked, nameAsked, choiceAsked, candidateAsked, containsAsked, decodeAsked, lookupAsked, listAsked, listed, howMany};
-ghost use Rattle.tzb_c.specs.Opens.{openInto, keptIn, openCode, lookupOnce};
-ghost use Rattle.tzb_c.specs.Exports.{bitOf, refusalCode, numberCode, startCode, endCode, kindCode, listedOf, insideCode, zoneCode, checkCode, ruleOf, numberOf, lengthFrom, boxOf, pointOf, placeOf, seenCode};
+ghost use Rattle.tzb_asked.specs.Asked.{verdictTold, foundTold, zonesAsked, nameAsked, endsAsked, endsAfter, choiceAsked, candidateAsked, containsAsked, decodeAsked, lookupAsked, listAsked, placesAfter, howMany};
+ghost use Rattle.tzb_c.specs.Opens.{openInto, keptIn, lookupOnce};
+ghost use Rattle.tzb_c.specs.Exports.{bitOf, refusalCode, doneCode, numberCode, startCode, endCode, kindCode, listedOf, insideCode, zoneCode, checkCode, ruleOf, numberOf, lengthFrom, boxOf, pointOf, placeOf, seenCode};
 use answer::Checked;
 use answer::Refusal;
 use plane::I32Point;
@@ -59,7 +59,7 @@ fn refusal_code64(r: Refusal) -> i64
 // Opens the file and writes the opened record into the first 84 bytes of lent memory: 0, or -1000 - n for refusal n, and then nothing is written. 46 where there is no room.
 #[no_mangle]
 pub extern "C" fn tzb_open(file: &[u8], record: &mut [u8]) -> i32
-    ensures { λ r. ⌜ r ≡ openCode (openInto (now (file .entry)) (now («record» .entry))) ⌝ }
+    ensures { λ r. ⌜ r ≡ doneCode (openInto (now (file .entry)) (now («record» .entry))) ⌝ }
     ensures memory { λ r. ⌜ now («record» .exit) ≡ keptIn (now («record» .entry)) (openInto (now (file .entry)) (now («record» .entry))) ⌝ }
 {
     let a = tzb::open(file);
@@ -108,6 +108,19 @@ pub extern "C" fn tzb_name_end(record: &[u8], file: &[u8], zone: u32) -> i64
     match a {
         Bounds::Refused(k) => refusal_code64(k),
         Bounds::At(_, to) => to as i64,
+    }
+}
+
+// Both, into the first two lent numbers: 0, or -1000 - n for refusal n, and then nothing is written. 46 where fewer than two are lent.
+#[no_mangle]
+pub extern "C" fn tzb_name(record: &[u8], file: &[u8], zone: u32, ends: &mut [u64]) -> i32
+    ensures { λ r. ⌜ r ≡ doneCode (endsAsked (now («record» .entry)) (now (file .entry)) zone (length (now (ends .entry)))) ⌝ }
+    ensures memory { λ r. ⌜ now (ends .exit) ≡ endsAfter (now (ends .entry)) (endsAsked (now («record» .entry)) (now (file .entry)) zone (length (now (ends .entry)))) ⌝ }
+{
+    let a = tzb_asked::name_ends(record, file, zone, ends);
+    match a {
+        Checked::Refused(k) => refusal_code(k),
+        Checked::Fine => 0,
     }
 }
 
@@ -233,7 +246,7 @@ pub extern "C" fn tzb_ask_all(
     zones: &mut [u32],
 ) -> i64
     ensures { λ r. ⌜ r ≡ numberCode (howMany (listAsked (now («record» .entry)) (now (file .entry)) lng lat (length (now (zones .entry))))) ⌝ }
-    ensures memory { λ r. ⌜ now (zones .exit) ≡ listed (now (zones .entry)) (listAsked (now («record» .entry)) (now (file .entry)) lng lat (length (now (zones .entry)))) ⌝ }
+    ensures memory { λ r. ⌜ now (zones .exit) ≡ placesAfter (now (zones .entry)) (listAsked (now («record» .entry)) (now (file .entry)) lng lat (length (now (zones .entry)))) ⌝ }
 {
     let a = tzb_asked::lookup_into(record, file, lng, lat, zones);
     match a {
@@ -262,7 +275,7 @@ fn rule_of(c: FullCheck) -> u32
     }
 }
 
-// Looks at everything in the file: 0 where it is accepted, and then no question is refused; -1000 - n for opening's refusal n; -1047 where another rule is broken.
+// Checks F1 to F6 over the whole file: 0 where it is accepted; -1000 - n for opening's refusal n; -1047 where another rule is broken. Of an accepted file no question is refused but for a number that is too large, a place of the candidate list that no cell lists, or room that is too short.
 #[no_mangle]
 pub extern "C" fn tzb_full_check(file: &[u8]) -> i32
     ensures { λ r. ⌜ r ≡ checkCode (fullCheckOf (now (file .entry))) ⌝ }

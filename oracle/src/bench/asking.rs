@@ -4,7 +4,7 @@ use super::{ROUNDS, is_wanted, row, time};
 use crate::original;
 use crate::port;
 use crate::port::asking::exports::*;
-use crate::port::opening::exports::{tzb_name_end, tzb_name_start};
+use crate::port::opening::exports::tzb_name;
 use crate::random::Random;
 use crate::rules::{self, Judge};
 use std::time::Duration;
@@ -173,11 +173,12 @@ impl Both<'_> {
 
     fn names(&self, zones: u32) {
         let (r, size, f, length) = self.port.parts();
+        let mut ends = [0u64; 2];
         let mut port = || {
             (0..zones).fold(0u64, |sum, zone| {
-                let start = unsafe { tzb_name_start(r, size, f, length, zone) };
-                let end = unsafe { tzb_name_end(r, size, f, length, zone) };
-                sum.wrapping_mul(31) + (end - start) as u64
+                let (to, room) = (ends.as_mut_ptr(), ends.len());
+                unsafe { tzb_name(r, size, f, length, zone, to, room) };
+                sum.wrapping_mul(31) + (ends[1] - ends[0])
             })
         };
         let mut original = || {

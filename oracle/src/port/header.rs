@@ -17,6 +17,7 @@ fn parameter(text: &str) -> String {
         "&mut [u8]" => format!("uint8_t *{name}, size_t {name}_length"),
         "&mut [i32]" => format!("int32_t *{name}, size_t {name}_length"),
         "&mut [u32]" => format!("uint32_t *{name}, size_t {name}_length"),
+        "&mut [u64]" => format!("uint64_t *{name}, size_t {name}_length"),
         plain => format!("{} {name}", c_type(plain)),
     }
 }

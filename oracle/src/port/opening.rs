@@ -20,6 +20,15 @@ pub mod exports {
             length: usize,
             zone: u32,
         ) -> i64;
+        pub fn tzb_name(
+            record: *const u8,
+            size: usize,
+            file: *const u8,
+            length: usize,
+            zone: u32,
+            ends: *mut u64,
+            room: usize,
+        ) -> i32;
         pub fn tzb_choice(
             record: *const u8,
             size: usize,
@@ -107,11 +116,26 @@ impl Opened<'_> {
         (self.record.as_ptr(), self.record.len(), self.file.as_ptr(), self.file.len())
     }
 
+    /// Where a name starts and how long it is. Both ends at once are as each alone, and 46 with one number lent.
     pub fn name(&self, zone: u32) -> Said<(u64, u64)> {
         let (r, size, f, length) = self.lent();
-        let start = said(unsafe { tzb_name_start(r, size, f, length, zone) })?;
-        let end = said(unsafe { tzb_name_end(r, size, f, length, zone) })?;
-        Ok((start as u64, (end - start) as u64))
+        let start = said(unsafe { tzb_name_start(r, size, f, length, zone) });
+        let end = said(unsafe { tzb_name_end(r, size, f, length, zone) });
+        let apart = start.and_then(|start| Ok((start as u64, end? as u64)));
+        assert_eq!(self.ends(zone, 3), apart, "both ends of a name at once");
+        assert_eq!(self.ends(zone, 1), apart.and(Err(46)), "both ends with one number lent");
+        apart.map(|(start, end)| (start, end - start))
+    }
+
+    /// Both ends of a name, into so many lent numbers. Nothing is written behind them, and nothing at all on a refusal.
+    fn ends(&self, zone: u32, room: usize) -> Said<(u64, u64)> {
+        let (r, size, f, length) = self.lent();
+        let mut ends = [u64::from(GUARD); 4];
+        let code = unsafe { tzb_name(r, size, f, length, zone, ends.as_mut_ptr(), room) };
+        let written = if code < 0 { 0 } else { 2 };
+        let stays = |&n: &u64| n == u64::from(GUARD);
+        assert!(ends[written..].iter().all(stays), "lent memory changed, answer {code}");
+        said(code.into()).map(|_| (ends[0], ends[1]))
     }
 
     pub fn candidates(&self, lng: f64, lat: f64) -> Said<Candidates> {

@@ -4,7 +4,8 @@ use mathlib.Core.Path.{sym, ap, _∙_}
 use mir.Syntax.{w32}
 use Rattle.tzb_core.proofs.Sums.{back}
 use Rattle.tzb.specs.Opening.{told}
-use Rattle.tzb_c.specs.Opens.{openCode, open-barred, open-full, open-fine, kept-no, kept-full, kept-is}
+use Rattle.tzb_c.specs.Exports.{doneCode}
+use Rattle.tzb_c.specs.Opens.{open-barred, open-full, open-fine, kept-no, kept-full, kept-is}
 use borrow.Author.Needs.{needs}
 use Rattle.tzb_c.proofs.tzb_open.Statement.{statement}
 use Rattle.tzb_c.proofs.tzb_open.Tie as tie
@@ -38,7 +39,7 @@ returns c =
     let o = c .before .before .before .before in
     let a = o .before .before .before .args in
     let e = open-barred (a .file .now) (a .«record» .now) _ (sym (ap told (c .before .before .a .given .1)) ∙ o .«open» .ensures) in
-    (back w32 _ (c .refusal-code .ok) ∙ c .refusal-code .ensures ∙ ap openCode e, kept-no _ _ _ e)
+    (back w32 _ (c .refusal-code .ok) ∙ c .refusal-code .ensures ∙ ap doneCode e, kept-no _ _ _ e)
 
 same-length : tie.Need-same-length
 same-length c = search needs
@@ -50,7 +51,7 @@ returns-2 c =
     let a = o .before .before .before .args in
     let opened = sym (ap told (w .before .before .before .a2 .given .1)) ∙ o .«open» .ensures in
     let full = sym (c .before .before .b .given .1) ∙ w .write-record .ensures .0 in (
-      back w32 _ (c .refusal-code2 .ok) ∙ c .refusal-code2 .ensures ∙ ap openCode (open-full (a .file .now) (a .«record» .now) _ opened _ full),
+      back w32 _ (c .refusal-code2 .ok) ∙ c .refusal-code2 .ensures ∙ ap doneCode (open-full (a .file .now) (a .«record» .now) _ opened _ full),
       w .write-record .ensures .1 ∙ kept-full (a .file .now) (a .«record» .now) _ opened _ full,
     )
 
@@ -65,7 +66,7 @@ returns-3 c =
     let opened = sym (ap told (w .before .before .before .a2 .given .1)) ∙ o .«open» .ensures in
     let fine = sym (c .enum-told .given .1) ∙ w .write-record .ensures .0 in
     let e = open-fine (a .file .now) (a .«record» .now) _ opened fine in
-    (ap openCode e, w .write-record .ensures .1 ∙ kept-is _ _ _ e)
+    (ap doneCode e, w .write-record .ensures .1 ∙ kept-is _ _ _ e)
 
 pub tzb-open-spec : {M : Type 1} → statement M
 tzb-open-spec =
