@@ -10,7 +10,7 @@ use Rattle.answer.specs.declared.Refusal.{Refusal}
 use Rattle.answer.specs.declared.Checked.the-variants.{Refused}
 use Rattle.answer.specs.Checks.{claim}
 use Rattle.answer.specs.Refusals.{refusal}
-use Rattle.answer.specs.Answers.{Answer, ok, refused, _then_, need}
+use Rattle.answer.specs.Answers.{Answer, ok, refused, _then_, need, zero-one, then-inv, need-inv, ok-inv}
 use Rattle.answer.specs.Walks.{Walk, broken, on, off, add, _go_, _yields_, done, must}
 use Rattle.plane.specs.declared.Point.{Point}
 use Rattle.plane.specs.declared.I32Point.{I32Point}
@@ -24,7 +24,7 @@ use Rattle.tzb_core.specs.Scan.{past, stepAt, onward}
 use Rattle.tzb_core.specs.Decode.{led, outcome, pointsFrom, readFrom}
 use Rattle.tzb_core.specs.declared.chunk.Turned.{Turned}
 use Rattle.tzb_core.specs.declared.chunk.Turned.the-variants as T
-use Rattle.tzb_core.proofs.Decoded.{zero-one, then-inv, need-inv, ok-inv, led-same}
+use Rattle.tzb_core.proofs.Decoded.{led-same}
 
 -- a point, and the place after it
 abbrev placed : ℕ → I32Point → Answer (I32Point × ℕ)
