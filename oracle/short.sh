@@ -6,24 +6,9 @@ cd "$(dirname "$0")/.." || exit 2
 said=$(mktemp) || exit 2
 trap 'rm -f "$said"' EXIT
 
-here() { command -v "$1" >/dev/null 2>&1; }
-
-equipped() {
-  here cargo || return 1
-  if [ "$(uname -m)" = x86_64 ]; then
-    here cc && here rustc && [ "$(rustc --version | cut -d. -f2)" -ge 90 ]
-  else
-    here x86_64-linux-gnu-gcc && here qemu-x86_64 && [ -e /lib64/ld-linux-x86-64.so.2 ] &&
-      dpkg -L rustc-web libstd-rust-web-dev:amd64 >/dev/null 2>&1
-  fi
-}
-
 ready() {
-  equipped && return
-  DEBIAN_FRONTEND=noninteractive timeout 600 sh oracle/x86_64.sh setup </dev/null >"$said" 2>&1
-  equipped && return
-  tail -n 3 "$said"
-  echo "comparison and agent's tests left out: Rust 1.90 for x86-64, or its emulator, is not here and could not be installed"
+  DEBIAN_FRONTEND=noninteractive timeout 600 sh scripts/x86_64.sh ready </dev/null && return
+  echo "comparison and agent's tests left out: Rust for x86-64, or its emulator, is not here and could not be installed"
   return 1
 }
 
