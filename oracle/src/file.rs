@@ -10,6 +10,7 @@ mod fields;
 mod grid;
 mod shape;
 pub mod smaller;
+pub mod tables;
 
 pub use cases::cases;
 pub use examples::{at_the_shortcuts_ends, bases, chunks, departing, kinds, least, marked};
@@ -223,7 +224,7 @@ fn finish(random: &mut Random, mut draft: Draft) -> Draft {
     draft
 }
 
-fn shuffle<T>(random: &mut Random, all: &mut [T]) {
+pub fn shuffle<T>(random: &mut Random, all: &mut [T]) {
     for i in (1..all.len()).rev() {
         all.swap(i, random.below(i + 1));
     }

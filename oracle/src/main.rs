@@ -19,10 +19,12 @@ include!(concat!(env!("OUT_DIR"), "/original.rs"));
 const USAGE: &str = "oracle compare [SECONDS [SEED]]
 oracle compare files [SECONDS [SEED]]
 oracle compare file FILE.tzb
+oracle compare tables [SECONDS [SEED]]
 oracle compare asking [SECONDS [SEED]]
 oracle compare asking FILE.tzb [SECONDS [SEED]]
 oracle lists FOLDER
-oracle bench [FILE.tzb]";
+oracle bench [FILE.tzb]
+oracle bench sections";
 
 fn main() {
     let words: Vec<String> = std::env::args().skip(1).collect();
@@ -34,11 +36,19 @@ fn main() {
         ["compare", "files", seconds, seed] => compare::files::run(number(seconds), number(seed)),
         ["compare", "asking"] => compare::asking::run(60, random::fresh_seed()),
         ["compare", "asking", one, ref rest @ ..] if rest.len() < 3 => asking(one, rest),
+        ["compare", "tables"] => compare::files::tables(60, random::fresh_seed()),
+        ["compare", "tables", seconds] => {
+            compare::files::tables(number(seconds), random::fresh_seed())
+        }
+        ["compare", "tables", seconds, seed] => {
+            compare::files::tables(number(seconds), number(seed))
+        }
         ["compare", "file", file] => compare::files::one(file.as_ref()),
         ["compare", seconds] => compare::run(number(seconds), random::fresh_seed()),
         ["compare", seconds, seed] => compare::run(number(seconds), number(seed)),
         ["lists", folder] => lists::write(folder.as_ref()),
         ["bench"] => bench::run(None),
+        ["bench", "sections"] => bench::hostile::run(),
         ["bench", file] => bench::run(Some(file.as_ref())),
         _ => usage(),
     }
