@@ -1,6 +1,7 @@
 //! The port's exports and the original on the same inputs, in one run. Each side is called once per item through a C function.
 
 mod asking;
+pub mod hostile;
 pub mod zones;
 
 use crate::bytes;

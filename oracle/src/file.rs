@@ -10,6 +10,7 @@ mod fields;
 mod grid;
 mod shape;
 pub mod smaller;
+pub mod tables;
 
 pub use cases::cases;
 pub use examples::{at_the_shortcuts_ends, bases, chunks, departing, kinds, least, marked};

@@ -22,6 +22,7 @@ include!(concat!(env!("OUT_DIR"), "/original.rs"));
 const USAGE: &str = "oracle compare [SECONDS [SEED]]
 oracle compare files [SECONDS [SEED]]
 oracle compare file FILE.tzb
+oracle compare tables [SECONDS [SEED]]
 oracle compare asking [SECONDS [SEED]]
 oracle compare asking FILE.tzb [SECONDS [SEED]]
 oracle compare exact [SECONDS [SEED]]
@@ -29,7 +30,9 @@ oracle compare exact FILE.tzb [SECONDS [SEED]]
 oracle load [INPUTS [SEED]] [--from NUMBER]
 oracle short [SECONDS [SEED]]
 oracle lists FOLDER
-oracle bench [FILE.tzb [ROWS]]";
+oracle bench [FILE.tzb [ROWS]]
+oracle bench sections
+oracle bench zones";
 
 fn main() {
     let words: Vec<String> = std::env::args().skip(1).collect();
@@ -47,6 +50,13 @@ fn main() {
         ["compare", "exact", one, ref rest @ ..] if rest.len() < 3 => {
             timed(one, rest, compare::exact::run, compare::exact::one)
         }
+        ["compare", "tables"] => compare::files::tables(60, random::fresh_seed()),
+        ["compare", "tables", seconds] => {
+            compare::files::tables(number(seconds), random::fresh_seed())
+        }
+        ["compare", "tables", seconds, seed] => {
+            compare::files::tables(number(seconds), number(seed))
+        }
         ["compare", "file", file] => compare::files::one(file.as_ref()),
         ["compare", seconds] => compare::run(number(seconds), random::fresh_seed()),
         ["compare", seconds, seed] => compare::run(number(seconds), number(seed)),
@@ -57,6 +67,7 @@ fn main() {
         ["short", seconds, seed] => short(number(seconds), number(seed)),
         ["lists", folder] => lists::write(folder.as_ref()),
         ["bench"] => bench::run(None, ""),
+        ["bench", "sections"] => bench::hostile::run(),
         ["bench", "zones"] => bench::zones::run(),
         ["bench", file] => bench::run(Some(file.as_ref()), ""),
         ["bench", file, rows] => bench::run(Some(file.as_ref()), rows),

@@ -19,9 +19,9 @@ use Rattle.reader_table.specs.Shared.{Settled, Placed, Has, Split, Marke
 
 -- ---- one entry
 
--- the units of an entry from its first to behind its last, clipped to the window
-module _ (s : List ℕ) (i base off len from to : ℕ) (m m' : List ℕ) (eo : off ≡ offAt s i) (el : len ≡ lenAt s i)
-    (a : Clipped (off / 4) base (8 * length m) from) (b : Clipped ((off + len + 3) / 4) base (8 * length m) to) where
+-- the units of an entry, from its first to behind its last, clipped to the window
+module _ (s : List ℕ) (i base first last from to : ℕ) (m m' : List ℕ) (lo : 4 * first ≤ offAt s i) (hi : offAt s i + lenAt s i ≤ 4 * last)
+    (a : Clipped first base (8 * length m) from) (b : Clipped last base (8 * length m) to) where
   in-from : (k : ℕ) → Has s i (base + k) → from ≤ k
   in-from k h = a .low k (omega arith)
 

@@ -5,7 +5,7 @@ mod met;
 
 use super::Tally;
 use crate::file::damage::{self, Aim};
-use crate::file::{self, smaller};
+use crate::file::{self, smaller, tables};
 use crate::random::Random;
 use met::Met;
 use std::path::Path;
@@ -70,6 +70,7 @@ pub fn run(seconds: u64, seed: u64) {
     let start = Instant::now();
     while start.elapsed() < Duration::from_secs(seconds) {
         some(&mut run, &mut random);
+        long_tables(&mut run, &mut random);
     }
     run.met.make_small();
     run.end();
@@ -89,6 +90,18 @@ pub fn short(seconds: u64, seed: u64) {
         }
     }
     println!("compare files: {}, no difference but the known ones", run.met.in_short());
+}
+
+/// Long section tables alone.
+pub fn tables(seconds: u64, seed: u64) {
+    println!("seed {seed}, long section tables for {seconds} s");
+    let mut run = Run::new();
+    let mut random = Random::new(seed);
+    let start = Instant::now();
+    while start.elapsed() < Duration::from_secs(seconds) {
+        long_tables(&mut run, &mut random);
+    }
+    run.end();
 }
 
 fn fixed(run: &mut Run) {
@@ -138,6 +151,21 @@ fn some(run: &mut Run, random: &mut Random) {
     damage::cuts(&file, &mut each);
     damage::tables(&file, &mut |_, file| each(&file));
     run.tally.add("every cut and every pair of entries of a random file", count);
+}
+
+/// Tables that the port judges by its map: small files, and a large one with more windows than one.
+fn long_tables(run: &mut Run, random: &mut Random) {
+    for _ in 0..20 {
+        run.judge(&tables::valid(random));
+        run.tally.add("valid files with more than 64 sections", 1);
+        for wrong in 0..8 {
+            run.judge(&tables::table(random, false, wrong));
+        }
+        run.tally.add("tables of 65 to 300 entries, 0 to 7 of them wrong", 8);
+    }
+    let wrong = random.below(4);
+    run.judge(&tables::table(random, true, wrong));
+    run.tally.add("the same with 0 to 3 wrong, in a file of more than two windows", 1);
 }
 
 /// One file: opening, every name, candidates at many positions, every place of the candidates.

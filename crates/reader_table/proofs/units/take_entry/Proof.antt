@@ -1,6 +1,7 @@
 -- `units::take_entry` meets its contract: the units of an entry that lie in the window are those from one place of the map to another.
 -- Assumes nothing.
 use Rattle.reader_table.proofs.Windows.{taken-by}
+use native.Mathlib.Omega.{arith}
 use borrow.Author.Needs.{needs}
 use Rattle.reader_table.proofs.units.take_entry.Statement.{statement}
 use Rattle.reader_table.proofs.units.take_entry.Tie as tie
@@ -37,8 +38,7 @@ returns c =
     let u = c .before .before in
     let b = u .before .before in
     let a = b .before in
-    let f = a .before in
-    λ t. taken-by _ _ _ _ _ _ _ _ _ (f .before .field .ensures .0) (f .field2 .ensures .0) (a .clip .ensures) (b .clip2 .ensures) (u .take-units .ensures t)
+    λ t. taken-by _ _ _ _ _ _ _ _ _ (omega arith) (omega arith) (a .clip .ensures) (b .clip2 .ensures) (u .take-units .ensures t)
 
 pub take-entry-spec : {M : Type 1} → statement M
 take-entry-spec =
