@@ -11,9 +11,13 @@ use crate::random::Random;
 use crate::scene::{KINDS, Scene};
 use std::hint::black_box;
 use std::path::Path;
+use std::sync::OnceLock;
 use std::time::{Duration, Instant};
 
 const ROUNDS: usize = 40;
+
+/// Only rows with this in their name are measured.
+static WANTED: OnceLock<String> = OnceLock::new();
 
 // The original behind calls as costly as those of the port.
 
@@ -51,7 +55,8 @@ type OfBytes = unsafe extern "C" fn(*const u8, usize) -> u32;
 type OfPlace = unsafe extern "C" fn(*const u8, usize, usize) -> i32;
 type OfScene = extern "C" fn(i32, i32, i32, i32, f64, f64) -> i32;
 
-pub fn run(file: Option<&Path>) {
+pub fn run(file: Option<&Path>, wanted: &str) {
+    WANTED.get_or_init(|| wanted.to_string());
     let mut random = Random::new(1);
     let file = file.map(|path| std::fs::read(path).expect("the file"));
     let whole = file.clone().unwrap_or_else(|| random.bytes(2_000_000));
@@ -115,6 +120,9 @@ fn of_scenes(kind: &str, scenes: &[Scene], port: OfScene, original: OfScene) {
 
 /// Turns of both, the best of each: nanoseconds an item, and how many times the original's time fits the port's.
 fn row(name: &str, items: usize, port: &mut dyn FnMut() -> u64, original: &mut dyn FnMut() -> u64) {
+    if !is_wanted(name) {
+        return;
+    }
     assert_eq!(port(), original(), "{name}: the answers differ");
     let (mut p, mut o) = (Duration::MAX, Duration::MAX);
     for _ in 0..ROUNDS {
@@ -124,6 +132,10 @@ fn row(name: &str, items: usize, port: &mut dyn FnMut() -> u64, original: &mut d
     let each = |d: Duration| d.as_secs_f64() * 1e9 / items as f64;
     let ratio = o.as_secs_f64() / p.as_secs_f64();
     println!("{name:<46}{:>9.2} ns{:>9.2} ns{ratio:>8.2}", each(p), each(o));
+}
+
+fn is_wanted(name: &str) -> bool {
+    WANTED.get().is_none_or(|wanted| name.contains(wanted))
 }
 
 fn time(f: &mut dyn FnMut() -> u64) -> Duration {

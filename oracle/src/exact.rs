@@ -2,7 +2,8 @@
 
 use crate::rules::{Opened, Said};
 
-type Place = (i128, i128);
+/// Products of two differences stay below 2^51.
+type Place = (i64, i64);
 type Segment = (Place, Place);
 type Ring = Vec<Segment>;
 
@@ -12,11 +13,11 @@ pub struct Exact {
 }
 
 /// Twice the area of the triangle, with its sign.
-fn cross(a: Place, b: Place, p: Place) -> i128 {
+fn cross(a: Place, b: Place, p: Place) -> i64 {
     (b.0 - a.0) * (p.1 - a.1) - (b.1 - a.1) * (p.0 - a.0)
 }
 
-fn between(a: i128, b: i128, x: i128) -> bool {
+fn between(a: i64, b: i64, x: i64) -> bool {
     a.min(b) <= x && x <= a.max(b)
 }
 

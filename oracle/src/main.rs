@@ -14,6 +14,8 @@ mod rules;
 mod scene;
 mod voice;
 
+use std::path::Path;
+
 include!(concat!(env!("OUT_DIR"), "/original.rs"));
 
 const USAGE: &str = "oracle compare [SECONDS [SEED]]
@@ -22,8 +24,10 @@ oracle compare file FILE.tzb
 oracle compare tables [SECONDS [SEED]]
 oracle compare asking [SECONDS [SEED]]
 oracle compare asking FILE.tzb [SECONDS [SEED]]
+oracle compare exact [SECONDS [SEED]]
+oracle compare exact FILE.tzb [SECONDS [SEED]]
 oracle lists FOLDER
-oracle bench [FILE.tzb]
+oracle bench [FILE.tzb [ROWS]]
 oracle bench sections";
 
 fn main() {
@@ -35,7 +39,13 @@ fn main() {
         ["compare", "files", seconds] => compare::files::run(number(seconds), random::fresh_seed()),
         ["compare", "files", seconds, seed] => compare::files::run(number(seconds), number(seed)),
         ["compare", "asking"] => compare::asking::run(60, random::fresh_seed()),
-        ["compare", "asking", one, ref rest @ ..] if rest.len() < 3 => asking(one, rest),
+        ["compare", "asking", one, ref rest @ ..] if rest.len() < 3 => {
+            timed(one, rest, compare::asking::run, compare::asking::one)
+        }
+        ["compare", "exact"] => compare::exact::run(60, random::fresh_seed()),
+        ["compare", "exact", one, ref rest @ ..] if rest.len() < 3 => {
+            timed(one, rest, compare::exact::run, compare::exact::one)
+        }
         ["compare", "tables"] => compare::files::tables(60, random::fresh_seed()),
         ["compare", "tables", seconds] => {
             compare::files::tables(number(seconds), random::fresh_seed())
@@ -47,21 +57,22 @@ fn main() {
         ["compare", seconds] => compare::run(number(seconds), random::fresh_seed()),
         ["compare", seconds, seed] => compare::run(number(seconds), number(seed)),
         ["lists", folder] => lists::write(folder.as_ref()),
-        ["bench"] => bench::run(None),
+        ["bench"] => bench::run(None, ""),
         ["bench", "sections"] => bench::hostile::run(),
-        ["bench", file] => bench::run(Some(file.as_ref())),
+        ["bench", file] => bench::run(Some(file.as_ref()), ""),
+        ["bench", file, rows] => bench::run(Some(file.as_ref()), rows),
         _ => usage(),
     }
 }
 
 /// SECONDS [SEED], or a file before them.
-fn asking(one: &str, rest: &[&str]) {
+fn timed(one: &str, rest: &[&str], small: fn(u64, u64), large: fn(&Path, u64, u64)) {
     let seed = |word: Option<&&str>| word.map_or_else(random::fresh_seed, |w| number(w));
     if one.parse::<u64>().is_ok() && rest.len() < 2 {
-        return compare::asking::run(number(one), seed(rest.first()));
+        return small(number(one), seed(rest.first()));
     }
     let seconds = rest.first().map_or(60, |w| number(w));
-    compare::asking::one(one.as_ref(), seconds, seed(rest.get(1)));
+    large(one.as_ref(), seconds, seed(rest.get(1)));
 }
 
 fn number(word: &str) -> u64 {

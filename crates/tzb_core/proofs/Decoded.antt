@@ -51,49 +51,6 @@ led-fine q x e = e ∙ led-same q x
 pub led-no : (q : I32Point) (x : Answer (List I32Point)) (r : Refusal) → Refused r ≡ outcome x → refused r ≡ led q x
 led-no q x r e = ap (led q) (outcome-no x r e)
 
--- ---- one point more
-module _ (s : List ℕ) (n : ℕ) (q : I32Point) (k : ℕ) (h : 0 < n) where
-  more : n ≡ suc (n - 1)
-  more = omega arith
-
-  points-one : pointsFrom s n q k ≡ (nextAt s q k then λ t. led (t .0) (pointsFrom s (n - 1) (t .0) (t .1)))
-  unfolding pointsFrom
-  points-one = ap (λ (j : ℕ). pointsFrom s j q k) more
-
-  pub check-no : (r : Refusal) → refused r ≡ nextAt s q k → Refused r ≡ outcome (pointsFrom s n q k)
-  check-no r e = rw (points-one, ← e)
-
-  pub check-on : (t : I32Point) (m : ℕ) → ok (t, m) ≡ nextAt s q k → outcome (pointsFrom s (n - 1) t m) ≡ outcome (pointsFrom s n q k)
-  check-on t m e = led-same t (pointsFrom s (n - 1) t m) ∙ ap outcome (rest ∙ sym points-one)
-    where
-      rest : led t (pointsFrom s (n - 1) t m) ≡ (nextAt s q k then λ t. led (t .0) (pointsFrom s (n - 1) (t .0) (t .1)))
-      rest = rw (← e)
-
-  pub read-no : (r : Refusal) → refused r ≡ nextAt s q k → [] ≡ readFrom s n q k
-  unfolding readFrom
-  read-no r e = rw (more, ← e)
-
-  pub read-on : (t : I32Point) (m : ℕ) → ok (t, m) ≡ nextAt s q k → t ∷ readFrom s (n - 1) t m ≡ readFrom s n q k
-  unfolding readFrom
-  read-on t m e = go (n - 1) more
-    where
-      go : (j : ℕ) → n ≡ suc j → t ∷ readFrom s j t m ≡ readFrom s n q k
-      go j z = rw (z, ← e)
-
--- ---- none left
-module _ (s : List ℕ) (n : ℕ) (q : I32Point) (k : ℕ) (z : n ≡ 0) where
-  pub check-end : (b : Bool) → b ≡ atEnd s k → claim 43 b ≡ outcome (pointsFrom s n q k)
-  unfolding pointsFrom claim
-  check-end b e = rw (z, e) (go (atEnd s k))
-    where
-      go : (b : Bool) → claim 43 b ≡ outcome {A = List I32Point} (need 43 b (ok []))
-      go true = refl
-      go false = refl
-
-  pub read-end : [] ≡ readFrom s n q k
-  unfolding readFrom
-  read-end = rw z
-
 -- ---- what was read
 -- where all points can be read, they are read
 pub read-all : (s : List ℕ) (n : ℕ) (q : I32Point) (k : ℕ) (l : List I32Point) → ok l ≡ pointsFrom s n q k → (readFrom s n q k ≡ l) × (length l ≡ n)

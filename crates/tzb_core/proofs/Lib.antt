@@ -22,6 +22,7 @@ pub mod DeterminedRay
 -- chunks
 pub mod Skips
 pub mod Decoded
+pub mod Turns
 pub mod Copied
 pub mod Neighbours
 pub mod DeterminedChunk

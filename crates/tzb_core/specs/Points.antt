@@ -2,7 +2,7 @@
 -- Assumes nothing.
 use Prim.Native.Nat.{ℕ}
 use mathlib.Core.Path.{_≡_}
-use mathlib.Core.Bool.{true, false}
+use mathlib.Core.Bool.{Bool, true, false}
 use mathlib.Core.List.{List}
 use lib.IntN.{ℤ}
 use Rattle.answer.specs.declared.Refusal.{Refusal}
@@ -15,6 +15,8 @@ use Rattle.tzb_core.specs.declared.chunk.Spotted.{Spotted}
 use Rattle.tzb_core.specs.declared.chunk.Spotted.the-variants as S
 use Rattle.tzb_core.specs.declared.chunk.Moved.{Moved}
 use Rattle.tzb_core.specs.declared.chunk.Moved.the-variants as M
+use Rattle.tzb_core.specs.declared.chunk.Turned.{Turned}
+use Rattle.tzb_core.specs.declared.chunk.Turned.the-variants as T
 
 abbrev pub point : ℤ → ℤ → I32Point
 point x y = record { x = x; y = y }
@@ -114,3 +116,17 @@ module _ (s : List ℕ) where
     pub next-at : (d t : I32Point) (m : ℕ) → ok (d, m) ≡ numbersAt s p → ok t ≡ movedBy q d → inside t m ≡ nextAt s q p
     unfolding nextAt
     next-at d t m e f = rw (← e, ← f)
+
+-- ---- what the code's steps answer
+-- the point that a delta d leads to from q, in the domain
+unfoldable pub arrive : I32Point → I32Point → Answer I32Point
+arrive q d = movedBy q d then λ t. need 42 (inDomain t) (ok t)
+
+abbrev pub turnTo : Answer I32Point → Turned
+turnTo (ok t) = T.To t
+turnTo (refused r) = T.Refused r
+
+-- one number n more of a delta: its x alone, or with the x that was read before it a point
+unfoldable pub turnOf : I32Point → Bool → ℤ → ℤ → Turned
+turnOf q false x n = T.Half
+turnOf q true x n = turnTo (arrive q (point x n))

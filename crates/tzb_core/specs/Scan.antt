@@ -102,8 +102,14 @@ Around b y =
     (z : ℤ) → natAbs z ≤ 9_000_000
     → (ltZ z (b .lo) ≡ true → lt (float z) y ≡ true) × (ltZ (b .hi) z ≡ true → lt y (float z) ≡ true)
 
+abbrev pub bothBelow : ℤ → ℤ → ℤ → Bool
+bothBelow u v lo = ltZ u lo && ltZ v lo
+
+abbrev pub bothAbove : ℤ → ℤ → ℤ → Bool
+bothAbove u v hi = ltZ hi u && ltZ hi v
+
 -- the ends differ in height, and both are below `lo` or both above `hi`: the ray test sees nothing of such a segment (`skips`, in proofs/Skips)
 unfoldable pub aside : Band → I32Point → I32Point → Bool
 aside b u v =
     (ltZ (u .y) (v .y) || ltZ (v .y) (u .y))
-    && ((ltZ (u .y) (b .lo) && ltZ (v .y) (b .lo)) || (ltZ (b .hi) (u .y) && ltZ (b .hi) (v .y)))
+    && (bothBelow (u .y) (v .y) (b .lo) || bothAbove (u .y) (v .y) (b .hi))

@@ -1,13 +1,13 @@
 // Chunk code: the points of one chunk's bytes, and the scan of its segments. The bytes s are that chunk's own.
 ghost use mathlib.Core.Path.{_≡_};
-ghost use mathlib.Core.Bool.{true};
+ghost use mathlib.Core.Bool.{true, _||_};
 ghost use Prim.Native.Nat.{_+_, _*_, _≤_, _<_};
 ghost use mathlib.Core.List.{_∷_, _++_};
 ghost use lib.ListN.{length, set, take, drop};
 ghost use Rattle.plane.specs.Domain.{inDomain};
-ghost use Rattle.tzb_core.specs.Points.{spotted, moved, movedBy, numbersAt, inside, firstOf, nextAt};
+ghost use Rattle.tzb_core.specs.Points.{spotted, moved, movedBy, numbersAt, inside, firstOf, nextAt, turnOf};
 ghost use Rattle.tzb_core.specs.Ray.{rayOf};
-ghost use Rattle.tzb_core.specs.Scan.{scanned, onward, scanOf, Around, aside};
+ghost use Rattle.tzb_core.specs.Scan.{scanned, onward, scanOf, Around, bothBelow, bothAbove, aside};
 ghost use Rattle.tzb_core.specs.Decode.{outcome, pointsFrom, led, filled, decodeOf, decoded, put, readFrom};
 use crate::bbox;
 use crate::bbox::Sum;
@@ -27,6 +27,13 @@ pub enum Spotted {
 }
 
 enum Moved {
+    To(I32Point),
+    Refused(Refusal),
+}
+
+// What one more number makes of a delta: its x alone, which waits for its y, or a point.
+enum Turned {
+    Half,
     To(I32Point),
     Refused(Refusal),
 }
@@ -117,6 +124,26 @@ pub fn next_point(s: &[u8], q: I32Point, at: Place) -> Spotted
     }
 }
 
+// One more number of a delta to the point q: with its x read before, this is its y.
+fn turn(q: I32Point, half: bool, x: i32, number: i32) -> Turned
+    ensures { λ r. ⌜ r ≡ turnOf q half x number ⌝ }
+{
+    if !half {
+        return Turned::Half;
+    }
+    let m = shifted(q, I32Point { x, y: number });
+    match m {
+        Moved::Refused(k) => Turned::Refused(k),
+        Moved::To(t) => {
+            if bbox::point_in_domain(t) {
+                Turned::To(t)
+            } else {
+                Turned::Refused(answer::refuse(42))
+            }
+        }
+    }
+}
+
 // The height without its fraction; where it is none of the domain's, heights that nothing in the domain is beyond.
 fn band_at(y: f64) -> Band
     ensures { λ r. ⌜ Around r y ⌝ }
@@ -136,6 +163,27 @@ fn band_at(y: f64) -> Band
     }
 }
 
+fn both_below(u: i32, v: i32, lo: i32) -> bool
+    ensures { λ r. ⌜ r ≡ bothBelow u v lo ⌝ }
+{
+    if u < lo { v < lo } else { false }
+}
+
+fn both_above(u: i32, v: i32, hi: i32) -> bool
+    ensures { λ r. ⌜ r ≡ bothAbove u v hi ⌝ }
+{
+    if hi < u { hi < v } else { false }
+}
+
+fn is_beyond(u: i32, v: i32, lo: i32, hi: i32) -> bool
+    ensures { λ r. ⌜ r ≡ (bothBelow u v lo || bothAbove u v hi) ⌝ }
+{
+    if both_below(u, v, lo) {
+        return true;
+    }
+    both_above(u, v, hi)
+}
+
 // The segment is not level, and lies below the point or above it: the ray test sees nothing of it.
 fn is_aside(b: Band, u: I32Point, v: I32Point) -> bool
     ensures { λ r. ⌜ r ≡ aside b u v ⌝ }
@@ -144,7 +192,10 @@ fn is_aside(b: Band, u: I32Point, v: I32Point) -> bool
     let vy = v.y;
     let lo = b.lo;
     let hi = b.hi;
-    ((uy < vy) | (vy < uy)) & (((uy < lo) & (vy < lo)) | ((hi < uy) & (hi < vy)))
+    if is_beyond(uy, vy, lo, hi) {
+        return (uy < vy) | (vy < uy);
+    }
+    false
 }
 
 // What the point sees of the segment from u to v.
@@ -160,7 +211,7 @@ fn segment_seen(b: Band, u: I32Point, v: I32Point, p: Point) -> Seen
     raycast::raycast_seg(u, v, p)
 }
 
-// From the first point on, over that many points more.
+// From the first point on, over that many points more, a number a turn.
 fn scan_from(s: &[u8], p: Point, count: u16, first: I32Point, from: Place) -> Scan
     requires { ⌜ inDomain first ≡ true ⌝ }
     ensures { λ r. ⌜ scanned r ≡ onward (now (s .entry)) p count first (from .at) ⌝ }
@@ -170,27 +221,42 @@ fn scan_from(s: &[u8], p: Point, count: u16, first: I32Point, from: Place) -> Sc
     let mut at = from;
     let mut odd = false;
     let mut left = count;
+    let mut half = false;
+    let mut x: i32 = 0;
     while 0 < left {
-        let t = next_point(s, q, at);
-        match t {
-            Spotted::Refused(k) => {
+        let a = at.varint(s);
+        match a {
+            Read::Refused(k) => {
                 return Scan::Refused(k);
             }
-            Spotted::At(n, m) => {
-                let e = segment_seen(b, q, n, p);
-                match e {
-                    Seen::On => {
-                        return Scan::On;
+            Read::Number(d, m) => {
+                let t = turn(q, half, x, d);
+                match t {
+                    Turned::Refused(k) => {
+                        return Scan::Refused(k);
                     }
-                    Seen::Off(c) => {
-                        odd = answer::plus(odd, c);
+                    Turned::Half => {
+                        x = d;
+                        half = true;
+                    }
+                    Turned::To(n) => {
+                        let e = segment_seen(b, q, n, p);
+                        match e {
+                            Seen::On => {
+                                return Scan::On;
+                            }
+                            Seen::Off(c) => {
+                                odd = answer::plus(odd, c);
+                            }
+                        }
+                        q = n;
+                        half = false;
+                        left -= 1;
                     }
                 }
-                q = n;
                 at = m;
             }
         }
-        left -= 1;
     }
     if at.at_end(s) {
         return Scan::Off(odd, q);
@@ -236,20 +302,35 @@ fn fill_from(s: &[u8], count: u16, first: I32Point, from: Place, out: &mut [i32]
     let mut at = from;
     let mut rest = count;
     let mut i: usize = 2;
+    let mut half = false;
+    let mut x: i32 = 0;
     while 0 < rest {
-        let t = next_point(s, q, at);
-        match t {
-            Spotted::Refused(k) => {
+        let a = at.varint(s);
+        match a {
+            Read::Refused(k) => {
                 return Checked::Refused(k);
             }
-            Spotted::At(n, m) => {
-                q = n;
+            Read::Number(d, m) => {
+                let t = turn(q, half, x, d);
+                match t {
+                    Turned::Refused(k) => {
+                        return Checked::Refused(k);
+                    }
+                    Turned::Half => {
+                        x = d;
+                        half = true;
+                    }
+                    Turned::To(n) => {
+                        put_point(out, i, n);
+                        q = n;
+                        half = false;
+                        i += 2;
+                        rest -= 1;
+                    }
+                }
                 at = m;
             }
         }
-        put_point(out, i, q);
-        i += 2;
-        rest -= 1;
     }
     answer::claim(43, at.at_end(s))
 }
@@ -290,12 +371,12 @@ fn decode_with(
     Checked::Fine
 }
 
-// The same with memory of its own, which has room for 128 points.
+// The same with memory of its own, which has room for 256 points.
 fn decode_from(s: &[u8], count: u16, first: I32Point, from: Place, out: &mut [i32]) -> Checked
     requires { ⌜ 2 + 2 * count ≤ length (now out) ⌝ }
     ensures { λ r. ⌜ (r ≡ outcome (led first (pointsFrom (now (s .entry)) count first (from .at)))) × (now (out .exit) ≡ filled (now (out .entry)) (led first (pointsFrom (now (s .entry)) count first (from .at)))) ⌝ }
 {
-    let mut held = [0i32; 256];
+    let mut held = [0i32; 512];
     decode_with(s, count, first, from, &mut held, out)
 }
 

@@ -1,6 +1,6 @@
 //! Decoding, containment, lookups and names of an opened file, and the full check beside opening.
 
-use super::{ROUNDS, row, time};
+use super::{ROUNDS, is_wanted, row, time};
 use crate::original;
 use crate::port;
 use crate::port::asking::exports::*;
@@ -191,6 +191,9 @@ impl Both<'_> {
 
 /// The original has none: its time beside that of opening.
 fn full_check(file: &[u8]) {
+    if !is_wanted("full check, a byte") {
+        return;
+    }
     let (data, length) = (file.as_ptr(), file.len());
     let mut check = || unsafe { tzb_full_check(data, length) } as u64;
     let mut open = || u64::from(unsafe { port::opening::refusal(data, length) });

@@ -2,6 +2,7 @@
 
 pub mod asking;
 mod checksum;
+pub mod exact;
 pub mod files;
 mod geometry;
 mod utf8;

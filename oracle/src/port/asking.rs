@@ -84,7 +84,7 @@ impl<'a> Opened<'a> {
         said(code).map(|_| out[..written].iter().map(|&n| n.into()).collect())
     }
 
-    fn contains(&self, zone: u32, x: i32, y: i32) -> Said<bool> {
+    pub fn contains(&self, zone: u32, x: i32, y: i32) -> Said<bool> {
         let (r, size, f, length) = self.parts();
         said(unsafe { tzb_contains(r, size, f, length, zone, x, y) }.into()).map(|is| is == 1)
     }
@@ -97,7 +97,7 @@ impl<'a> Opened<'a> {
         }
     }
 
-    fn lookup_into(&self, lng: f64, lat: f64, places: usize) -> Said<Vec<u64>> {
+    pub fn lookup_into(&self, lng: f64, lat: f64, places: usize) -> Said<Vec<u64>> {
         let (r, size, f, length) = self.parts();
         let mut zones = vec![GUARD; places + BEHIND];
         let (to, room) = (zones.as_mut_ptr(), places);

@@ -17,9 +17,7 @@ fn spread<T: Copy>(all: &[T], most: usize) -> Vec<T> {
 /// At most so many questions of each kind.
 pub fn of(o: &Opened, most: usize) -> Vec<Question> {
     let lines = lines(o);
-    let mut whole = places(o, &lines);
-    whole.sort_unstable();
-    whole.dedup();
+    let whole = whole_places(o);
     let chosen = spread(&whole, most);
     let mut out = Vec::new();
     for chunk in 0..o.chunks().min(most as u64) as u32 {
@@ -40,6 +38,14 @@ pub fn of(o: &Opened, most: usize) -> Vec<Question> {
         out.extend(places.map(|places| Question::LookupInto(lng, lat, places)));
     }
     out
+}
+
+/// The whole-number points that are asked of a small file, each once.
+pub fn whole_places(o: &Opened) -> Vec<Place> {
+    let mut whole = places(o, &lines(o));
+    whole.sort_unstable();
+    whole.dedup();
+    whole
 }
 
 /// The points of each chunk, as far as they can be read, and the first of the next.
@@ -161,19 +167,29 @@ pub fn at_random(judge: &Judge, random: &mut Random) -> Vec<Question> {
 
 /// On and beside every point and the middle of every edge of a chunk, in the zones listed there.
 pub fn along(judge: &Judge, chunk: u64) -> Vec<Question> {
-    let whole = |(x, y): (i64, i64)| (x as i32, y as i32);
-    let points: Vec<Place> = judge.opened.readable(chunk).into_iter().map(whole).collect();
-    let middles = points.windows(2).map(|ends| middle(ends[0], ends[1]));
-    let beside = [(0, 0), (1, 0), (0, 1), (-1, 0), (0, -1)];
     let mut out = Vec::new();
-    for (x, y) in points.iter().copied().chain(middles) {
+    for (x, y) in border(&judge.opened, chunk) {
         let (lng, lat) = (f64::from(x) / 100_000.0, f64::from(y) / 100_000.0);
         out.extend([Question::Lookup(lng, lat), Question::LookupInto(lng, lat, u64::MAX)]);
         for zone in judge.lookup_into(lng, lat, u64::MAX).unwrap_or_default() {
-            out.extend(beside.map(|(dx, dy)| Question::Contains(zone as u32, x + dx, y + dy)));
+            out.extend(beside((x, y)).map(|(x, y)| Question::Contains(zone as u32, x, y)));
         }
     }
     out
+}
+
+/// Every point of a chunk and the middle of every edge.
+pub fn border(o: &Opened, chunk: u64) -> Vec<Place> {
+    let whole = |(x, y): (i64, i64)| (x as i32, y as i32);
+    let mut points: Vec<Place> = o.readable(chunk).into_iter().map(whole).collect();
+    let middles: Vec<Place> = points.windows(2).map(|ends| middle(ends[0], ends[1])).collect();
+    points.extend(middles);
+    points
+}
+
+/// A point and its four neighbours.
+pub fn beside((x, y): Place) -> [Place; 5] {
+    [(x, y), (x + 1, y), (x, y + 1), (x - 1, y), (x, y - 1)]
 }
 
 /// A point of a chunk, or one on the way to the next.

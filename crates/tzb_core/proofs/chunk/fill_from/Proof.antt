@@ -1,52 +1,94 @@
--- `chunk::fill_from` meets its contract: what is left to read comes to the same as the whole, and written behind what was written makes the same memory.
+-- `chunk::fill_from` meets its contract: what is left to read comes to the same as the whole, and written behind what was written makes the same memory; the x of a delta waits for its y.
 -- Assumes nothing.
 use Prim.Native.Nat.{_+_, _*_, _≤_}
 use native.Mathlib.Omega.{arith}
 use mathlib.Core.Path.{_≡_, refl, sym, ap, _∙_}
+use mathlib.Core.Bool.{cond}
 use lib.ListN.{length}
-use Rattle.tzb_core.specs.Points.{spotted}
+use lib.IntN.{ℤ}
+use mir.Syntax.{w32}
+use mir.Val.{toZ, ofZ}
+use Rattle.answer.specs.Answers.{ok}
+use Rattle.tzb_core.specs.Varint.{told, numberAt}
 use Rattle.tzb_core.specs.Decode.{outcome, pointsFrom, put, readFrom}
-use Rattle.tzb_core.proofs.Decoded.{check-no, check-on, check-end, read-no, read-on, read-end, put-end, put-on}
+use Rattle.tzb_core.proofs.Sums.{back}
+use Rattle.tzb_core.proofs.Decoded.{put-end, put-on}
+use Rattle.tzb_core.proofs.Turns.{nextOf, turn-none, turn-no, turn-half, turn-to, half-less, point-less, pointsBy, readBy, points-by, read-by, check-no, check-on, check-there, check-end, read-no, read-on, read-end}
 use borrow.Author.Needs.{needs}
 use Rattle.tzb_core.proofs.chunk.fill_from.Statement.{statement}
 use Rattle.tzb_core.proofs.chunk.fill_from.Tie as tie
 
 abbrev Inv-loop : tie.InvT-loop
-Inv-loop s count out₀ q₀ at₀ rest₀ i₀ out q at rest i =
+Inv-loop s count out₀ q₀ at₀ rest₀ i₀ half₀ x₀ out q at rest i half x =
     (length out ≡ length out₀)
     × (i + 2 * rest ≡ 2 + 2 * count)
-    × (outcome (pointsFrom s rest q (at .at)) ≡ outcome (pointsFrom s count q₀ (at₀ .at)))
-    × (2 + 2 * count ≤ length out₀ → put out i (readFrom s rest q (at .at)) ≡ put out₀ 2 (readFrom s count q₀ (at₀ .at)))
+    × (outcome (pointsBy s rest (at .at) (nextOf half s q (toZ w32 x) (at .at))) ≡ outcome (pointsFrom s count q₀ (at₀ .at)))
+    × (2 + 2 * count ≤ length out₀ → put out i (readBy s rest (nextOf half s q (toZ w32 x) (at .at))) ≡ put out₀ 2 (readFrom s count q₀ (at₀ .at)))
 
 abbrev μ-loop : tie.MeasureT-loop
-μ-loop s count out₀ q₀ at₀ rest₀ i₀ out q at rest i = rest
+μ-loop s count out₀ q₀ at₀ rest₀ i₀ half₀ x₀ out q at rest i half x = 2 * rest + cond half 0 1
 
 put-point-requires : tie.Need-put-point-requires Inv-loop μ-loop
 put-point-requires c κs = search needs
 
 loop-holds : tie.Need-loop-holds Inv-loop μ-loop
-loop-holds c = (refl, omega arith, refl, λ h. refl)
+unfolding nextOf
+loop-holds c = (refl, omega arith, ap outcome (points-by _ _ _ _), λ h. ap (put _ 2) (read-by _ _ _ _))
 
-next-point-requires : tie.Need-next-point-requires Inv-loop μ-loop
-next-point-requires c κs = search needs
+varint-requires : tie.Need-varint-requires Inv-loop μ-loop
+varint-requires c κs = search needs
 
-enum-known-t : tie.Need-enum-known-t Inv-loop μ-loop
-enum-known-t c = search needs
+enum-known-a : tie.Need-enum-known-a Inv-loop μ-loop
+enum-known-a c = search needs
 
 same-length : tie.Need-same-length Inv-loop μ-loop
 same-length c = search needs
 
 returns : tie.Need-returns Inv-loop μ-loop
 returns c =
-    let n = c .before .before .before in
-    let l = n .before .before in
+    let v = c .before .before .before in
+    let l = v .before .before in
     let p = l .before .before in
-    let e = sym (ap spotted (c .before .t .given .1)) ∙ n .next-point .ensures in (
-      check-no _ _ _ _ (omega arith) _ e ∙ l .loop .inv .2,
-      λ h. put-end _ _ _ (read-no _ _ _ _ (omega arith) _ e)
+    let e = turn-none _ _ _ _ (l .loop .half) _ (sym (ap told (c .before .a .given .1)) ∙ v .varint .ensures) in (
+      check-no _ _ _ _ (v .before .loop-test .taken) _ e ∙ l .loop .inv .2,
+      λ h. put-end _ _ _ (read-no _ _ _ (v .before .loop-test .taken) _ e)
           ∙ l .loop .inv .3 (omega (arith, h, l .before .out .given))
           ∙ put-on _ 0 _ _ _ _ refl (p .put-point .ensures (omega (arith, h))),
     )
+
+enum-known-a-2 : tie.Need-enum-known-a-2 Inv-loop μ-loop
+enum-known-a-2 c = search needs
+
+turn-requires : tie.Need-turn-requires Inv-loop μ-loop
+turn-requires c κs = search needs
+
+-- the number that was read
+read : (c : tie.After-known-told2 Inv-loop μ-loop) → ok (toZ w32 (ofZ w32 (c .before .a2 .given .0 .0)), c .before .a2 .given .0 .1 .0 .at) ≡ numberAt (c .before .before .before .before .before .before .before .before .before .before .args .s .now) (c .before .before .before .before .before .loop .at .at)
+read c =
+    let v = c .before .before .before in
+    ap (λ (z : ℤ). ok (z, c .before .a2 .given .0 .1 .0 .at)) (back w32 _ (c .known-told2 .given .0 .1)) ∙ sym (ap told (c .before .a2 .given .1)) ∙ v .varint .ensures
+
+enum-known-t : tie.Need-enum-known-t Inv-loop μ-loop
+enum-known-t c = search needs
+
+same-length-2 : tie.Need-same-length-2 Inv-loop μ-loop
+same-length-2 c = search needs
+
+returns-2 : tie.Need-returns-2 Inv-loop μ-loop
+returns-2 c =
+    let t = c .before .before .before in
+    let v = t .before .before .before .before in
+    let l = v .before .before in
+    let p = l .before .before in
+    let e = turn-no _ _ _ _ _ _ (read (t .before)) (l .loop .half) _ (sym (c .before .t .given .1) ∙ t .turn .ensures) in (
+      check-no _ _ _ _ (v .before .loop-test .taken) _ e ∙ l .loop .inv .2,
+      λ h. put-end _ _ _ (read-no _ _ _ (v .before .loop-test .taken) _ e)
+          ∙ l .loop .inv .3 (omega (arith, h, l .before .out .given))
+          ∙ put-on _ 0 _ _ _ _ refl (p .put-point .ensures (omega (arith, h))),
+    )
+
+enum-told : tie.Need-enum-told Inv-loop μ-loop
+enum-told c = search needs
 
 enum-known-t-2 : tie.Need-enum-known-t-2 Inv-loop μ-loop
 enum-known-t-2 c = search needs
@@ -61,20 +103,43 @@ sub-rest : tie.Need-sub-rest Inv-loop μ-loop
 sub-rest c = search needs
 
 loop-less : tie.Need-loop-less Inv-loop μ-loop
-loop-less c = search needs
+loop-less c =
+    let t = c .before .before in
+    let l = t .before .before .before .before .before .before .loop in
+    half-less (l .q) (l .half) (toZ w32 (l .x)) _ (l .rest) (sym (c .enum-told .given .1) ∙ t .turn .ensures)
 
 loop-again : tie.Need-loop-again Inv-loop μ-loop
 loop-again c =
+    let t = c .before .before in
+    let v = t .before .before .before .before in
+    let l = v .before .before in
+    let e = turn-half _ _ _ _ _ _ (read (t .before)) (l .loop .half) (sym (c .enum-told .given .1) ∙ t .turn .ensures) in (
+      l .loop .inv .0,
+      l .loop .inv .1,
+      check-there _ _ _ _ _ _ (v .before .loop-test .taken) e ∙ l .loop .inv .2,
+      λ h. ap (put (l .loop .out) (l .loop .i)) (ap (readBy (l .before .before .before .before .before .args .s .now) (l .loop .rest)) e) ∙ l .loop .inv .3 h,
+    )
+
+loop-less-2 : tie.Need-loop-less-2 Inv-loop μ-loop
+loop-less-2 c =
+    let v = c .before .before .before .before .before .before .before .before .before .before in
+    point-less (v .before .before .loop .half) (v .before .before .loop .rest) (v .before .loop-test .taken)
+
+loop-again-2 : tie.Need-loop-again-2 Inv-loop μ-loop
+unfolding nextOf
+loop-again-2 c =
     let p = c .before in
-    let t = p .before .before .before in
-    let n = t .before .before in
-    let l = n .before .before .loop in
+    let k = p .before .before in
+    let t = k .before .before .before in
+    let v = t .before .before .before .before in
+    let l = v .before .before .loop in
+    let h₀ = v .before .loop-test .taken in
     let same : length (p .put-point2 .last .0) ≡ length (l .out) = c .out2 .given in
-    let e = sym (ap spotted (t .t2 .given .1)) ∙ n .next-point .ensures in (
+    let e = turn-to _ _ _ _ _ _ (read (t .before)) (l .half) _ (sym (k .before .t2 .given .1) ∙ t .turn .ensures) in (
       same ∙ l .inv .0,
       omega arith,
-      check-on _ _ _ _ (omega arith) _ _ e ∙ l .inv .2,
-      λ h. put-on _ _ _ _ _ _ (read-on _ _ _ _ (omega arith) _ _ e) (p .put-point2 .ensures (omega (arith, h))) ∙ l .inv .3 h,
+      ap outcome (points-by _ _ _ _) ∙ check-on _ _ _ _ h₀ _ _ e ∙ l .inv .2,
+      λ h. ap (put _ _) (read-by _ _ _ _) ∙ put-on _ _ _ _ _ _ (read-on _ _ _ h₀ _ _ e) (p .put-point2 .ensures (omega (arith, h))) ∙ l .inv .3 h,
     )
 
 at-end-requires : tie.Need-at-end-requires Inv-loop μ-loop
@@ -83,15 +148,15 @@ at-end-requires c κs = search needs
 claim-requires : tie.Need-claim-requires Inv-loop μ-loop
 claim-requires c κs = search needs
 
-same-length-2 : tie.Need-same-length-2 Inv-loop μ-loop
-same-length-2 c = search needs
+same-length-3 : tie.Need-same-length-3 Inv-loop μ-loop
+same-length-3 c = search needs
 
-returns-2 : tie.Need-returns-2 Inv-loop μ-loop
-returns-2 c =
+returns-3 : tie.Need-returns-3 Inv-loop μ-loop
+returns-3 c =
     let l = c .before .before .before in
     let p = l .before .before in (
       c .claim .ensures ∙ check-end _ _ _ _ (omega arith) _ (c .before .at-end .ensures) ∙ l .loop .inv .2,
-      λ h. put-end _ _ _ (read-end _ _ _ _ (omega arith))
+      λ h. put-end _ _ _ (read-end _ _ _ (omega arith))
           ∙ l .loop .inv .3 (omega (arith, h, l .before .out .given))
           ∙ put-on _ 0 _ _ _ _ refl (p .put-point .ensures (omega (arith, h))),
     )
@@ -104,17 +169,25 @@ fill-from-spec =
     μ-loop
     put-point-requires
     loop-holds
-    next-point-requires
-    enum-known-t
+    varint-requires
+    enum-known-a
     same-length
     returns
+    enum-known-a-2
+    turn-requires
+    enum-known-t
+    same-length-2
+    returns-2
+    enum-told
     enum-known-t-2
     put-point-requires-2
     add-i
     sub-rest
     loop-less
     loop-again
+    loop-less-2
+    loop-again-2
     at-end-requires
     claim-requires
-    same-length-2
-    returns-2)
+    same-length-3
+    returns-3)

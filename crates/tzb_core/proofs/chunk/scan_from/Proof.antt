@@ -1,70 +1,93 @@
--- `chunk::scan_from` meets its contract: with the parity so far added to what is left, the whole stays the same.
+-- `chunk::scan_from` meets its contract: with the parity so far added to what is left, the whole stays the same; the x of a delta waits for its y.
 -- Assumes nothing.
+use Prim.Native.Nat.{_+_, _*_}
 use native.Mathlib.Omega.{arith}
 use mathlib.Core.Path.{_≡_, sym, ap, _∙_}
-use mathlib.Core.Bool.{true}
+use mathlib.Core.Bool.{true, cond}
+use mir.Syntax.{w32}
+use mir.Val.{toZ, ofZ}
+use lib.IntN.{ℤ}
 use Rattle.answer.specs.Answers.{ok}
 use Rattle.answer.specs.Walks.{broken, add, add-none, breaks, hits, ends, keeps}
 use Rattle.plane.specs.Domain.{inDomain}
-use Rattle.plane.specs.declared.Seen.{Seen}
-use Rattle.tzb_core.specs.Ray.{rayOf}
-use Rattle.tzb_core.specs.Points.{spotted, nextAt}
-use Rattle.tzb_core.specs.Scan.{past, stepAt, onward, step-no, step-at, onward-no, onward-on, onward-off, onward-left, onward-end}
-use Rattle.tzb_core.proofs.Neighbours.{next-in}
+use Rattle.tzb_core.specs.Varint.{told, numberAt}
+use Rattle.tzb_core.specs.Scan.{onward}
+use Rattle.tzb_core.proofs.Turns.{nextOf, onwardBy, onward-by, turn-none, turn-no, turn-half, turn-to, turn-in, half-less, point-less, by-left, by-end, by-no, by-on, by-off, by-there}
+use Rattle.tzb_core.proofs.Sums.{back}
 use borrow.Author.Needs.{needs}
 use Rattle.tzb_core.proofs.chunk.scan_from.Statement.{statement}
 use Rattle.tzb_core.proofs.chunk.scan_from.Tie as tie
 
 abbrev Inv-loop : tie.InvT-loop
-Inv-loop s p count b q₀ at₀ odd₀ left₀ q at odd left =
-    (inDomain q ≡ true) × (add odd (onward s p left q (at .at)) ≡ onward s p count q₀ (at₀ .at))
+Inv-loop s p count b q₀ at₀ odd₀ left₀ half₀ x₀ q at odd left half x =
+    (inDomain q ≡ true) × (add odd (onwardBy s p left q (at .at) (nextOf half s q (toZ w32 x) (at .at))) ≡ onward s p count q₀ (at₀ .at))
 
 abbrev μ-loop : tie.MeasureT-loop
-μ-loop s p count b q₀ at₀ odd₀ left₀ q at odd left = left
-
--- the next point
-read : (c : tie.After-known-told2 Inv-loop μ-loop) → ok (c .before .t2 .given .0 .0, c .before .t2 .given .0 .1 .0 .at) ≡ nextAt (c .before .before .before .before .before .before .before .before .args .s .now) (c .before .before .before .before .before .loop .q) (c .before .before .before .before .before .loop .at .at)
-read c = let t = c .before in sym (ap spotted (t .t2 .given .1)) ∙ t .before .before .next-point .ensures
-
--- and what is seen of the segment to it
-seen : (c : tie.After-segment-seen Inv-loop μ-loop) (e : Seen) → e ≡ rayOf (c .before .before .before .before .before .before .loop .q) (c .before .before .t2 .given .0 .0) (c .before .before .before .before .before .before .before .before .before .args .p)
-    → past e (c .before .before .t2 .given .0 .0, c .before .before .t2 .given .0 .1 .0 .at) ≡ stepAt (c .before .before .before .before .before .before .before .before .before .args .s .now) (c .before .before .before .before .before .before .before .before .before .args .p) (c .before .before .before .before .before .before .loop .q) (c .before .before .before .before .before .before .loop .at .at)
-seen c e f = step-at _ _ _ _ _ _ (read (c .before)) e f
+μ-loop s p count b q₀ at₀ odd₀ left₀ half₀ x₀ q at odd left half x = 2 * left + cond half 0 1
 
 band-at-requires : tie.Need-band-at-requires Inv-loop μ-loop
 band-at-requires c κs = search needs
 
 loop-holds : tie.Need-loop-holds Inv-loop μ-loop
-loop-holds c = (c .before .before .pre, add-none _)
+unfolding nextOf
+loop-holds c = (c .before .before .pre, add-none _ ∙ onward-by _ _ _ _ _)
 
-next-point-requires : tie.Need-next-point-requires Inv-loop μ-loop
-next-point-requires c κs = search needs
+varint-requires : tie.Need-varint-requires Inv-loop μ-loop
+varint-requires c κs = search needs
+
+enum-known-a : tie.Need-enum-known-a Inv-loop μ-loop
+enum-known-a c = search needs
+
+returns : tie.Need-returns Inv-loop μ-loop
+returns c =
+    let v = c .before .before .before in
+    let l = v .before .before in
+    breaks _ _ _ (l .loop .inv .1) _ (by-no _ _ _ _ _ _ (v .before .loop-test .taken) _ (turn-none _ _ _ _ (l .loop .half) _ (sym (ap told (c .before .a .given .1)) ∙ v .varint .ensures)))
+
+enum-known-a-2 : tie.Need-enum-known-a-2 Inv-loop μ-loop
+enum-known-a-2 c = search needs
+
+turn-requires : tie.Need-turn-requires Inv-loop μ-loop
+turn-requires c κs = search needs
 
 enum-known-t : tie.Need-enum-known-t Inv-loop μ-loop
 enum-known-t c = search needs
 
-returns : tie.Need-returns Inv-loop μ-loop
-returns c =
-    let n = c .before .before .before in
-    let l = n .before .before in
-    breaks _ _ _ (l .loop .inv .1) _ (onward-no _ _ _ _ _ (n .before .loop-test .taken) _ (step-no _ _ _ _ _ (sym (ap spotted (c .before .t .given .1)) ∙ n .next-point .ensures)))
+-- the number that was read
+read : (c : tie.After-known-told2 Inv-loop μ-loop) → ok (toZ w32 (ofZ w32 (c .before .a2 .given .0 .0)), c .before .a2 .given .0 .1 .0 .at) ≡ numberAt (c .before .before .before .before .before .before .before .before .args .s .now) (c .before .before .before .before .before .loop .at .at)
+read c =
+    let v = c .before .before .before in
+    ap (λ (z : ℤ). ok (z, c .before .a2 .given .0 .1 .0 .at)) (back w32 _ (c .known-told2 .given .0 .1)) ∙ sym (ap told (c .before .a2 .given .1)) ∙ v .varint .ensures
+
+returns-2 : tie.Need-returns-2 Inv-loop μ-loop
+returns-2 c =
+    let t = c .before .before .before in
+    let v = t .before .before .before .before in
+    let l = v .before .before in
+    breaks _ _ _ (l .loop .inv .1) _ (by-no _ _ _ _ _ _ (v .before .loop-test .taken) _ (turn-no _ _ _ _ _ _ (read (t .before)) (l .loop .half) _ (sym (c .before .t .given .1) ∙ t .turn .ensures)))
+
+enum-told : tie.Need-enum-told Inv-loop μ-loop
+enum-told c = search needs
 
 enum-known-t-2 : tie.Need-enum-known-t-2 Inv-loop μ-loop
 enum-known-t-2 c = search needs
 
 segment-seen-requires : tie.Need-segment-seen-requires Inv-loop μ-loop
 segment-seen-requires c κs =
-    let l = c .before .before .before .before .before in
-    (l .before .band-at .ensures, (l .loop .inv .0, next-in _ _ _ _ (read c)))
+    let t = c .before .before .before in
+    let l = t .before .before .before .before .before .before in
+    (l .before .band-at .ensures, (l .loop .inv .0, turn-in _ (l .loop .half) _ _ _ (sym (c .before .t2 .given .1) ∙ t .turn .ensures)))
 
-enum-told : tie.Need-enum-told Inv-loop μ-loop
-enum-told c = search needs
+enum-told-2 : tie.Need-enum-told-2 Inv-loop μ-loop
+enum-told-2 c = search needs
 
-returns-2 : tie.Need-returns-2 Inv-loop μ-loop
-returns-2 c =
+returns-3 : tie.Need-returns-3 Inv-loop μ-loop
+returns-3 c =
     let g = c .before .before in
-    let n = g .before .before .before .before in
-    hits _ _ _ (n .before .before .loop .inv .1) (onward-on _ _ _ _ _ (n .before .loop-test .taken) (seen g _ (sym (c .enum-told .given .1) ∙ g .segment-seen .ensures)))
+    let t = g .before .before .before .before in
+    let v = t .before .before .before .before in
+    let l = v .before .before in
+    hits _ _ _ (l .loop .inv .1) (by-on _ _ _ _ _ _ (v .before .loop-test .taken) _ _ (turn-to _ _ _ _ _ _ (read (t .before)) (l .loop .half) _ (sym (g .before .before .t2 .given .1) ∙ t .turn .ensures)) (sym (c .enum-told2 .given .1) ∙ g .segment-seen .ensures))
 
 enum-known-e : tie.Need-enum-known-e Inv-loop μ-loop
 enum-known-e c = search needs
@@ -76,32 +99,55 @@ sub-left : tie.Need-sub-left Inv-loop μ-loop
 sub-left c = search needs
 
 loop-less : tie.Need-loop-less Inv-loop μ-loop
-loop-less c = search needs
+loop-less c =
+    let t = c .before .before in
+    let l = t .before .before .before .before .before .before .loop in
+    half-less (l .q) (l .half) (toZ w32 (l .x)) _ (l .left) (sym (c .enum-told .given .1) ∙ t .turn .ensures)
 
 loop-again : tie.Need-loop-again Inv-loop μ-loop
 loop-again c =
+    let t = c .before .before in
+    let v = t .before .before .before .before in
+    let l = v .before .before in (
+      l .loop .inv .0,
+      ap (add (l .loop .odd)) (by-there _ _ _ _ _ _ _ _ (v .before .loop-test .taken) (turn-half _ _ _ _ _ _ (read (t .before)) (l .loop .half) (sym (c .enum-told .given .1) ∙ t .turn .ensures)))
+          ∙ l .loop .inv .1,
+    )
+
+loop-less-2 : tie.Need-loop-less-2 Inv-loop μ-loop
+loop-less-2 c =
+    let v = c .before .before .before .before .before .before .before .before .before .before .before .before in
+    point-less (v .before .before .loop .half) (v .before .before .loop .left) (v .before .loop-test .taken)
+
+loop-again-2 : tie.Need-loop-again-2 Inv-loop μ-loop
+unfolding nextOf
+loop-again-2 c =
     let g = c .before .before .before .before in
-    let n = g .before .before .before .before in (
-      next-in _ _ _ _ (read (g .before)),
-      keeps _ _ _ (n .before .before .loop .inv .1) _ _ _ (c .plus .ensures) (onward-off _ _ _ _ _ (n .before .loop-test .taken) _ _ _ (seen g _ (sym (c .before .before .e .given .1) ∙ g .segment-seen .ensures))),
+    let t = g .before .before .before .before in
+    let v = t .before .before .before .before in
+    let l = v .before .before in
+    let e = sym (g .before .before .t2 .given .1) ∙ t .turn .ensures in (
+      turn-in _ (l .loop .half) _ _ _ e,
+      keeps _ _ _ (l .loop .inv .1) _ _ _ (c .plus .ensures)
+          (ap (add _) (onward-by _ _ _ _ _) ∙ by-off _ _ _ _ _ _ (v .before .loop-test .taken) _ _ (turn-to _ _ _ _ _ _ (read (t .before)) (l .loop .half) _ e) _ (sym (c .before .before .e .given .1) ∙ g .segment-seen .ensures)),
     )
 
 at-end-requires : tie.Need-at-end-requires Inv-loop μ-loop
 at-end-requires c κs = search needs
 
-returns-3 : tie.Need-returns-3 Inv-loop μ-loop
-returns-3 c =
+returns-4 : tie.Need-returns-4 Inv-loop μ-loop
+returns-4 c =
     let l = c .before .before .before in
-    ends _ _ _ (l .loop .inv .1) _ (onward-end _ _ _ _ _ (omega arith) (sym (c .before .at-end .ensures) ∙ c .if1 .taken))
+    ends _ _ _ (l .loop .inv .1) _ (by-end _ _ _ _ _ _ (omega arith) (sym (c .before .at-end .ensures) ∙ c .if1 .taken))
 
 refuse-requires : tie.Need-refuse-requires Inv-loop μ-loop
 refuse-requires c κs = search needs
 
-returns-4 : tie.Need-returns-4 Inv-loop μ-loop
-returns-4 c =
+returns-5 : tie.Need-returns-5 Inv-loop μ-loop
+returns-5 c =
     let l = c .before .before .before .before in
     ap broken (c .refuse .ensures)
-    ∙ breaks _ _ _ (l .loop .inv .1) _ (onward-left _ _ _ _ _ (omega arith) (sym (c .before .before .at-end .ensures) ∙ c .before .if1 .left))
+    ∙ breaks _ _ _ (l .loop .inv .1) _ (by-left _ _ _ _ _ _ (omega arith) (sym (c .before .before .at-end .ensures) ∙ c .before .if1 .left))
 
 pub scan-from-spec : {M : Type 1} → statement M
 scan-from-spec =
@@ -111,19 +157,26 @@ scan-from-spec =
     μ-loop
     band-at-requires
     loop-holds
-    next-point-requires
-    enum-known-t
+    varint-requires
+    enum-known-a
     returns
+    enum-known-a-2
+    turn-requires
+    enum-known-t
+    returns-2
+    enum-told
     enum-known-t-2
     segment-seen-requires
-    enum-told
-    returns-2
+    enum-told-2
+    returns-3
     enum-known-e
     plus-requires
     sub-left
     loop-less
     loop-again
+    loop-less-2
+    loop-again-2
     at-end-requires
-    returns-3
+    returns-4
     refuse-requires
-    returns-4)
+    returns-5)

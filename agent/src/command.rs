@@ -1,0 +1,117 @@
+//! What the command does with the words it is given.
+
+mod failure;
+mod found;
+mod help;
+mod info;
+mod lines;
+mod position;
+mod progress;
+mod words;
+
+use std::ffi::OsString;
+use std::io::{self, BufReader, BufWriter, ErrorKind, Write};
+use std::path::Path;
+use std::process::ExitCode;
+
+use failure::{Failure, Status};
+use found::{Found, Shown};
+use position::Position;
+use tzb::Index;
+use words::{Request, Task, Wanted};
+
+/// Runs the command, and gives its exit status.
+pub fn run(words: impl Iterator<Item = OsString>) -> ExitCode {
+    let mut out = BufWriter::new(io::stdout().lock());
+    let done = perform(words, &mut out).and_then(|status| {
+        out.flush().map_err(Failure::Output)?;
+        Ok(status)
+    });
+    match done {
+        Ok(status) => status.into(),
+        // Nobody reads on, as in `tzb names FILE | head -n 1`: that is no mistake.
+        Err(Failure::Output(why)) if why.kind() == ErrorKind::BrokenPipe => ExitCode::SUCCESS,
+        Err(failure) => {
+            say(&failure);
+            failure.status().into()
+        }
+    }
+}
+
+/// One line on standard error. Where that is closed there is nobody to tell.
+fn say(what: &dyn std::fmt::Display) {
+    let _ = writeln!(io::stderr(), "tzb: {what}");
+}
+
+fn perform(words: impl Iterator<Item = OsString>, out: &mut impl Write) -> Result<Status, Failure> {
+    match words::read(words)? {
+        Wanted::Help(task) => write!(out, "{}", help::text(task)),
+        Wanted::Version => writeln!(out, "tzb {}", env!("CARGO_PKG_VERSION")),
+        Wanted::Do(request) => return carry_out(&request, out),
+    }
+    .map_err(Failure::Output)?;
+    Ok(Status::Answered)
+}
+
+fn carry_out(request: &Request, out: &mut impl Write) -> Result<Status, Failure> {
+    let path = &request.file;
+    let bytes = std::fs::read(path).map_err(|why| Failure::Unreadable(path.clone(), why))?;
+    let refused = |refusal| Failure::Refused(path.clone(), refusal);
+    let open = || Index::open(&bytes).map_err(refused);
+    match request.task {
+        Task::Check => return check(path, &bytes, out).map_err(Failure::Output),
+        Task::Zone | Task::Zones => return ask(request, &open()?, out),
+        Task::Names => {
+            let all = Found::all(&open()?).map_err(refused)?;
+            all.write_lines(out, request.numbered)
+        }
+        Task::Info => info::write(&open()?, out),
+    }
+    .map_err(Failure::Output)?;
+    Ok(Status::Answered)
+}
+
+/// The zones of the position that was given, or of all those on standard input.
+fn ask(request: &Request, index: &Index, out: &mut impl Write) -> Result<Status, Failure> {
+    let found = |position| Found::at(index, request.task, position);
+    match request.position {
+        Some(position) => {
+            let refused = |refusal| Failure::Refused(request.file.clone(), refusal);
+            let zones = found(position).map_err(refused)?;
+            tell(&zones, position, request.numbered, out).map_err(Failure::Output)
+        }
+        None => {
+            let input = BufReader::new(io::stdin().lock());
+            lines::answer(input, out, request.numbered, found)
+        }
+    }
+}
+
+/// The zones of one position, a line each.
+fn tell(
+    found: &Found,
+    position: Position,
+    numbered: bool,
+    out: &mut impl Write,
+) -> io::Result<Status> {
+    if found.status() == Status::No {
+        say(&format_args!("no zone at {position}"));
+    }
+    found.write_lines(out, numbered)?;
+    Ok(found.status())
+}
+
+/// The verdict of the full check is an answer too, so it goes to standard output either way.
+fn check(path: &Path, bytes: &[u8], out: &mut impl Write) -> io::Result<Status> {
+    let name = path.to_string_lossy();
+    match tzb::full_check(bytes) {
+        Ok(()) => {
+            writeln!(out, "{}: accepted", Shown(&name))?;
+            Ok(Status::Answered)
+        }
+        Err(refusal) => {
+            writeln!(out, "{}: not accepted: {refusal}", Shown(&name))?;
+            Ok(Status::No)
+        }
+    }
+}

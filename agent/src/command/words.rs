@@ -1,0 +1,179 @@
+//! The words of the command line.
+
+use std::ffi::OsString;
+use std::path::PathBuf;
+
+use super::failure::Failure;
+use super::position::Position;
+
+/// What the command can be asked for.
+#[derive(Clone, Copy, Debug, PartialEq, Eq)]
+pub enum Task {
+    Zone,
+    Zones,
+    Check,
+    Names,
+    Info,
+}
+
+impl Task {
+    pub const ALL: [Self; 5] = [Self::Zone, Self::Zones, Self::Check, Self::Names, Self::Info];
+
+    pub fn word(self) -> &'static str {
+        match self {
+            Self::Zone => "zone",
+            Self::Zones => "zones",
+            Self::Check => "check",
+            Self::Names => "names",
+            Self::Info => "info",
+        }
+    }
+
+    fn takes_a_position(self) -> bool {
+        matches!(self, Self::Zone | Self::Zones)
+    }
+
+    /// Whether it writes names of zones.
+    fn takes_number(self) -> bool {
+        matches!(self, Self::Zone | Self::Zones | Self::Names)
+    }
+}
+
+#[derive(Debug, PartialEq)]
+pub enum Wanted {
+    Help(Option<Task>),
+    Version,
+    Do(Request),
+}
+
+#[derive(Debug, PartialEq)]
+pub struct Request {
+    pub task: Task,
+    pub file: PathBuf,
+    /// Zone numbers are written before the names.
+    pub numbered: bool,
+    /// For a task that takes one. None: positions come from standard input.
+    pub position: Option<Position>,
+}
+
+pub fn read(mut words: impl Iterator<Item = OsString>) -> Result<Wanted, Failure> {
+    let unknown = |why| Err(Failure::Usage(None, why));
+    let Some(first) = words.next() else {
+        return unknown("what is to be done?".to_string());
+    };
+    match first.to_str() {
+        Some("-h" | "--help" | "help") => return Ok(Wanted::Help(None)),
+        Some("-V" | "--version") => return Ok(Wanted::Version),
+        _ => {}
+    }
+    match Task::ALL.into_iter().find(|task| first == task.word()) {
+        Some(task) => of_task(task, words),
+        None => unknown(format!("{first:?} is not known")),
+    }
+}
+
+fn of_task(task: Task, words: impl Iterator<Item = OsString>) -> Result<Wanted, Failure> {
+    let mut numbered = false;
+    let mut options = true;
+    let mut plain = Vec::new();
+    for word in words {
+        match word.to_str().filter(|_| options) {
+            Some("--") => options = false,
+            Some("-h" | "--help") => return Ok(Wanted::Help(Some(task))),
+            Some("-n" | "--number") if task.takes_number() => numbered = true,
+            Some(text) if is_option(text) => {
+                return Err(Failure::Usage(Some(task), format!("there is no option {word:?}")));
+            }
+            _ => plain.push(word),
+        }
+    }
+    request(task, numbered, plain).map(Wanted::Do).map_err(|why| Failure::Usage(Some(task), why))
+}
+
+/// A minus before a digit or a dot starts a number, and one alone stands for standard input.
+fn is_option(text: &str) -> bool {
+    let number = |rest: &str| rest.starts_with(|c: char| c.is_ascii_digit() || c == '.');
+    text.strip_prefix('-').is_some_and(|rest| !rest.is_empty() && !number(rest))
+}
+
+/// The file, and what stands behind it.
+fn request(task: Task, numbered: bool, plain: Vec<OsString>) -> Result<Request, String> {
+    let mut plain = plain.into_iter();
+    let file = plain.next().ok_or("which index file?")?.into();
+    let rest: Vec<OsString> = plain.collect();
+    let position = match rest.as_slice() {
+        [] => None,
+        [first, ..] if !task.takes_a_position() => return Err(format!("{first:?} is too much")),
+        [one] if one == "-" => None,
+        words => {
+            let text = words.join(" ".as_ref());
+            Some(Position::read(&text.to_string_lossy()).map_err(|why| why.to_string())?)
+        }
+    };
+    Ok(Request { task, file, numbered, position })
+}
+
+#[cfg(test)]
+mod tests {
+    use super::*;
+
+    fn read_line(line: &str) -> Result<Wanted, Failure> {
+        read(line.split(' ').filter(|word| !word.is_empty()).map(OsString::from))
+    }
+
+    fn asked(line: &str) -> Request {
+        match read_line(line) {
+            Ok(Wanted::Do(request)) => request,
+            other => panic!("{line:?} is {other:?}"),
+        }
+    }
+
+    #[test]
+    fn positions_in_every_form() {
+        let rio = Some(Position { lng: -43.2, lat: -22.9 });
+        for words in
+            ["-43.2 -22.9", "-43.2,-22.9", "-43.2, -22.9", "-- -43.2 -22.9", "-n -43.2 -22.9"]
+        {
+            let request = asked(&format!("zone a.tzb {words}"));
+            assert_eq!((request.task, request.position), (Task::Zone, rio), "{words:?}");
+            assert_eq!(request.numbered, words.starts_with("-n"));
+        }
+        assert_eq!(asked("zones a.tzb -.5 0").position, Some(Position { lng: -0.5, lat: 0.0 }));
+        assert_eq!(asked("zone a.tzb").position, None);
+        assert_eq!(asked("zone a.tzb -").position, None);
+    }
+
+    #[test]
+    fn options_stand_anywhere_and_end_at_two_dashes() {
+        assert!(asked("names --number a.tzb").numbered);
+        assert!(asked("zones a.tzb 1 2 -n").numbered);
+        assert_eq!(asked("info -- --help").file, PathBuf::from("--help"));
+        assert_eq!(read_line("zone a.tzb --help").unwrap(), Wanted::Help(Some(Task::Zone)));
+        assert_eq!(read_line("-h").unwrap(), Wanted::Help(None));
+        assert_eq!(read_line("--version").unwrap(), Wanted::Version);
+    }
+
+    #[test]
+    fn what_is_not_understood() {
+        let lines = [
+            "",
+            "--nothing",
+            "sone a.tzb 1 2",
+            "zone",
+            "zone --nothing a.tzb 1 2",
+            "zone a.tzb 1",
+            "zone a.tzb 1 2 3",
+            "zone a.tzb nan 2",
+            "zone a.tzb -inf 2",
+            "zone a.tzb - 2",
+            "check",
+            "check a.tzb b.tzb",
+            "check -n a.tzb",
+            "info -n a.tzb",
+            "names a.tzb 1 2",
+        ];
+        for line in lines {
+            assert!(matches!(read_line(line), Err(Failure::Usage(..))), "{line:?}");
+        }
+    }
+}

@@ -1,0 +1,218 @@
+//! An opened index, and the questions that it answers.
+
+use std::fmt;
+
+use crate::refusal::{NAME_NOT_UTF8, NO_ROOM, PAST_THE_END};
+use crate::{Refusal, sys};
+
+/// An index file that was opened: opened once, asked often.
+///
+/// It borrows the file's bytes and keeps 84 bytes of its own. No question changes it, so threads may share it.
+///
+/// Positions are longitude first, then latitude, in degrees, as in tzf-rs. Any float may be asked: a position that is
+/// not finite, or outside ±180 and ±90, lies in no zone.
+///
+/// ```
+/// # fn main() -> Result<(), Box<dyn std::error::Error>> {
+/// let file = std::fs::read("../sample/real-ne.tzb")?;
+/// let index = tzb::Index::open(&file)?;
+/// assert_eq!(index.name_at(8.68, 50.11)?, Some("Germany"));
+/// # Ok(())
+/// # }
+/// ```
+#[derive(Clone)]
+pub struct Index<'a> {
+    file: &'a [u8],
+    record: sys::Record,
+}
+
+/// The most points that a chunk can have: its record counts them in 16 bits.
+const POINTS_OF_A_CHUNK: usize = 65_535;
+
+impl<'a> Index<'a> {
+    /// Opens a file: looks at its header, sections, names, grid, chunks and groups, and at its checksum.
+    ///
+    /// Opening does not look at every record and point. [`full_check`](crate::full_check) does, and on a file that it
+    /// accepts no question is refused but for a number that is too large.
+    ///
+    /// # Errors
+    /// Refusals 1 to 34, the first that applies.
+    pub fn open(file: &'a [u8]) -> Result<Self, Refusal> {
+        let mut record = [0; sys::RECORD];
+        Refusal::of_code(sys::open(file, &mut record).into())?;
+        Ok(Self { file, record })
+    }
+
+    /// The zone that a position lies in, or none. Where several contain it, the first that the file lists.
+    ///
+    /// # Errors
+    /// A refusal where the file's records or points are broken: never on a file that the full check accepts.
+    pub fn zone(&self, lng: f64, lat: f64) -> Result<Option<u32>, Refusal> {
+        match sys::ask(&self.record, self.file, lng, lat) {
+            -1 => Ok(None),
+            code => Refusal::of_code(code).map(|zone| Some(zone as u32)),
+        }
+    }
+
+    /// All zones that a position lies in, in the order of their names' bytes.
+    ///
+    /// Every candidate is tested, so a zone that [`zone`](Self::zone) answers from the grid alone is listed here only
+    /// where it does contain the position.
+    ///
+    /// ```
+    /// # fn main() -> Result<(), Box<dyn std::error::Error>> {
+    /// # let file = std::fs::read("../sample/real-ne.tzb")?;
+    /// let index = tzb::Index::open(&file)?;
+    /// let zones = index.zones(8.68, 50.11)?;
+    /// assert_eq!(zones.len(), 1);
+    /// assert_eq!(index.name(zones[0])?, "Germany");
+    /// # Ok(())
+    /// # }
+    /// ```
+    ///
+    /// # Errors
+    /// As for [`zone`](Self::zone).
+    pub fn zones(&self, lng: f64, lat: f64) -> Result<Vec<u32>, Refusal> {
+        // A cell of a GRID has at most 15 candidates; without one, all zones can be asked for.
+        into_room(15, self.zone_count() as usize, |room| {
+            sys::ask_all(&self.record, self.file, lng, lat, room)
+        })
+    }
+
+    /// The name of the zone that a position lies in, or none: [`zone`](Self::zone), then [`name`](Self::name).
+    ///
+    /// # Errors
+    /// As for [`zone`](Self::zone).
+    pub fn name_at(&self, lng: f64, lat: f64) -> Result<Option<&'a str>, Refusal> {
+        self.zone(lng, lat)?.map(|zone| self.name(zone)).transpose()
+    }
+
+    /// The names of all zones that a position lies in, in the order of their bytes.
+    ///
+    /// # Errors
+    /// As for [`zone`](Self::zone).
+    pub fn names_at(&self, lng: f64, lat: f64) -> Result<Vec<&'a str>, Refusal> {
+        self.zones(lng, lat)?.into_iter().map(|zone| self.name(zone)).collect()
+    }
+
+    /// How many zones there are, 1 to 65,535. Zone numbers are those below.
+    #[must_use]
+    pub fn zone_count(&self) -> u32 {
+        // The export refuses only a record of another length.
+        sys::zone_count(&self.record).try_into().unwrap_or(0)
+    }
+
+    /// A zone's name, as it stands in the file.
+    ///
+    /// # Errors
+    /// Refusal 45 for a zone number that is too large.
+    pub fn name(&self, zone: u32) -> Result<&'a str, Refusal> {
+        let start = Refusal::of_code(sys::name_start(&self.record, self.file, zone))?;
+        let end = Refusal::of_code(sys::name_end(&self.record, self.file, zone))?;
+        // Opening has looked at both already. Looking again is cheap, and needs no `unsafe`.
+        let name = self.file.get(start..end);
+        let name = name.ok_or(Refusal::new(PAST_THE_END))?;
+        std::str::from_utf8(name).map_err(|_| Refusal::new(NAME_NOT_UTF8))
+    }
+
+    /// The names of all zones, by zone number. [`Result::ok`] or `collect::<Result<Vec<_>, _>>()` makes them plain.
+    ///
+    /// ```
+    /// # fn main() -> Result<(), Box<dyn std::error::Error>> {
+    /// # let file = std::fs::read("../sample/real-ne.tzb")?;
+    /// let index = tzb::Index::open(&file)?;
+    /// let names: Vec<&str> = index.names().collect::<Result<_, _>>()?;
+    /// assert_eq!(names.len(), 481);
+    /// # Ok(())
+    /// # }
+    /// ```
+    pub fn names(&self) -> impl ExactSizeIterator<Item = Result<&'a str, Refusal>> {
+        // Zone numbers have 16 bits, and a range of them knows its length.
+        let count = u16::try_from(self.zone_count()).unwrap_or(u16::MAX);
+        (0..count).map(|zone| self.name(zone.into()))
+    }
+
+    /// Whether a zone contains a point of whole numbers, in hundred-thousandths of a degree: `x` is 100,000 times the
+    /// longitude, `y` the latitude.
+    ///
+    /// On a file that the full check accepts the answer is that of exact geometry, edges included. A point outside
+    /// ±18,000,000 and ±9,000,000 is in no zone.
+    ///
+    /// # Errors
+    /// Refusal 45 for a zone number that is too large; else as for [`zone`](Self::zone).
+    pub fn contains(&self, zone: u32, x: i32, y: i32) -> Result<bool, Refusal> {
+        let code = sys::contains(&self.record, self.file, zone, x, y);
+        Refusal::of_code(code.into()).map(|inside| inside == 1)
+    }
+
+    /// The points of a chunk, `[x, y]` each, in hundred-thousandths of a degree.
+    ///
+    /// # Errors
+    /// Refusal 34 for a chunk number that is too large; else a refusal where the chunk's bytes are broken.
+    pub fn decode(&self, chunk: u32) -> Result<Vec<[i32; 2]>, Refusal> {
+        into_room(256, POINTS_OF_A_CHUNK, |room: &mut [[i32; 2]]| {
+            sys::decode(&self.record, self.file, chunk, room.as_flattened_mut())
+        })
+    }
+
+    /// The file's bytes, as they were lent.
+    #[must_use]
+    pub fn file(&self) -> &'a [u8] {
+        self.file
+    }
+}
+
+impl fmt::Debug for Index<'_> {
+    fn fmt(&self, f: &mut fmt::Formatter<'_>) -> fmt::Result {
+        f.debug_struct("Index")
+            .field("bytes", &self.file.len())
+            .field("zones", &self.zone_count())
+            .finish()
+    }
+}
+
+/// Asks with room for `few`, and once more with room for `most` where refusal 46 says that it was too short.
+fn into_room<T: Copy + Default>(
+    few: usize,
+    most: usize,
+    ask: impl Fn(&mut [T]) -> i64,
+) -> Result<Vec<T>, Refusal> {
+    let mut room = vec![T::default(); few];
+    let mut answer = Refusal::of_code(ask(&mut room));
+    if answer.is_err_and(|refusal| refusal.number() == NO_ROOM) {
+        room.resize(most, T::default());
+        answer = Refusal::of_code(ask(&mut room));
+    }
+    room.truncate(answer?);
+    Ok(room)
+}
+
+#[cfg(test)]
+mod tests {
+    use super::*;
+
+    /// Stands for a list of so many numbers: what an export does with the room that it is lent.
+    fn list(length: usize) -> impl Fn(&mut [u32]) -> i64 {
+        move |room| match room.get_mut(..length) {
+            Some(places) => {
+                places.iter_mut().zip(7..).for_each(|(place, n)| *place = n);
+                length as i64
+            }
+            None => -1046,
+        }
+    }
+
+    #[test]
+    fn room_grows_once() {
+        assert_eq!(into_room(2, 5, list(0)), Ok(vec![]));
+        assert_eq!(into_room(2, 5, list(2)), Ok(vec![7, 8]));
+        assert_eq!(into_room(2, 5, list(3)), Ok(vec![7, 8, 9]));
+        assert_eq!(into_room(2, 5, list(5)), Ok(vec![7, 8, 9, 10, 11]));
+        assert_eq!(into_room(2, 5, list(6)), Err(Refusal::new(46)));
+    }
+
+    #[test]
+    fn another_refusal_is_passed_on() {
+        assert_eq!(into_room(2, 5, |_: &mut [u32]| -1034), Err(Refusal::new(34)));
+    }
+}

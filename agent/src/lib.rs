@@ -1,0 +1,72 @@
+//! Which zone a position is in, from a time-zone index file (`.tzb`), by a reader that is proved.
+//!
+//! The reader itself is `libtzb_c.a`: x86-64 code, proved right on any bytes and any position. This crate lends it Rust's
+//! slices and hands back Rust's types. It has no dependency, keeps no global state, and never panics on what it reads.
+//!
+//! ```
+//! # fn main() -> Result<(), Box<dyn std::error::Error>> {
+//! let file = std::fs::read("../sample/real-ne.tzb")?;
+//! tzb::full_check(&file)?; // once, for a file from outside
+//! let index = tzb::Index::open(&file)?;
+//! match index.zone(8.68, 50.11)? {
+//!     Some(zone) => println!("{}", index.name(zone)?),
+//!     None => println!("no zone"),
+//! }
+//! # Ok(())
+//! # }
+//! ```
+//!
+//! # For users of tzf-rs
+//!
+//! | tzf-rs | here |
+//! |---|---|
+//! | `EmbeddedFinder::from_tzb(data)?` | [`Index::open(&data)?`](Index::open) |
+//! | `get_tz_name(lng, lat)`, `""` for none | [`name_at(lng, lat)?`](Index::name_at), `None` for none |
+//! | `get_tz_names(lng, lat)` | [`names_at(lng, lat)?`](Index::names_at) |
+//! | `get_tz_index(lng, lat)` | [`zone(lng, lat)?`](Index::zone) |
+//! | `timezonenames()` | [`names()`](Index::names) |
+//! | `data_version()` | [`data_version()`](Index::data_version) |
+//!
+//! Two things differ. A broken file never reads as "no zone here": every question has a [`Refusal`] for it. And a FUZZY
+//! section is not read: every answer comes from the shapes and the grid.
+//!
+//! # One index for the whole program
+//!
+//! ```no_run
+//! use std::sync::LazyLock;
+//!
+//! static FILE: LazyLock<Vec<u8>> = LazyLock::new(|| std::fs::read("zones.tzb").expect("zones.tzb"));
+//! static INDEX: LazyLock<tzb::Index> =
+//!     LazyLock::new(|| tzb::Index::open(&FILE).expect("zones.tzb opens"));
+//! ```
+
+#![cfg_attr(not(test), warn(clippy::unwrap_used, clippy::expect_used, clippy::panic))]
+
+mod index;
+mod layout;
+mod refusal;
+mod sys;
+
+pub use index::Index;
+pub use layout::{Grid, Section};
+pub use refusal::Refusal;
+
+/// Looks at everything in the file: all that opening looks at, every record, every chunk's points, every box.
+///
+/// On a file that it accepts, no question is refused but for a number that is too large, and containment at points of
+/// whole hundred-thousandths of a degree is that of exact geometry. Both are proved.
+///
+/// ```
+/// let refusal = tzb::full_check(&[0; 100]).unwrap_err();
+/// assert_eq!(refusal.number(), 2);
+/// ```
+///
+/// # Errors
+/// Opening's refusal, 1 to 34; or 47, with the lowest broken [`rule`](Refusal::rule).
+pub fn full_check(file: &[u8]) -> Result<(), Refusal> {
+    let answer = Refusal::of_code(sys::full_check(file).into());
+    answer.map(|_| ()).map_err(|refusal| match refusal.number() {
+        refusal::NOT_SOUND => Refusal::not_sound(sys::full_check_rule(file)),
+        _ => refusal,
+    })
+}

@@ -1,0 +1,196 @@
+//! What the reader says where it gives no answer: a number, 1 to 47, and for 47 the rule that is broken.
+
+use std::fmt;
+
+/// Why there is no answer. Every refusal has one number, and leaves what was lent as it was.
+///
+/// ```
+/// let refusal = tzb::Index::open(b"not an index").unwrap_err();
+/// assert_eq!(refusal.number(), 1);
+/// assert_eq!(
+///     refusal.to_string(),
+///     "refusal 1: The file is shorter than 68 bytes or longer than 4,294,967,295.",
+/// );
+/// ```
+#[derive(Clone, Copy, Debug, PartialEq, Eq, Hash)]
+pub struct Refusal {
+    number: u32,
+    /// 0 where there is none.
+    rule: u32,
+}
+
+pub(crate) const NAME_NOT_UTF8: u32 = 25;
+pub(crate) const PAST_THE_END: u32 = 44;
+pub(crate) const NO_ROOM: u32 = 46;
+pub(crate) const NOT_SOUND: u32 = 47;
+
+impl Refusal {
+    pub(crate) fn new(number: u32) -> Self {
+        Self { number, rule: 0 }
+    }
+
+    /// 47, with the lowest broken rule.
+    pub(crate) fn not_sound(rule: u32) -> Self {
+        Self { number: NOT_SOUND, rule }
+    }
+
+    /// What a code of the exports says: a number that is not negative, or -1000 - n for refusal n.
+    pub(crate) fn of_code(code: i64) -> Result<usize, Self> {
+        let number = (-1000_i64).saturating_sub(code);
+        usize::try_from(code).map_err(|_| Self::new(number.try_into().unwrap_or(0)))
+    }
+
+    /// The number of the refusal, 1 to 47. [`sentence`](Self::sentence) says what it means.
+    #[must_use]
+    pub fn number(&self) -> u32 {
+        self.number
+    }
+
+    /// For 47, the lowest broken rule of the full check, 2 to 6. [`rule_sentence`](Self::rule_sentence) says what it means.
+    #[must_use]
+    pub fn rule(&self) -> Option<u32> {
+        (self.rule != 0).then_some(self.rule)
+    }
+
+    /// What the number means, in a sentence.
+    #[must_use]
+    pub fn sentence(&self) -> &'static str {
+        let place = (self.number as usize).checked_sub(1);
+        place.and_then(|at| SENTENCES.get(at)).unwrap_or(&"This version has no words for it.")
+    }
+
+    /// For 47, what the broken rule means.
+    ///
+    /// A file that breaks rule 2 or 3 can have questions refused. A file that breaks rule 4, 5 or 6 can have them
+    /// answered wrongly, since the reader trusts the boxes to skip what lies elsewhere.
+    #[must_use]
+    pub fn rule_sentence(&self) -> Option<&'static str> {
+        let place = (self.rule as usize).checked_sub(2)?;
+        RULES.get(place).copied()
+    }
+}
+
+/// `refusal 11: The checksum …`; for 47 the rule's sentence stands behind it.
+impl fmt::Display for Refusal {
+    fn fmt(&self, f: &mut fmt::Formatter<'_>) -> fmt::Result {
+        write!(f, "refusal {}: {}", self.number, self.sentence())?;
+        match (self.rule(), self.rule_sentence()) {
+            (Some(rule), Some(sentence)) => write!(f, " Rule {rule} is broken: {sentence}"),
+            _ => Ok(()),
+        }
+    }
+}
+
+impl std::error::Error for Refusal {}
+
+/// The refusals 1 to 47, in order.
+const SENTENCES: [&str; 47] = [
+    "The file is shorter than 68 bytes or longer than 4,294,967,295.",
+    "The file does not start with TZFB and major version 1, so it is no index.",
+    "The file is of profile 1, a memory image, and not an index.",
+    "The file is of a profile that is not known.",
+    "The header's own length, its scale or the file size that it states is wrong.",
+    "The zone count is not between 1 and 65,535.",
+    "The chunk target is not between 1 and 65,535.",
+    "The version text is not filled up with zeros.",
+    "The version text is not UTF-8.",
+    "The section table does not end before the file's last four bytes.",
+    "The checksum (CRC-32) does not match the file's bytes.",
+    "A section does not start at a multiple of four.",
+    "A section starts inside the section table or ends past the room for sections.",
+    "A section of a known type stands in the table twice.",
+    "A section has a type that is not allowed in an index.",
+    "Two sections share bytes.",
+    "A section that every index has is missing.",
+    "The header and the section table do not agree on whether there is a GRID.",
+    "The length of a directory does not fit its records.",
+    "A directory is empty.",
+    "The NAMES section is too short for its offsets.",
+    "The NAMES section is not as long as its offsets and its names together.",
+    "The offsets of the names are out of order or leave the names.",
+    "A zone has an empty name.",
+    "A zone's name is not UTF-8.",
+    "A zone's name has a zero byte in it.",
+    "The GRID section is too short for its first twelve bytes.",
+    "The GRID's place, columns, rows or number of candidates is out of range.",
+    "The GRID section is not as long as its cells and candidates together.",
+    "A GRID cell, or the place asked for, is past the end of the candidates.",
+    "A GRID candidate is not the number of a zone.",
+    "A chunk has no points, or its place in the points is past their end or not behind the chunk before.",
+    "A group's point count is not what its chunks' add up to.",
+    "A directory has no such record, or the record's box, its ends or what it points at is out of range.",
+    "A ring names a group that is not there.",
+    "A ring's point count is not what its groups' add up to.",
+    "A chunk's stretch of bytes is empty or ends before it starts.",
+    "A number in a chunk is cut off.",
+    "A number in a chunk is written longer than it need be.",
+    "A number in a chunk does not fit in 32 bits.",
+    "A coordinate, added up along a chunk, does not fit in 32 bits.",
+    "A point lies outside 180 degrees of longitude or 90 of latitude.",
+    "A chunk has bytes left over behind its last point.",
+    "The bytes lent end before what is to be read.",
+    "There is no zone of that number.",
+    "The room lent for the answer is too short.",
+    "The file opens, but does not pass the full check.",
+];
+
+/// The rules 2 to 6 of the full check, each by what it means that it is broken.
+const RULES: [&str; 5] = [
+    "a zone, polygon or ring has a bad record, names a group that is not there, or has a wrong point count. A question that meets it is refused.",
+    "the points of a chunk cannot be read. A question that meets it is refused.",
+    "a chunk's box does not cover its points and the next chunk's first. A question near it can be answered wrongly.",
+    "a group's box does not cover its chunks' boxes, or its two ends are not its first and last point. A question near it can be answered wrongly.",
+    "a box of a ring, polygon or zone does not cover what lies in it. A question near it can be answered wrongly.",
+];
+
+#[cfg(test)]
+mod tests {
+    use super::*;
+
+    #[test]
+    fn every_number_has_a_sentence_of_its_own() {
+        let mut said: Vec<&str> = (1..=47).map(|n| Refusal::new(n).sentence()).collect();
+        for sentence in &said {
+            assert!(sentence.ends_with('.') && sentence.len() > 10, "{sentence:?}");
+            assert!(sentence.starts_with(char::is_uppercase), "{sentence:?}");
+        }
+        said.push(Refusal::new(0).sentence());
+        said.sort_unstable();
+        said.dedup();
+        assert_eq!(said.len(), 48, "two refusals have the same sentence");
+        assert_eq!(Refusal::new(0).sentence(), Refusal::new(48).sentence());
+    }
+
+    #[test]
+    fn every_rule_has_a_sentence_and_only_47_has_a_rule() {
+        for rule in 2..=6 {
+            let refusal = Refusal::not_sound(rule);
+            assert_eq!((refusal.number(), refusal.rule()), (47, Some(rule)));
+            let sentence = refusal.rule_sentence().unwrap();
+            let shown = refusal.to_string();
+            assert!(shown.ends_with(&format!("Rule {rule} is broken: {sentence}")), "{shown}");
+        }
+        assert_eq!(Refusal::new(11).rule(), None);
+        assert_eq!(Refusal::new(11).rule_sentence(), None);
+        assert_eq!(Refusal::not_sound(7).rule_sentence(), None);
+    }
+
+    #[test]
+    fn a_code_is_a_number_or_a_refusal() {
+        assert_eq!(Refusal::of_code(0), Ok(0));
+        assert_eq!(Refusal::of_code(65_534), Ok(65_534));
+        assert_eq!(Refusal::of_code(-1001), Err(Refusal::new(1)));
+        assert_eq!(Refusal::of_code(-1047), Err(Refusal::new(47)));
+        assert_eq!(Refusal::of_code(i64::MIN).unwrap_err().sentence(), Refusal::new(0).sentence());
+    }
+
+    /// The table of the repository's README says what the code says.
+    #[test]
+    fn the_readme_has_the_same_sentences() {
+        let readme = std::fs::read_to_string("../README.md").unwrap();
+        for number in 1..=47 {
+            let row = format!("| {number} | {} |", Refusal::new(number).sentence());
+            assert!(readme.lines().any(|line| line == row), "README.md has no row: {row}");
+        }
+    }
+}

@@ -1,0 +1,81 @@
+//! The exports of `libtzb_c.a`, and each as a safe function over slices. Nothing else in this crate is `unsafe`.
+//!
+//! What `include/tzb.h` asks of a caller, Rust's references hold of themselves: a slice's pointer is never null, the
+//! bytes stay for the call, and what is lent for writing overlaps nothing. The exports ask no more than that: each is
+//! proved to answer any bytes and any numbers.
+
+#![allow(unsafe_code)]
+
+/// The size of an opened record, in bytes.
+pub const RECORD: usize = 84;
+/// The opened record, as bytes.
+pub type Record = [u8; RECORD];
+
+mod exports {
+    #[rustfmt::skip]
+    unsafe extern "C" {
+        pub fn tzb_open(file: *const u8, length: usize, record: *mut u8, room: usize) -> i32;
+        pub fn tzb_zone_count(record: *const u8, size: usize) -> i64;
+        pub fn tzb_name_start(record: *const u8, size: usize, file: *const u8, length: usize, zone: u32) -> i64;
+        pub fn tzb_name_end(record: *const u8, size: usize, file: *const u8, length: usize, zone: u32) -> i64;
+        pub fn tzb_contains(record: *const u8, size: usize, file: *const u8, length: usize, zone: u32, x: i32, y: i32) -> i32;
+        pub fn tzb_decode(record: *const u8, size: usize, file: *const u8, length: usize, chunk: u32, out: *mut i32, room: usize) -> i64;
+        pub fn tzb_ask(record: *const u8, size: usize, file: *const u8, length: usize, lng: f64, lat: f64) -> i64;
+        pub fn tzb_ask_all(record: *const u8, size: usize, file: *const u8, length: usize, lng: f64, lat: f64, zones: *mut u32, places: usize) -> i64;
+        pub fn tzb_full_check(file: *const u8, length: usize) -> i32;
+        pub fn tzb_full_check_rule(file: *const u8, length: usize) -> u32;
+    }
+}
+
+/// Calls a question: an export that takes the record and the file, and what else there is.
+macro_rules! ask {
+    ($export:ident, $record:expr, $file:expr $(, $more:expr)*) => {{
+        let (record, file): (&Record, &[u8]) = ($record, $file);
+        // SAFETY: both are live slices, given by their own pointers and lengths, and so is what more is lent.
+        unsafe { exports::$export(record.as_ptr(), record.len(), file.as_ptr(), file.len() $(, $more)*) }
+    }};
+}
+
+pub fn open(file: &[u8], record: &mut Record) -> i32 {
+    // SAFETY: both are live slices, given by their own pointers and lengths.
+    unsafe { exports::tzb_open(file.as_ptr(), file.len(), record.as_mut_ptr(), record.len()) }
+}
+
+pub fn zone_count(record: &Record) -> i64 {
+    // SAFETY: a live slice, given by its own pointer and length.
+    unsafe { exports::tzb_zone_count(record.as_ptr(), record.len()) }
+}
+
+pub fn name_start(record: &Record, file: &[u8], zone: u32) -> i64 {
+    ask!(tzb_name_start, record, file, zone)
+}
+
+pub fn name_end(record: &Record, file: &[u8], zone: u32) -> i64 {
+    ask!(tzb_name_end, record, file, zone)
+}
+
+pub fn contains(record: &Record, file: &[u8], zone: u32, x: i32, y: i32) -> i32 {
+    ask!(tzb_contains, record, file, zone, x, y)
+}
+
+pub fn decode(record: &Record, file: &[u8], chunk: u32, out: &mut [i32]) -> i64 {
+    ask!(tzb_decode, record, file, chunk, out.as_mut_ptr(), out.len())
+}
+
+pub fn ask(record: &Record, file: &[u8], lng: f64, lat: f64) -> i64 {
+    ask!(tzb_ask, record, file, lng, lat)
+}
+
+pub fn ask_all(record: &Record, file: &[u8], lng: f64, lat: f64, zones: &mut [u32]) -> i64 {
+    ask!(tzb_ask_all, record, file, lng, lat, zones.as_mut_ptr(), zones.len())
+}
+
+pub fn full_check(file: &[u8]) -> i32 {
+    // SAFETY: a live slice, given by its own pointer and length.
+    unsafe { exports::tzb_full_check(file.as_ptr(), file.len()) }
+}
+
+pub fn full_check_rule(file: &[u8]) -> u32 {
+    // SAFETY: a live slice, given by its own pointer and length.
+    unsafe { exports::tzb_full_check_rule(file.as_ptr(), file.len()) }
+}

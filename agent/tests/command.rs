@@ -1,0 +1,232 @@
+//! The command, run as a program: what it writes, where, and its exit status.
+
+mod common;
+
+use std::env;
+use std::io::{BufRead, BufReader, Write};
+use std::process::{Child, Command, Stdio};
+use std::sync::mpsc;
+use std::time::Duration;
+
+use common::{CHUNKDIR, RINGDIR, Squares, words};
+
+const SAMPLE: &str = "../sample/real-ne.tzb";
+
+/// The command, under the emulator where cargo runs its programs under one.
+fn tzb(arguments: &[&str]) -> Command {
+    let built = env!("CARGO_BIN_EXE_tzb");
+    let mut command = match env::var_os("CARGO_TARGET_X86_64_UNKNOWN_LINUX_GNU_RUNNER") {
+        Some(runner) => {
+            let mut command = Command::new(runner);
+            command.arg(built);
+            command
+        }
+        None => Command::new(built),
+    };
+    command.args(arguments).stdin(Stdio::piped()).stdout(Stdio::piped()).stderr(Stdio::piped());
+    command
+}
+
+/// Exit status, standard output, standard error.
+type Said = (Option<i32>, String, String);
+
+fn ended(child: Child) -> Said {
+    let output = child.wait_with_output().unwrap();
+    let text = |bytes| String::from_utf8(bytes).unwrap();
+    (output.status.code(), text(output.stdout), text(output.stderr))
+}
+
+fn run(arguments: &[&str], input: &str) -> Said {
+    let mut child = tzb(arguments).spawn().unwrap();
+    // A command that does not read its input may have ended by now.
+    let _ = child.stdin.take().unwrap().write_all(input.as_bytes());
+    ended(child)
+}
+
+fn answered(text: &str) -> Said {
+    (Some(0), text.to_string(), String::new())
+}
+
+/// A file of that name, for the time of a test.
+struct Kept(String);
+
+impl Kept {
+    fn new(name: &str, bytes: &[u8]) -> Self {
+        let path = format!("{}/{name}", env!("CARGO_TARGET_TMPDIR"));
+        std::fs::write(&path, bytes).unwrap();
+        Self(path)
+    }
+}
+
+impl Drop for Kept {
+    fn drop(&mut self) {
+        let _ = std::fs::remove_file(&self.0);
+    }
+}
+
+#[test]
+fn one_position() {
+    assert_eq!(run(&["zone", SAMPLE, "8.68", "50.11"], ""), answered("Germany\n"));
+    assert_eq!(run(&["zone", "-n", SAMPLE, "8.68,50.11"], ""), answered("126\tGermany\n"));
+    assert_eq!(run(&["zones", SAMPLE, "8.68", "50.11"], ""), answered("Germany\n"));
+    let rio = answered("Brazil/Rio de Janeiro\n");
+    assert_eq!(run(&["zone", SAMPLE, "-43.2", "-22.9"], ""), rio);
+}
+
+#[test]
+fn no_zone_is_status_1() {
+    let (status, out, err) = run(&["zone", SAMPLE, "200", "0"], "");
+    assert_eq!((status, out.as_str()), (Some(1), ""));
+    assert!(err.starts_with("tzb: no zone at 200 0: longitude goes from"), "{err}");
+    let squares = Kept::new("no-zone.tzb", &Squares::new(&["A"]).bytes);
+    let said = run(&["zones", &squares.0, "5", "5"], "");
+    assert_eq!(said, (Some(1), String::new(), "tzb: no zone at 5 5\n".to_string()));
+}
+
+#[test]
+fn positions_from_standard_input() {
+    let input = "8.68 50.11\n-43.2,-22.9\r\n139.7\t35.7";
+    let names = "Germany\nBrazil/Rio de Janeiro\nJapan\n";
+    assert_eq!(run(&["zone", SAMPLE], input), answered(names));
+    let all = "Germany\nBrazil/Rio de Janeiro\tEtc/GMT+3\nEtc/GMT-9\tJapan\n";
+    assert_eq!(run(&["zones", SAMPLE, "-"], input), answered(all));
+    assert_eq!(run(&["zone", SAMPLE], ""), answered(""));
+    let (status, out, err) = run(&["zone", SAMPLE], "8.68 50.11\n200 0\n139.7 35.7\n");
+    assert_eq!((status, out.as_str(), err.as_str()), (Some(1), "Germany\n\nJapan\n", ""));
+}
+
+#[test]
+fn several_zones_stand_on_one_line() {
+    let squares = Kept::new("several.tzb", &Squares::new(&["B", "A", "new\nline"]).bytes);
+    let one = run(&["zones", &squares.0, "0.5", "0.5"], "");
+    assert_eq!(one, answered("A\nB\nnew\\u{a}line\n"));
+    let many = run(&["zones", "--number", &squares.0], "0.5 0.5\n0.1 0.1\n");
+    let line = "1\tA\t0\tB\t2\tnew\\u{a}line\n";
+    assert_eq!(many, answered(&line.repeat(2)));
+}
+
+/// Every line of the input gets its line, also behind one that is no position.
+#[test]
+fn a_bad_line_is_told_by_its_number() {
+    let input = b"8.68 50.11\neast north\n\nnan 1\n\xff\xfe\n139.7 35.7\n";
+    let mut child = tzb(&["zone", SAMPLE]).spawn().unwrap();
+    child.stdin.take().unwrap().write_all(input).unwrap();
+    let (status, out, err) = ended(child);
+    assert_eq!((status, out.as_str()), (Some(2), "Germany\n\n\n\n\nJapan\n"));
+    let lines: Vec<&str> = err.lines().map(|line| line.split(" is ").next().unwrap()).collect();
+    let told = [
+        "tzb: line 2: \"east north\"",
+        "tzb: line 3: \"\"",
+        "tzb: line 4: \"nan 1\"",
+        "tzb: line 5: \"\u{fffd}\u{fffd}\"",
+    ];
+    assert_eq!(lines, told);
+}
+
+#[test]
+fn a_refusal_is_status_1() {
+    let squares = Squares::new(&["A"]);
+    let broken = Kept::new("broken.tzb", &squares.with(RINGDIR, 4, &words(&[5])));
+    let (status, out, err) = run(&["zone", &broken.0, "0.5", "0.5"], "");
+    assert_eq!((status, out.as_str()), (Some(1), ""));
+    assert!(err.contains("broken.tzb: refusal 36: A ring's point count"), "{err}");
+    let (status, out, err) = run(&["zones", &broken.0], "0.5 0.5\n5 5\n");
+    assert_eq!((status, out.as_str()), (Some(1), "\n\n"));
+    assert!(err.starts_with("tzb: line 1: refusal 36: ") && err.lines().count() == 1, "{err}");
+    for task in ["zone", "zones", "names", "info"] {
+        let (status, out, err) = run(&[task, "Cargo.toml"], "1 1\n");
+        assert_eq!((status, out.as_str()), (Some(1), ""), "{task}");
+        assert!(err.starts_with("tzb: Cargo.toml: refusal 2: "), "{err}");
+    }
+}
+
+#[test]
+fn the_full_check() {
+    assert_eq!(run(&["check", SAMPLE], ""), answered(&format!("{SAMPLE}: accepted\n")));
+    let squares = Squares::new(&["A"]);
+    let broken = Kept::new("unsound.tzb", &squares.with(CHUNKDIR, 16, &words(&[99_999])));
+    let (status, out, err) = run(&["check", &broken.0], "");
+    assert_eq!((status, err.as_str()), (Some(1), ""));
+    assert!(out.contains("unsound.tzb: not accepted: refusal 47: "), "{out}");
+    assert!(out.contains("Rule 4 is broken: a chunk's box"), "{out}");
+    let (status, out, _) = run(&["check", "Cargo.toml"], "");
+    assert_eq!(status, Some(1));
+    assert!(out.starts_with("Cargo.toml: not accepted: refusal 2: "), "{out}");
+}
+
+#[test]
+fn names_and_info() {
+    let (status, out, err) = run(&["names", "-n", SAMPLE], "");
+    assert_eq!((status, err.as_str(), out.lines().count()), (Some(0), "", 481));
+    assert!(out.starts_with("0\tAfghanistan\n1\tAlbania\n"), "{out}");
+    let (status, out, err) = run(&["info", SAMPLE], "");
+    assert_eq!((status, err.as_str()), (Some(0), ""));
+    for line in ["size      1984830 bytes", "version   real1", "zones     481", "sections  9"] {
+        assert!(out.lines().any(|found| found == line), "{out}");
+    }
+    assert!(out.contains("361 x 181 cells from -180 -90"), "{out}");
+    assert!(out.contains("CHUNKDIR  129792 bytes at 485564, 5408 records"), "{out}");
+}
+
+#[test]
+fn help_and_version() {
+    let (status, out, err) = run(&["--help"], "");
+    assert_eq!((status, err.as_str()), (Some(0), ""));
+    assert!(out.contains("Exit status:"), "{out}");
+    for task in ["zone", "zones", "check", "names", "info"] {
+        assert!(out.contains(&format!("tzb {task} FILE")), "{out}");
+        let (status, own, _) = run(&[task, "--help"], "");
+        assert_eq!(status, Some(0));
+        assert!(own.starts_with(&format!("tzb {task} ")), "{own}");
+    }
+    let version = format!("tzb {}\n", env!("CARGO_PKG_VERSION"));
+    assert_eq!(run(&["--version"], ""), answered(&version));
+}
+
+#[test]
+fn bad_usage_is_status_2() {
+    let cases: [&[&str]; 6] = [
+        &[],
+        &["sone", SAMPLE],
+        &["zone", SAMPLE, "8.68"],
+        &["zone", SAMPLE, "nan", "50.11"],
+        &["zone", "--fast", SAMPLE],
+        &["check", SAMPLE, "8.68", "50.11"],
+    ];
+    for words in cases {
+        let (status, out, err) = run(words, "");
+        assert_eq!((status, out.as_str()), (Some(2), ""), "{words:?}");
+        assert!(err.starts_with("tzb: ") && err.contains("--help"), "{err}");
+    }
+    for path in ["no-such-file.tzb", "src"] {
+        let (status, out, err) = run(&["zone", path, "1", "1"], "");
+        assert_eq!((status, out.as_str()), (Some(2), ""));
+        assert!(err.starts_with(&format!("tzb: {path}: ")), "{err}");
+    }
+}
+
+/// Nobody reads the answers: the command ends, without a word.
+#[test]
+fn a_broken_pipe_is_no_mistake() {
+    let mut child = tzb(&["zone", SAMPLE]).spawn().unwrap();
+    drop(child.stdout.take());
+    child.stdin.take().unwrap().write_all(&b"8.68 50.11\n".repeat(2000)).unwrap();
+    let (status, _, err) = ended(child);
+    assert_eq!((status, err.as_str()), (Some(0), ""));
+}
+
+/// An answer is written before the next position is waited for.
+#[test]
+fn answers_do_not_wait() {
+    let mut child = tzb(&["zone", SAMPLE]).spawn().unwrap();
+    let mut input = child.stdin.take().unwrap();
+    let output = BufReader::new(child.stdout.take().unwrap());
+    let (tell, told) = mpsc::channel();
+    std::thread::spawn(move || output.lines().try_for_each(|line| tell.send(line.unwrap())));
+    for (position, name) in [("8.68 50.11", "Germany"), ("139.7 35.7", "Japan")] {
+        writeln!(input, "{position}").unwrap();
+        assert_eq!(told.recv_timeout(Duration::from_secs(30)).as_deref(), Ok(name));
+    }
+    drop(input);
+    assert_eq!(ended(child).0, Some(0));
+}

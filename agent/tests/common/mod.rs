@@ -1,0 +1,130 @@
+//! The sample, small files with one square in them, and damage to either.
+
+// Each test program uses some of it.
+#![allow(dead_code)]
+
+/// The sample index of the repository.
+pub fn sample() -> Vec<u8> {
+    std::fs::read("../sample/real-ne.tzb").expect("the sample is read")
+}
+
+/// The sections, in the order in which a small file has them, by type.
+pub const NAMES: usize = 1;
+pub const TZDIR: usize = 2;
+pub const POLYDIR: usize = 3;
+pub const RINGDIR: usize = 4;
+pub const RINGOPS: usize = 5;
+pub const GROUPDIR: usize = 6;
+pub const CHUNKDIR: usize = 7;
+pub const POINTS: usize = 9;
+
+/// A file without GRID in which every zone is the same square, one degree wide, from (0, 0).
+pub struct Squares {
+    pub bytes: Vec<u8>,
+    /// Where each section starts.
+    starts: [usize; 10],
+}
+
+const SIDE: i32 = 100_000;
+
+impl Squares {
+    pub fn new(names: &[&str]) -> Self {
+        let zones = names.len();
+        let sections = [
+            (NAMES, names_section(names)),
+            (TZDIR, listed(0, 1).repeat(zones)),
+            (POLYDIR, listed(0, 1)),
+            (RINGDIR, [words(&[0, 4, 1]), square_box()].concat()),
+            (RINGOPS, words(&[0])),
+            (GROUPDIR, [words(&[0, 5, 1, 0, 0, 0, 0]), square_box()].concat()),
+            (CHUNKDIR, listed(0, 5)),
+            (POINTS, points(&[(0, 0), (SIDE, 0), (0, SIDE), (-SIDE, 0), (0, -SIDE)])),
+        ];
+        let mut bytes = header(zones as u32, sections.len() as u32);
+        bytes.resize(64 + 16 * sections.len(), 0);
+        let mut starts = [0; 10];
+        for (place, (kind, section)) in sections.iter().enumerate() {
+            bytes.resize(bytes.len().next_multiple_of(4), 0);
+            starts[*kind] = bytes.len();
+            let entry = words(&[*kind as u32, bytes.len() as u32, section.len() as u32, 0]);
+            bytes[64 + 16 * place..][..16].copy_from_slice(&entry);
+            bytes.extend_from_slice(section);
+        }
+        bytes.extend_from_slice(&[0; 4]);
+        let size = bytes.len() as u32;
+        bytes[16..20].copy_from_slice(&size.to_le_bytes());
+        repair(&mut bytes);
+        Self { bytes, starts }
+    }
+
+    /// A copy with these bytes at a place of a section, and the right sum.
+    pub fn with(&self, kind: usize, at: usize, new: &[u8]) -> Vec<u8> {
+        changed(&self.bytes, self.starts[kind] + at, new)
+    }
+}
+
+/// A copy with these bytes at a place of the file, and the right sum.
+pub fn changed(file: &[u8], at: usize, new: &[u8]) -> Vec<u8> {
+    let mut bytes = file.to_vec();
+    bytes[at..at + new.len()].copy_from_slice(new);
+    repair(&mut bytes);
+    bytes
+}
+
+/// Writes the sum.
+pub fn repair(file: &mut [u8]) {
+    let (data, sum) = file.split_at_mut(file.len() - 4);
+    sum.copy_from_slice(&crc32(data).to_le_bytes());
+}
+
+/// IEEE 802.3's sum, a bit at a time.
+fn crc32(bytes: &[u8]) -> u32 {
+    let step = |sum: u32, _| if sum & 1 == 1 { sum >> 1 ^ 0xedb8_8320 } else { sum >> 1 };
+    !bytes.iter().fold(!0, |sum, &byte| (0..8).fold(sum ^ u32::from(byte), step))
+}
+
+fn header(zones: u32, sections: u32) -> Vec<u8> {
+    let version = *b"2026c\0\0\0\0\0\0\0\0\0\0\0";
+    let mut out = b"TZFB\x01\0\x40\0".to_vec();
+    out.extend(words(&[0, 100_000, 0, sections]));
+    out.extend(version);
+    out.extend(words(&[zones, 256, 0, 0, 0, 0]));
+    out
+}
+
+pub fn words(numbers: &[u32]) -> Vec<u8> {
+    numbers.iter().flat_map(|n| n.to_le_bytes()).collect()
+}
+
+fn square_box() -> Vec<u8> {
+    [0, 0, SIDE, SIDE].iter().flat_map(|n: &i32| n.to_le_bytes()).collect()
+}
+
+/// A record of a first number, a count, and the square's box.
+fn listed(first: u32, count: u32) -> Vec<u8> {
+    [words(&[first, count]), square_box()].concat()
+}
+
+fn names_section(names: &[&str]) -> Vec<u8> {
+    let blob = names.concat();
+    let mut offsets = vec![blob.len() as u32, 0];
+    offsets.extend(names.iter().scan(0, |end, name| {
+        *end += name.len() as u32;
+        Some(*end)
+    }));
+    [words(&offsets), blob.into_bytes()].concat()
+}
+
+/// A chunk's bytes: each number in zigzag form, seven bits a byte.
+fn points(deltas: &[(i32, i32)]) -> Vec<u8> {
+    let mut out = Vec::new();
+    for n in deltas.iter().flat_map(|&(x, y)| [x, y]) {
+        let mut rest = ((n << 1) ^ (n >> 31)) as u32;
+        while rest >= 0x80 {
+            out.push(rest as u8 | 0x80);
+            rest >>= 7;
+        }
+        out.push(rest as u8);
+    }
+    out
+}
