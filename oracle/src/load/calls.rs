@@ -12,7 +12,7 @@ pub struct Caller {
     file: Lent,
     record: Lent,
     part: Lent,
-    rooms: [Room; 3],
+    rooms: [Room; 4],
     pub tally: Tally,
 }
 
@@ -32,7 +32,7 @@ impl Caller {
             file: Lent::new(LONGEST),
             record: Lent::new(SHORT),
             part: Lent::new(SHORT),
-            rooms: [(); 3].map(|()| Room::new()),
+            rooms: [(); 4].map(|()| Room::new()),
             tally: Tally::new(),
         }
     }
@@ -104,7 +104,20 @@ impl Caller {
         let first = self.said(Export::NameStart, start, 0, last)?;
         let end = unsafe { (self.call(Export::NameEnd).name_end)(r, size, f, length, zone) };
         self.said(Export::NameEnd, end, first.unwrap_or(0), last)?;
-        hold(first.is_some() || end == start, || format!("{end}, where the start is {start}"))
+        hold(first.is_some() || end == start, || format!("{end}, where the start is {start}"))?;
+
+        let room = input.rooms[2] % 4;
+        let lent = self.rooms[3].lend(8 * room, input.at_end[4], input.guard)?.cast();
+        let code =
+            unsafe { (self.call(Export::Name).name)(r, size, f, length, zone, lent, room) };
+        let said = self.said(Export::Name, code.into(), 0, 0)?;
+        let ends = self.rooms[3].take(if said.is_some() { 16 } else { 0 })?;
+        let may = match first {
+            None => i64::from(code) == start,
+            Some(_) if room < 2 => code == -1046,
+            Some(_) => ends == [start.to_le_bytes(), end.to_le_bytes()].concat(),
+        };
+        hold(may, || format!("both ends are {code}, {ends:?}; apart {start} and {end}"))
     }
 
     fn candidates(

@@ -12,6 +12,7 @@ pub struct Exports {
     pub zone_count: unsafe extern "C" fn(Bytes, usize) -> i64,
     pub name_start: unsafe extern "C" fn(Bytes, usize, Bytes, usize, u32) -> i64,
     pub name_end: unsafe extern "C" fn(Bytes, usize, Bytes, usize, u32) -> i64,
+    pub name: unsafe extern "C" fn(Bytes, usize, Bytes, usize, u32, *mut u64, usize) -> i32,
     pub choice: unsafe extern "C" fn(Bytes, usize, Bytes, usize, f64, f64) -> i32,
     pub listed: unsafe extern "C" fn(Bytes, usize, Bytes, usize, f64, f64) -> u64,
     pub candidate: unsafe extern "C" fn(Bytes, usize, Bytes, usize, u32) -> i64,
@@ -38,6 +39,7 @@ pub const PORT: Exports = Exports {
     zone_count: tzb_zone_count,
     name_start: tzb_name_start,
     name_end: tzb_name_end,
+    name: tzb_name,
     choice: tzb_choice,
     listed: tzb_listed,
     candidate: tzb_candidate,
@@ -66,6 +68,7 @@ pub enum Export {
     ZoneCount,
     NameStart,
     NameEnd,
+    Name,
     Choice,
     Listed,
     Candidate,
@@ -87,11 +90,12 @@ pub enum Export {
     NextUp,
 }
 
-pub const NAMES: [&str; 23] = [
+pub const NAMES: [&str; 24] = [
     "tzb_open",
     "tzb_zone_count",
     "tzb_name_start",
     "tzb_name_end",
+    "tzb_name",
     "tzb_choice",
     "tzb_listed",
     "tzb_candidate",
