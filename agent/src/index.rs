@@ -107,10 +107,10 @@ impl<'a> Index<'a> {
     /// # Errors
     /// Refusal 45 for a zone number that is too large.
     pub fn name(&self, zone: u32) -> Result<&'a str, Refusal> {
-        let start = Refusal::of_code(sys::name_start(&self.record, self.file, zone))?;
-        let end = Refusal::of_code(sys::name_end(&self.record, self.file, zone))?;
+        let mut ends = [0; 2];
+        Refusal::of_code(sys::name(&self.record, self.file, zone, &mut ends).into())?;
         // Opening has looked at both already. Looking again is cheap, and needs no `unsafe`.
-        let name = self.file.get(start..end);
+        let name = self.file.get(ends[0] as usize..ends[1] as usize);
         let name = name.ok_or(Refusal::new(PAST_THE_END))?;
         std::str::from_utf8(name).map_err(|_| Refusal::new(NAME_NOT_UTF8))
     }

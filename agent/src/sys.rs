@@ -16,8 +16,7 @@ mod exports {
     unsafe extern "C" {
         pub fn tzb_open(file: *const u8, length: usize, record: *mut u8, room: usize) -> i32;
         pub fn tzb_zone_count(record: *const u8, size: usize) -> i64;
-        pub fn tzb_name_start(record: *const u8, size: usize, file: *const u8, length: usize, zone: u32) -> i64;
-        pub fn tzb_name_end(record: *const u8, size: usize, file: *const u8, length: usize, zone: u32) -> i64;
+        pub fn tzb_name(record: *const u8, size: usize, file: *const u8, length: usize, zone: u32, ends: *mut u64, room: usize) -> i32;
         pub fn tzb_contains(record: *const u8, size: usize, file: *const u8, length: usize, zone: u32, x: i32, y: i32) -> i32;
         pub fn tzb_decode(record: *const u8, size: usize, file: *const u8, length: usize, chunk: u32, out: *mut i32, room: usize) -> i64;
         pub fn tzb_ask(record: *const u8, size: usize, file: *const u8, length: usize, lng: f64, lat: f64) -> i64;
@@ -46,12 +45,8 @@ pub fn zone_count(record: &Record) -> i64 {
     unsafe { exports::tzb_zone_count(record.as_ptr(), record.len()) }
 }
 
-pub fn name_start(record: &Record, file: &[u8], zone: u32) -> i64 {
-    ask!(tzb_name_start, record, file, zone)
-}
-
-pub fn name_end(record: &Record, file: &[u8], zone: u32) -> i64 {
-    ask!(tzb_name_end, record, file, zone)
+pub fn name(record: &Record, file: &[u8], zone: u32, ends: &mut [u64; 2]) -> i32 {
+    ask!(tzb_name, record, file, zone, ends.as_mut_ptr(), ends.len())
 }
 
 pub fn contains(record: &Record, file: &[u8], zone: u32, x: i32, y: i32) -> i32 {
