@@ -1,5 +1,7 @@
--- Small laws on truth values and whole numbers.
+-- Small laws on truth values, tests and whole numbers.
 pub mod Truth
 pub mod Parity
 pub mod Whole
 pub mod Determined
+pub mod Picked
+pub mod Signed

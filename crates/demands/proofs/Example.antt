@@ -16,7 +16,8 @@ use Rattle.answer.specs.Checks as K
 use Rattle.fields.specs.Le as E
 use Rattle.fields.specs.Loads as L
 use Rattle.crc.specs.Crc32 as R
-use Rattle.tzb_core.specs.Box as B
+use Rattle.boxes.specs.Box as B
+use Rattle.tzb_core.specs.Delta as Deltas
 use Rattle.tzb_core.specs.Ray.{pointOf}
 use Rattle.tzb_core.specs.Varint.{numberAt, digits}
 use Rattle.tzb_core.specs.Points as Points
@@ -49,12 +50,12 @@ use Rattle.demands.proofs.Lookups.{lookups-exact}
 
 -- F1
 pub opens : ok opened ≡ P.openOf file
-unfolding file opened E.le R.step R.steps R.bytes R.crc32 K.claim K.deny K.andThen K.first K.each K.seek K.atMost K.below K.same K.both K.either M.sameFrom M.startsWith H.startCheck H.isCount H.fieldsCheck H.isZero H.notZero H.versionEnd H.versionCheck H.boundsCheck H.headCheck T.isType T.has T.repeats T.banned T.apart T.apartAt T.placedCheck T.typedCheck T.entryCheck T.entriesCheck T.entryAt T.sectionOf O.presentAt O.presentCheck O.bit O.flagCheck O.zonesCheck O.lengthsCheck O.countsCheck O.sectionsOf O.gridOf O.directoryOf O.openedOf N.shapeCheck N.offsetRule N.prior N.offsetCheck N.textCheck N.textAt N.namesCheck S.recordAt S.ruled S.boxIn S.pointIn S.within S.listIn S.listRule S.listAt S.ringIn S.ringRule S.ringAt S.countRule S.opRule S.opAt S.groupIn S.groupRule S.groupAt S.chunkIn S.chunkRule S.chunkAt D.chunkCheck D.leastOff D.chunkCheckAt D.chunksCheck D.total D.countAt D.groupCheck D.groupCheckAt D.groupsCheck P.tableCheck P.sizesCheck P.namesIn P.gridIn P.contentsCheck P.openOf B.contains B.relevant B.right B.ordered B.boxInDomain B.fits32 B.addDelta A.inDomain
+unfolding file opened E.le R.step R.steps R.bytes R.crc32 K.claim K.deny K.andThen K.first K.each K.seek K.atMost K.below K.same K.both K.either M.sameFrom M.startsWith H.startCheck H.isCount H.fieldsCheck H.isZero H.notZero H.versionEnd H.versionCheck H.boundsCheck H.headCheck T.isType T.has T.repeats T.banned T.apart T.apartAt T.placedCheck T.typedCheck T.entryCheck T.entriesCheck T.entryAt T.sectionOf O.presentAt O.presentCheck O.bit O.flagCheck O.zonesCheck O.lengthsCheck O.countsCheck O.sectionsOf O.gridOf O.directoryOf O.openedOf N.shapeCheck N.offsetRule N.prior N.offsetCheck N.textCheck N.textAt N.namesCheck S.recordAt S.ruled S.boxIn S.pointIn S.within S.listIn S.listRule S.listAt S.ringIn S.ringRule S.ringAt S.countRule S.opRule S.opAt S.groupIn S.groupRule S.groupAt S.chunkIn S.chunkRule S.chunkAt D.chunkCheck D.leastOff D.chunkCheckAt D.chunksCheck D.total D.countAt D.groupCheck D.groupCheckAt D.groupsCheck P.tableCheck P.sizesCheck P.namesIn P.gridIn P.contentsCheck P.openOf B.contains B.relevant B.right B.ordered B.boxInDomain Deltas.fits32 Deltas.addDelta A.inDomain
 opens = refl
 
 -- F2 to F6
 none-broken : 0 ≡ lowestBroken opened file
-unfolding file opened lowestBroken rule recordsHold chunksDecode chunkBoxesCover groupsCover boxesCover all run holds answered opGroup opPoints pointsAdd chunkCovers jointCovers jointsCover chunkUnder groupUnder ringUnder polyUnder endsFit groupCovers ringCovers polyCovers zoneCovers inBox covers same S.listAt S.ringAt S.opAt S.groupAt S.chunkAt S.ruled S.recordAt S.listIn S.listRule S.ringIn S.ringRule S.countRule S.opRule S.groupIn S.groupRule S.chunkIn S.chunkRule S.boxIn S.pointIn S.within L.inside E.le B.ordered B.boxInDomain A.inDomain chunkPoints bytesOf endOf span startOf firstIn firstAt pointsOf pointsFrom Points.firstOf Points.nextAt Points.numbersAt Points.movedBy Points.inside B.addDelta B.fits32 numberAt digits
+unfolding file opened lowestBroken rule recordsHold chunksDecode chunkBoxesCover groupsCover boxesCover all run holds answered opGroup opPoints pointsAdd chunkCovers jointCovers jointsCover chunkUnder groupUnder ringUnder polyUnder endsFit groupCovers ringCovers polyCovers zoneCovers inBox covers same S.listAt S.ringAt S.opAt S.groupAt S.chunkAt S.ruled S.recordAt S.listIn S.listRule S.ringIn S.ringRule S.countRule S.opRule S.groupIn S.groupRule S.chunkIn S.chunkRule S.boxIn S.pointIn S.within L.inside E.le B.ordered B.boxInDomain A.inDomain chunkPoints bytesOf endOf span startOf firstIn firstAt pointsOf pointsFrom Points.firstOf Points.nextAt Points.numbersAt Points.movedBy Points.inside Deltas.addDelta Deltas.fits32 numberAt digits
 none-broken = refl
 
 pub accepts : fullCheckOf file ≡ accepted
@@ -62,7 +63,7 @@ accepts = sym (full-accepted file opened opens 0 none-broken refl)
 
 -- its zone is the drawn one
 pub made : zoneAt (directories opened file) 0 ≡ zone
-unfolding file opened directories zoneRecord polyRecord ringRecord opWord groupRecord chunkShape zoneAt polygonAt ringAt legAt groupAt run S.listAt S.ringAt S.opAt S.groupAt S.chunkAt S.ruled S.recordAt S.listIn S.listRule S.ringIn S.ringRule S.opRule S.groupIn S.groupRule S.chunkIn S.chunkRule S.boxIn S.pointIn S.within L.inside E.le B.ordered B.boxInDomain A.inDomain chunkPoints bytesOf endOf span startOf pointsOf pointsFrom Points.firstOf Points.nextAt Points.numbersAt Points.movedBy Points.inside B.addDelta B.fits32 numberAt digits
+unfolding file opened directories zoneRecord polyRecord ringRecord opWord groupRecord chunkShape zoneAt polygonAt ringAt legAt groupAt run S.listAt S.ringAt S.opAt S.groupAt S.chunkAt S.ruled S.recordAt S.listIn S.listRule S.ringIn S.ringRule S.opRule S.groupIn S.groupRule S.chunkIn S.chunkRule S.boxIn S.pointIn S.within L.inside E.le B.ordered B.boxInDomain A.inDomain chunkPoints bytesOf endOf span startOf pointsOf pointsFrom Points.firstOf Points.nextAt Points.numbersAt Points.movedBy Points.inside Deltas.addDelta Deltas.fits32 numberAt digits
 made = refl
 
 -- demand 3 for it: at every whole-number point

@@ -8,7 +8,7 @@ use mathlib.Core.List.{List, _∷_}
 use Rattle.plane.specs.Segment.{same}
 use Rattle.plane.specs.Lines.{every, lastOf}
 use Rattle.answer.specs.Answers.{Answer, ok}
-use Rattle.tzb_core.specs.declared.bbox.BBox.{BBox}
+use Rattle.boxes.specs.declared.BBox.{BBox}
 use Rattle.shapes.specs.Shapes.{inBox, covers}
 use Rattle.shapes.specs.Layout.{Among, Covered}
 use Rattle.reader_opened.specs.declared.Opened.{Opened}

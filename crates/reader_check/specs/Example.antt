@@ -12,7 +12,8 @@ use Rattle.plane.specs.Lines.{every}
 use Rattle.plane.specs.Runs.{run}
 use Rattle.fields.specs.Le.{le}
 use Rattle.fields.specs.Loads as Loads
-use Rattle.tzb_core.specs.Box.{ordered, boxInDomain, addDelta, fits32}
+use Rattle.boxes.specs.Box.{ordered, boxInDomain}
+use Rattle.tzb_core.specs.Delta.{addDelta, fits32}
 use Rattle.tzb_core.specs.Varint.{numberAt, digits}
 use Rattle.tzb_core.specs.Points as Points
 use Rattle.tzb_core.specs.Decode.{pointsOf, pointsFrom}

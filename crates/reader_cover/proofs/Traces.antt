@@ -11,7 +11,7 @@ use Rattle.plane.specs.Segment.{same}
 use Rattle.plane.specs.Lines.{every, lastFrom, lastOf}
 use Rattle.answer.specs.declared.Refusal.{Refusal}
 use Rattle.answer.specs.Answers.{Answer, ok, refused, no, _then_, need}
-use Rattle.tzb_core.specs.declared.bbox.BBox.{BBox}
+use Rattle.boxes.specs.declared.BBox.{BBox}
 use Rattle.tzb_core.specs.Varint.{atEnd}
 use Rattle.tzb_core.specs.Points.{nextAt}
 use Rattle.tzb_core.specs.Decode.{led, pointsFrom, pointsOf}

@@ -10,6 +10,7 @@ ghost use Rattle.reader_chunks.specs.Chunks.{pointsIn, firstAt, chunkPoints};
 ghost use Rattle.reader_cover.specs.Holds.{holds, all};
 ghost use Rattle.reader_cover.specs.Cover.{opGroup, pointsAdd, jointCovers, jointsCover, chunkUnder, groupUnder, ringUnder, polyUnder, endsFit, groupCovers, partFits, toldTrace, traced, traceBy, traceAt};
 use answer::Refusal;
+use boxes::BBox;
 use plane::I32Point;
 use reader_chunks::Offset;
 use reader_chunks::PointAt;
@@ -22,8 +23,6 @@ use reader_records::ListAt;
 use reader_records::OpAt;
 use reader_records::RingAt;
 use reader_records::RingRecord;
-use tzb_core::bbox;
-use tzb_core::bbox::BBox;
 use tzb_core::chunk;
 use tzb_core::chunk::Spotted;
 use tzb_core::varint::Place;
@@ -293,7 +292,7 @@ fn is_first(o: Opened, s: &[u8], q: I32Point, index: usize) -> bool
     let t = reader_chunks::first_at(o, s, index);
     match t {
         PointAt::Refused(_) => false,
-        PointAt::At(first) => bbox::same_point(q, first),
+        PointAt::At(first) => boxes::same_point(q, first),
     }
 }
 
@@ -304,7 +303,7 @@ fn is_last(o: Opened, s: &[u8], q: I32Point, index: usize) -> bool
     let t = trace_at(o, s, index);
     match t {
         Traced::Refused(_) => false,
-        Traced::Points(_, last) => bbox::same_point(q, last),
+        Traced::Points(_, last) => boxes::same_point(q, last),
     }
 }
 

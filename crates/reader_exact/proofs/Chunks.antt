@@ -14,8 +14,8 @@ use Rattle.plane.specs.Lines.{every, lastFrom, chain}
 use Rattle.plane.specs.Domain.{inDomain}
 use Rattle.answer.specs.Answers.{ok, _then_, need, then-inv, need-inv, ok-inv}
 use Rattle.answer.specs.Walks.{done}
-use Rattle.tzb_core.specs.declared.bbox.BBox.{BBox}
-use Rattle.tzb_core.specs.Box.{boxInDomain, relevant, right}
+use Rattle.boxes.specs.declared.BBox.{BBox}
+use Rattle.boxes.specs.Box.{boxInDomain, relevant, right}
 use Rattle.tzb_core.specs.Ray.{rayOf, parityOf}
 use Rattle.tzb_core.specs.Scan.{past}
 use Rattle.tzb_core.specs.Decode.{pointsOf}

@@ -9,7 +9,7 @@ use Rattle.basics.specs.Truth.{and-l, and-r}
 use Rattle.plane.specs.Domain.{inDomain}
 use Rattle.answer.specs.Answers.{Answer, ok, refused, need, zero-one, then-inv, need-inv, ok-inv}
 use Rattle.fields.specs.Le.{le}
-use Rattle.tzb_core.specs.Box.{boxInDomain}
+use Rattle.boxes.specs.Box.{boxInDomain}
 use Rattle.shapes.specs.Layout.{Span, Names}
 use Rattle.reader_opened.specs.declared.Opened.{Opened}
 use Rattle.reader_records.specs.Records.{recordAt, ruled, within, listIn, listRule, listAt, zoneAt, polyAt, ringIn, ringRule, ringAt, opRule, opAt, groupIn, groupRule, groupAt, within-some, within-fits, group-ends}

@@ -10,7 +10,7 @@ use Rattle.plane.specs.declared.I32Point.{I32Point}
 use Rattle.plane.specs.declared.Seen.{Seen}
 use Rattle.plane.specs.Tally.{⊕-idr}
 use Rattle.plane.specs.Runs.{run}
-use Rattle.tzb_core.specs.Box.{relevant, right}
+use Rattle.boxes.specs.Box.{relevant, right}
 use Rattle.tzb_core.specs.Ray.{parityOf}
 use Rattle.tzb_core.specs.Scan.{past}
 use Rattle.shapes.specs.Shapes.{Chunk, groupChunks}

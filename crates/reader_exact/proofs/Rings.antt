@@ -16,7 +16,7 @@ use Rattle.plane.specs.Lines.{link, onward, around, Stretch}
 use Rattle.plane.specs.Runs.{run}
 use Rattle.answer.specs.Answers.{ok}
 use Rattle.answer.specs.Walks.{Walk, _go_, done, verdict, add-none}
-use Rattle.tzb_core.specs.Box.{contains}
+use Rattle.boxes.specs.Box.{contains}
 use Rattle.tzb_core.specs.Ray.{rayOf}
 use Rattle.tzb_core.specs.Scan.{past}
 use Rattle.shapes.specs.Walk.{floatTests, legWalk, ringWalk}

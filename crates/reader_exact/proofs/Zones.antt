@@ -9,7 +9,7 @@ use Rattle.plane.specs.declared.Point.{Point}
 use Rattle.plane.specs.Lines.{some}
 use Rattle.plane.specs.Runs.{run}
 use Rattle.answer.specs.Answers.{Answer, ok, _then_}
-use Rattle.tzb_core.specs.Box.{contains}
+use Rattle.boxes.specs.Box.{contains}
 use Rattle.shapes.specs.Walk.{floatTests, ringWalk, polygonWalk, zoneWalk}
 use Rattle.shapes.specs.Layout.{ringAt, polygonAt, zoneAt}
 use Rattle.reader_opened.specs.declared.Opened.{Opened}

@@ -8,7 +8,7 @@ use lib.IntN.{pos}
 use Rattle.plane.specs.declared.I32Point.{I32Point}
 use Rattle.plane.specs.Lines.{origin}
 use Rattle.answer.specs.Answers.{Answer, ok, refused, _then_}
-use Rattle.tzb_core.specs.declared.bbox.BBox.{BBox}
+use Rattle.boxes.specs.declared.BBox.{BBox}
 use Rattle.shapes.specs.Shapes.{Chunk}
 use Rattle.shapes.specs.Layout.{Span, Directories}
 use Rattle.reader_opened.specs.declared.Opened.{Opened}

@@ -17,7 +17,8 @@ use Rattle.answer.specs.Walks.{add}
 use Rattle.plane.specs.Runs.{run}
 use Rattle.fields.specs.Le.{le}
 use Rattle.fields.specs.Loads as Loads
-use Rattle.tzb_core.specs.Box.{ordered, boxInDomain, addDelta, fits32, contains, relevant, right}
+use Rattle.boxes.specs.Box.{ordered, boxInDomain, contains, relevant, right}
+use Rattle.tzb_core.specs.Delta.{addDelta, fits32}
 use Rattle.tzb_core.specs.Ray.{rayOf, rayAt, touches, crosses, aboveOf, parityOf}
 use Rattle.tzb_core.specs.Scan.{scanOf, onward, stepAt}
 use Rattle.tzb_core.specs.Varint.{numberAt, digits}

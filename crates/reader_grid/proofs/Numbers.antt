@@ -12,22 +12,10 @@ use mir.Syntax.{Width, w16, w32, w64}
 use mir.Val.{SFits, toZ, ofZ, hbits}
 use mir.ValLaws.{toZ-ofZ, toZ-pos}
 use Rattle.basics.specs.Truth.{and-l, and-r}
+use Rattle.basics.specs.Signed.{sum-abs, mag-le}
 use Rattle.reader_grid.specs.Grid.{lastOf}
 use Rattle.reader_opened.specs.declared.Grid.{Grid}
 use Rattle.reader_grid.specs.Asked.{inSpan, inGrid}
-
-sub-abs : (a b : ℕ) → natAbs (subℕ a b) ≤ a + b
-sub-abs a b = go (ltb a b) refl
-  where
-    go : (t : Bool) → ltb a b ≡ t → natAbs (cond t (negsuc (b - suc a)) (pos (a - b))) ≤ a + b
-    go true e = omega (arith, ltb-true a b e)
-    go false e = omega arith
-
-sum-abs : (x y : ℤ) → natAbs (x +ℤ y) ≤ natAbs x + natAbs y
-sum-abs (pos a) (pos b) = omega arith
-sum-abs (pos a) (negsuc b) = sub-abs a (suc b)
-sum-abs (negsuc a) (pos b) = omega (arith, sub-abs b (suc a))
-sum-abs (negsuc a) (negsuc b) = omega arith
 
 neg-abs : (x : ℤ) → natAbs (negℤ x) ≡ natAbs x
 neg-abs (pos zero) = refl
@@ -37,17 +25,9 @@ neg-abs (negsuc n) = refl
 pub minus-abs : (x y : ℤ) → natAbs (x -ℤ y) ≤ natAbs x + natAbs y
 minus-abs x y = omega (arith, sum-abs x (negℤ y), neg-abs y)
 
-mag-le : (z : ℤ) → mag z ≤ natAbs z
-mag-le (pos n) = omega arith
-mag-le (negsuc n) = omega arith
-
 -- a small number fits
 pub near : (w : Width) (z : ℤ) → natAbs z < 2 ^ hbits w → SFits w z
 near w z h = record { sfits = omega (arith, mag-le z) }
-
--- a signed number, read back from its bits
-pub back : (w : Width) (z : ℤ) → mag z < 2 ^ hbits w → toZ w (ofZ w z) ≡ z
-back w z h = toZ-ofZ w z (record { sfits = h })
 
 -- an i16 made wider is the same number
 module _ (w : Width) (z : ℤ) (k : 32_768 ≤ 2 ^ hbits w) (h : SFits w16 z) where

@@ -8,7 +8,7 @@ use mathlib.Core.List.{List}
 use lib.IntN.{ℤ}
 use Rattle.plane.specs.declared.I32Point.{I32Point}
 use Rattle.fields.specs.Le.{le}
-use Rattle.tzb_core.specs.declared.bbox.BBox.{BBox}
+use Rattle.boxes.specs.declared.BBox.{BBox}
 use Rattle.reader_records.specs.Records.{coordinate, boxIn, pointIn, listIn, ringIn, groupIn, chunkIn}
 
 module _ (s : List ℕ) (p : ℕ) where

@@ -19,8 +19,8 @@ use Rattle.answer.specs.declared.Refusal.{Refusal}
 use Rattle.answer.specs.Answers.{Answer, ok, refused, no, _then_, need}
 use Rattle.fields.specs.Le.{le}
 use Rattle.fields.specs.Loads.{inside}
-use Rattle.tzb_core.specs.declared.bbox.BBox.{BBox}
-use Rattle.tzb_core.specs.Box.{boxInDomain}
+use Rattle.boxes.specs.declared.BBox.{BBox}
+use Rattle.boxes.specs.Box.{boxInDomain}
 use Rattle.reader_opened.specs.declared.Directory.{Directory}
 use Rattle.reader_opened.specs.declared.Opened.{Opened}
 use Rattle.reader_records.specs.declared.ListRecord.{ListRecord}

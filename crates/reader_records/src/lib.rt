@@ -4,10 +4,10 @@ ghost use Prim.Native.Nat.{_+_, _≤_, _<_};
 ghost use lib.ListN.{length};
 ghost use Rattle.reader_records.specs.Records.{toldPlace, toldList, toldRing, toldOp, toldGroup, toldChunk, recordAt, boxIn, pointIn, within, listIn, listRule, listAt, zoneAt, polyAt, ringIn, ringRule, ringAt, countRule, opRule, opAt, groupIn, groupRule, groupAt, chunkIn, chunkRule, chunkAt};
 use answer::Refusal;
+use boxes::BBox;
 use plane::I32Point;
 use reader_opened::Directory;
 use reader_opened::Opened;
-use tzb_core::bbox::BBox;
 
 // A zone with its polygons, a polygon with its rings.
 pub struct ListRecord {
@@ -260,7 +260,7 @@ pub fn group_rule(below: u32, v: GroupRecord) -> bool
     let e = v.entry;
     let x = v.exit;
     (b.in_domain() & is_within(v.first, v.count, below))
-        & (tzb_core::bbox::point_in_domain(e) & tzb_core::bbox::point_in_domain(x))
+        & (boxes::point_in_domain(e) & boxes::point_in_domain(x))
 }
 
 pub fn group_at(o: Opened, s: &[u8], index: usize) -> GroupAt

@@ -15,7 +15,7 @@ use Rattle.answer.specs.declared.Refusal.{Refusal}
 use Rattle.answer.specs.Refusals.{refusal}
 use Rattle.answer.specs.Answers.{Answer, ok, refused, _then_}
 use Rattle.answer.specs.Walks.{Walk, broken, on, off, add, _go_, _yields_, done, must, verdict}
-use Rattle.tzb_core.specs.Box.{contains, relevant, right}
+use Rattle.boxes.specs.Box.{contains, relevant, right}
 use Rattle.tzb_core.specs.Ray.{rayOf, parityOf}
 use Rattle.tzb_core.specs.Scan.{past}
 use Rattle.reader_opened.specs.declared.Opened.{Opened}

@@ -12,7 +12,7 @@ use Rattle.plane.specs.declared.I32Point.{I32Point}
 use Rattle.plane.specs.Domain.{inDomain}
 use Rattle.answer.specs.declared.Refusal.{Refusal}
 use Rattle.answer.specs.Answers.{Answer, ok, refused, no, _then_, need}
-use Rattle.tzb_core.specs.Box.{contains}
+use Rattle.boxes.specs.Box.{contains}
 use Rattle.tzb_core.specs.Ray.{pointOf}
 use Rattle.reader_opened.specs.declared.Opened.{Opened}
 use Rattle.reader_records.specs.declared.ListRecord.{ListRecord}

@@ -104,7 +104,7 @@ fn past_segment(a: I32Point, b: I32Point, p: Point) -> Went
 fn joint(p: Point, a: I32Point, b: I32Point) -> Went
     ensures { λ r. ⌜ went r ≡ jointOf p a b ⌝ }
 {
-    if tzb_core::bbox::same_point(a, b) {
+    if boxes::same_point(a, b) {
         Went::Off(false)
     } else {
         past_segment(a, b, p)
@@ -388,7 +388,7 @@ pub fn contains(o: Opened, s: &[u8], zone: u32, x: i32, y: i32) -> Verdict
         return Verdict::Refused(answer::refuse(45));
     }
     let q = I32Point { x, y };
-    if tzb_core::bbox::point_in_domain(q) {
+    if boxes::point_in_domain(q) {
         timezone_contains(
             o,
             s,

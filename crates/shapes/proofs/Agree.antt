@@ -12,8 +12,8 @@ use Rattle.plane.specs.Tally.{_⊕_, none, verdict}
 use Rattle.plane.specs.Segment.{same}
 use Rattle.plane.specs.Domain.{inDomain}
 use Rattle.plane.specs.Lines.{every, every-last, some-agree, lastFrom, chain, link, Stretch, stretch-is, onward, around}
-use Rattle.tzb_core.specs.declared.bbox.BBox.{BBox}
-use Rattle.tzb_core.specs.Box.{boxInDomain}
+use Rattle.boxes.specs.declared.BBox.{BBox}
+use Rattle.boxes.specs.Box.{boxInDomain}
 use Rattle.shapes.specs.Shapes.{Chunk, Group, Leg, Ring, Polygon, Zone, groupChunks, chunkPoints, chunkInDomain, groupInDomain, legInDomain, ringInDomain, polygonInDomain, zoneInDomain}
 use Rattle.shapes.specs.Walk.{Tests, goal, parity, joint, chunkWalk, chunksWalk, groupWalk, legWalk, ringWalk, polygonWalk, zoneWalk}
 

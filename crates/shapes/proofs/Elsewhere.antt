@@ -11,8 +11,8 @@ use Rattle.plane.specs.declared.I32Point.{I32Point}
 use Rattle.plane.specs.Lines.{every, some}
 use Rattle.plane.specs.Segment.{seg}
 use Rattle.plane.specs.Domain.{within, inDomain}
-use Rattle.tzb_core.specs.declared.bbox.BBox.{BBox}
-use Rattle.tzb_core.specs.Box.{ordered, least, greatest, boxInDomain}
+use Rattle.boxes.specs.declared.BBox.{BBox}
+use Rattle.boxes.specs.Box.{ordered, least, greatest, boxInDomain}
 use Rattle.shapes.specs.Shapes.{Zone, inBox, zoneFits, polygonInDomain, zoneInDomain, zoneIn}
 use Rattle.shapes.specs.Walk.{wholeTests, polygonWalk, zoneWalk}
 use Rattle.shapes.proofs.Sound.{sides}

@@ -10,7 +10,7 @@ use Rattle.plane.specs.Segment.{seg}
 use Rattle.plane.specs.Domain.{inDomain}
 use Rattle.plane.specs.Lines.{every}
 use Rattle.plane.specs.Runs.{run}
-use Rattle.tzb_core.specs.Box.{boxInDomain}
+use Rattle.boxes.specs.Box.{boxInDomain}
 use Rattle.tzb_core.specs.Ray.{pointOf}
 use Rattle.shapes.specs.Shapes.{groupChunks, zoneIn, chunkInDomain, groupInDomain, legInDomain, ringInDomain, polygonInDomain, zoneInDomain}
 use Rattle.shapes.specs.Walk.{floatTests, wholeTests, zoneWalk}

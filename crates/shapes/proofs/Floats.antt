@@ -10,8 +10,8 @@ use Rattle.basics.specs.Truth.{and-l, and-r}
 use Rattle.plane.specs.declared.I32Point.{I32Point}
 use Rattle.plane.specs.Segment.{seg}
 use Rattle.plane.specs.Domain.{inDomain, domain-x, domain-y}
-use Rattle.tzb_core.specs.declared.bbox.BBox.{BBox}
-use Rattle.tzb_core.specs.Box.{contains, relevant, right, ordered, least, greatest, boxInDomain}
+use Rattle.boxes.specs.declared.BBox.{BBox}
+use Rattle.boxes.specs.Box.{contains, relevant, right, ordered, least, greatest, boxInDomain}
 use Rattle.tzb_core.specs.Ray.{pointOf}
 use Rattle.tzb_core.proofs.Order.{le-float, lt-float, above-float}
 use Rattle.tzb_core.proofs.Exact.{ray-exact}

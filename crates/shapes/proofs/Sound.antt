@@ -13,7 +13,7 @@ use Rattle.plane.specs.Tally.{_⊕_, none, ⊕-idr, verdict}
 use Rattle.plane.specs.Segment.{same}
 use Rattle.plane.specs.Turns.{same-true}
 use Rattle.plane.specs.Lines.{every, some, every-append, every-prefix, every-weaken, every-last, some-agree, some-none, firstOf, lastOf, lastFrom, last-append, chain, line, chain-joint, chain-last, Stretch, stretch-is, around, stretch, ringTally, stretch-reverse, chain-tells, line-tells, Tells, AllTell, around-tells}
-use Rattle.tzb_core.specs.declared.bbox.BBox.{BBox}
+use Rattle.boxes.specs.declared.BBox.{BBox}
 use Rattle.shapes.specs.Shapes.{Chunk, Group, Leg, Ring, Polygon, Zone, points, groupChunks, groupPoints, legPoints, ringIn, polygonIn, zoneIn, inBox, covers, next, chunksFit, groupFits, legFits, ringFits, polygonFits, zoneFits}
 use Rattle.shapes.specs.Walk.{Tests, goal, parity, joint, chunkWalk, chunksWalk, groupWalk, legWalk, ringWalk, polygonWalk, zoneWalk}
 

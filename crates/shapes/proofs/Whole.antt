@@ -10,7 +10,7 @@ use Rattle.plane.specs.declared.Seen.the-variants.{Off}
 use Rattle.plane.specs.Tally.{none}
 use Rattle.plane.specs.Segment.{seg, above}
 use Rattle.plane.specs.Turns.{seg-swap, seg-left, seg-right, seg-under, seg-over}
-use Rattle.tzb_core.specs.declared.bbox.BBox.{BBox}
+use Rattle.boxes.specs.declared.BBox.{BBox}
 use Rattle.shapes.specs.Shapes.{Zone, inBox, zoneFits, zoneIn}
 use Rattle.shapes.specs.Walk.{wholeTests, zoneWalk}
 use Rattle.shapes.proofs.Sound.{sides, Laws, zone-walk}

@@ -8,8 +8,8 @@ use Rattle.plane.specs.declared.I32Point.{I32Point}
 use Rattle.plane.specs.Segment.{cross, amidZ, onZ, countsZ, seg, above, same}
 use Rattle.plane.specs.Domain.{inDomain}
 use Rattle.plane.specs.Lines.{every}
-use Rattle.tzb_core.specs.declared.bbox.BBox.{BBox}
-use Rattle.tzb_core.specs.Box.{ordered, boxInDomain}
+use Rattle.boxes.specs.declared.BBox.{BBox}
+use Rattle.boxes.specs.Box.{ordered, boxInDomain}
 use Rattle.shapes.specs.Shapes.{Group, Leg, Zone, inBox, covers, chunksFit, groupFits, legFits, ringFits, polygonFits, zoneFits, ringIn, polygonIn, zoneIn, chunkInDomain, groupInDomain, legInDomain, ringInDomain, polygonInDomain, zoneInDomain}
 use Rattle.shapes.specs.Walk.{wholeTests, chunkWalk, chunksWalk, groupWalk, legWalk, ringWalk, polygonWalk, zoneWalk}
 

@@ -8,8 +8,8 @@ use Rattle.plane.specs.Domain.{inDomain}
 use Rattle.plane.specs.Segment.{same}
 use Rattle.plane.specs.Lines.{every, lastOf}
 use Rattle.plane.specs.Runs.{run}
-use Rattle.tzb_core.specs.declared.bbox.BBox.{BBox}
-use Rattle.tzb_core.specs.Box.{boxInDomain}
+use Rattle.boxes.specs.declared.BBox.{BBox}
+use Rattle.boxes.specs.Box.{boxInDomain}
 use Rattle.shapes.specs.Shapes.{Chunk, Group, Leg, Ring, Polygon, Zone, chunkPoints, inBox, covers, chunkInDomain}
 
 -- a record: its box, and the run of records of the directory below that it names

@@ -9,8 +9,8 @@ use Rattle.plane.specs.Tally.{verdict}
 use Rattle.plane.specs.Segment.{same}
 use Rattle.plane.specs.Domain.{inDomain}
 use Rattle.plane.specs.Lines.{every, some, firstOf, lastOf, ringTally}
-use Rattle.tzb_core.specs.declared.bbox.BBox.{BBox}
-use Rattle.tzb_core.specs.Box.{boxInDomain}
+use Rattle.boxes.specs.declared.BBox.{BBox}
+use Rattle.boxes.specs.Box.{boxInDomain}
 
 -- ---- the shapes
 -- a box, and at least one point

@@ -11,8 +11,8 @@ use Rattle.plane.specs.declared.Seen.the-variants.{Off}
 use Rattle.plane.specs.Tally.{_⊕_, none, verdict}
 use Rattle.plane.specs.Segment.{seg, above}
 use Rattle.plane.specs.Lines.{some, lastFrom, chain, Stretch, around}
-use Rattle.tzb_core.specs.declared.bbox.BBox.{BBox}
-use Rattle.tzb_core.specs.Box as Box
+use Rattle.boxes.specs.declared.BBox.{BBox}
+use Rattle.boxes.specs.Box as Box
 use Rattle.tzb_core.specs.Ray.{rayOf, aboveOf}
 use Rattle.shapes.specs.Shapes.{Chunk, Group, Leg, Ring, Polygon, Zone, groupChunks, inBox}
 

@@ -12,7 +12,7 @@ use Rattle.plane.specs.declared.Point.{Point}
 use Rattle.plane.specs.declared.I32Point.{I32Point}
 use Rattle.plane.specs.declared.Seen.{Seen}
 use Rattle.plane.specs.declared.Seen.the-variants.{On, Off}
-use Rattle.tzb_core.specs.declared.bbox.BBox.{BBox}
+use Rattle.boxes.specs.declared.BBox.{BBox}
 use Rattle.reader_grid.specs.Asked.{Chosen, none, all, listed}
 use Rattle.reader_lookup.specs.Asking.{Sought, nowhere, inZone}
 use Rattle.reader_check.specs.FullCheck.{Outcome, accepted, refusedBy, brokenAt}

@@ -5,21 +5,14 @@ use Prim.Native.Nat.{ℕ}
 use lib.IntN.{ℤ}
 use Rattle.basics.specs.Determined.{Determined}
 use Rattle.answer.specs.Answers.{Answer, ok}
-use Rattle.tzb_core.specs.Box.{summed}
+use Rattle.tzb_core.specs.Delta.{summed}
 use Rattle.tzb_core.specs.Varint.{told}
-use Rattle.tzb_core.specs.declared.bbox.Sum.{Sum}
-use Rattle.tzb_core.specs.declared.bbox.Sum.the-variants as S
+use Rattle.tzb_core.specs.declared.delta.Sum.{Sum}
+use Rattle.tzb_core.specs.declared.delta.Sum.the-variants as S
 use Rattle.tzb_core.specs.declared.varint.Place.{Place}
 use Rattle.tzb_core.specs.declared.varint.Read.{Read}
 use Rattle.tzb_core.specs.declared.varint.Read.the-variants as R
-use Rattle.tzb_core.proofs.bbox.BBox.ordered.Reads as ordered-reads
-use Rattle.tzb_core.proofs.bbox.BBox.in_domain.Reads as in-domain-reads
-use Rattle.tzb_core.proofs.bbox.BBox.contains.Reads as contains-reads
-use Rattle.tzb_core.proofs.bbox.BBox.relevant.Reads as relevant-reads
-use Rattle.tzb_core.proofs.bbox.BBox.right.Reads as right-reads
-use Rattle.tzb_core.proofs.bbox.point_in_domain.Reads as point-in-domain-reads
-use Rattle.tzb_core.proofs.bbox.same_point.Reads as same-point-reads
-use Rattle.tzb_core.proofs.bbox.add_delta.Reads as add-delta-reads
+use Rattle.tzb_core.proofs.delta.add_delta.Reads as add-delta-reads
 use Rattle.tzb_core.proofs.varint.unzigzag.Reads as unzigzag-reads
 use Rattle.tzb_core.proofs.varint.Place.at_end.Reads as at-end-reads
 use Rattle.tzb_core.proofs.varint.Place.varint.Reads as varint-reads
@@ -41,27 +34,6 @@ one-read (R.Number x p) (R.Number y q) z e f = one-number x y p q (e ∙ sym f)
 one-read (R.Number x p) (R.Refused k) z e f = cc
 one-read (R.Refused k) (R.Number x p) z e f = cc
 one-read (R.Refused k) (R.Refused l) z e f = cc
-
-pub ordered : Determined ordered-reads.Learnt
-ordered κ a r r' e e' p q = p ∙ sym q
-
-pub in-domain : Determined in-domain-reads.Learnt
-in-domain κ a r r' e e' p q = p ∙ sym q
-
-pub contains : Determined contains-reads.Learnt
-contains κ a r r' e e' p q = p ∙ sym q
-
-pub relevant : Determined relevant-reads.Learnt
-relevant κ a r r' e e' p q = p ∙ sym q
-
-pub right : Determined right-reads.Learnt
-right κ a r r' e e' p q = p ∙ sym q
-
-pub point-in-domain : Determined point-in-domain-reads.Learnt
-point-in-domain κ a r r' e e' p q = p ∙ sym q
-
-pub same-point : Determined same-point-reads.Learnt
-same-point κ a r r' e e' p q = p ∙ sym q
 
 pub add-delta : Determined add-delta-reads.Learnt
 add-delta κ a r r' e e' p q = one-sum r r' _ p q

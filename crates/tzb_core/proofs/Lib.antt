@@ -1,15 +1,12 @@
 -- What is proved of the lower crate's definitions, and what its functions' proofs share.
--- numbers and boxes
+-- numbers and deltas
 pub mod Sums
-pub mod Equals
-pub mod Corners
 pub mod Digits
 pub mod Shortest
 pub mod Places
 pub mod Unreadable
 pub mod Determined
 -- the ray test
-pub mod Steps
 pub mod Pattern
 pub mod Sides
 pub mod Floats

@@ -19,12 +19,12 @@ use Rattle.plane.specs.declared.Point.{Point}
 use Rattle.plane.specs.declared.I32Point.{I32Point}
 use Rattle.plane.specs.declared.Seen.the-variants.{Off}
 use Rattle.plane.specs.Domain.{inDomain, within, domain-y}
-use Rattle.tzb_core.specs.Box.{float}
+use Rattle.boxes.specs.Box.{float}
 use Rattle.tzb_core.specs.Ray.{rayAt, rayOf}
 use Rattle.tzb_core.specs.Scan.{Around, aside}
 use Rattle.tzb_core.specs.declared.chunk.Band.{Band}
 use Rattle.tzb_core.proofs.Floats.{at, In, fine}
-use Rattle.tzb_core.proofs.Steps.{yes-is}
+use Rattle.basics.specs.Picked.{yes-is}
 use Rattle.tzb_core.proofs.Order.{nat, nat-in, nat-at, lt-float}
 
 -- ---- the whole part of a size n / c, with all that is below 2 ^ 63 kept

@@ -8,8 +8,8 @@ use Rattle.plane.specs.declared.Point.{Point}
 use Rattle.plane.specs.declared.I32Point.{I32Point}
 use Rattle.plane.specs.declared.Seen.the-variants.{On, Off}
 use Rattle.plane.specs.Segment.{seg, cross, onZ, countsZ, amidZ}
-use Rattle.tzb_core.specs.declared.bbox.BBox.{BBox}
-use Rattle.tzb_core.specs.Box.{relevant, right}
+use Rattle.boxes.specs.declared.BBox.{BBox}
+use Rattle.boxes.specs.Box.{relevant, right}
 use Rattle.tzb_core.specs.Ray.{rayOf, rayAt, touches, aboveOf, parityOf, pointOf}
 
 abbrev pub spot : ℤ → ℤ → I32Point

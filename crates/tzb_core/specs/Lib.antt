@@ -1,6 +1,6 @@
--- What the lower crate answers: numbers, boxes, the ray test, chunks.
+-- What the lower crate answers: numbers, deltas, the ray test, chunks.
 pub mod Varint
-pub mod Box
+pub mod Delta
 pub mod Ray
 pub mod Points
 pub mod Scan

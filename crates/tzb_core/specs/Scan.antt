@@ -18,7 +18,7 @@ use Rattle.plane.specs.declared.Point.{Point}
 use Rattle.plane.specs.declared.I32Point.{I32Point}
 use Rattle.plane.specs.declared.Seen.{Seen}
 use Rattle.plane.specs.declared.Seen.the-variants.{On, Off}
-use Rattle.tzb_core.specs.Box.{float}
+use Rattle.boxes.specs.Box.{float}
 use Rattle.tzb_core.specs.Ray.{rayOf}
 use Rattle.tzb_core.specs.Varint.{atEnd}
 use Rattle.tzb_core.specs.Points.{firstOf, nextAt}

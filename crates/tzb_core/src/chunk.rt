@@ -9,8 +9,8 @@ ghost use Rattle.tzb_core.specs.Points.{spotted, moved, movedBy, numbers
 ghost use Rattle.tzb_core.specs.Ray.{rayOf};
 ghost use Rattle.tzb_core.specs.Scan.{scanned, onward, scanOf, Around, bothBelow, bothAbove, aside};
 ghost use Rattle.tzb_core.specs.Decode.{outcome, pointsFrom, led, filled, decodeOf, decoded, put, readFrom};
-use crate::bbox;
-use crate::bbox::Sum;
+use crate::delta;
+use crate::delta::Sum;
 use crate::raycast;
 use crate::varint::Place;
 use crate::varint::Read;
@@ -72,11 +72,11 @@ fn numbers(s: &[u8], at: Place) -> Spotted
 fn shifted(q: I32Point, d: I32Point) -> Moved
     ensures { λ r. ⌜ moved r ≡ movedBy q d ⌝ }
 {
-    let a = bbox::add_delta(q.x, d.x);
+    let a = delta::add_delta(q.x, d.x);
     match a {
         Sum::Refused(k) => Moved::Refused(k),
         Sum::Of(x) => {
-            let b = bbox::add_delta(q.y, d.y);
+            let b = delta::add_delta(q.y, d.y);
             match b {
                 Sum::Refused(k) => Moved::Refused(k),
                 Sum::Of(y) => Moved::To(I32Point { x, y }),
@@ -89,7 +89,7 @@ fn shifted(q: I32Point, d: I32Point) -> Moved
 fn inside_at(q: I32Point, n: Place) -> Spotted
     ensures { λ r. ⌜ spotted r ≡ inside q (n .at) ⌝ }
 {
-    if bbox::point_in_domain(q) {
+    if boxes::point_in_domain(q) {
         Spotted::At(q, n)
     } else {
         Spotted::Refused(answer::refuse(42))
@@ -135,7 +135,7 @@ fn turn(q: I32Point, half: bool, x: i32, number: i32) -> Turned
     match m {
         Moved::Refused(k) => Turned::Refused(k),
         Moved::To(t) => {
-            if bbox::point_in_domain(t) {
+            if boxes::point_in_domain(t) {
                 Turned::To(t)
             } else {
                 Turned::Refused(answer::refuse(42))

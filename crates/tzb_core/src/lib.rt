@@ -1,5 +1,5 @@
-// The lower crate: boxes, the ray test and the chunk code. What stands above it sees only their promises.
-pub mod bbox;
+// The lower crate: the ray test and the chunk code. What stands above it sees only their promises.
 pub mod chunk;
+pub mod delta;
 pub mod raycast;
 pub mod varint;

@@ -6,7 +6,7 @@ use mir.Syntax.{w16, w64}
 use Rattle.answer.specs.CheckLaws.{told-yes, told-no}
 use Rattle.reader_grid.proofs.Asking.{off-earth, no-grid, by-grid}
 use Rattle.reader_grid.specs.Floor.{floorOf}
-use Rattle.reader_grid.proofs.Numbers.{back}
+use Rattle.basics.specs.Signed.{back}
 use Rattle.reader_grid.proofs.Bounds.{lng-small, lat-small}
 use borrow.Author.Needs.{needs}
 use Rattle.reader_grid.proofs.candidates.Statement.{statement}

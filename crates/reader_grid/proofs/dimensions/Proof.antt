@@ -5,7 +5,7 @@ use lib.IntN.{ℤ}
 use mir.Syntax.{w16, w32}
 use borrow.Author.Needs.{needs}
 use Rattle.reader_grid.specs.Grid.{lastOf, dimensions}
-use Rattle.reader_grid.proofs.Numbers.{back}
+use Rattle.basics.specs.Signed.{back}
 use Rattle.reader_grid.proofs.dimensions.Statement.{statement}
 use Rattle.reader_grid.proofs.dimensions.Tie as tie
 

@@ -2,7 +2,7 @@
 -- Assumes nothing.
 use mathlib.Core.Path.{sym, ap, _∙_}
 use mir.Syntax.{w32}
-use Rattle.tzb_core.proofs.Sums.{back}
+use Rattle.basics.specs.Signed.{back}
 use Rattle.tzb.specs.declared.FullCheck.{FullCheck}
 use Rattle.tzb.specs.FullCheck.{checkTold}
 use Rattle.tzb_c.specs.Exports.{checkCode}

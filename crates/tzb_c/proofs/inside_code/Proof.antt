@@ -5,7 +5,7 @@ use mathlib.Core.Bool.{Bool}
 use mir.Syntax.{w32}
 use Rattle.answer.specs.Answers.{ok}
 use Rattle.reader_rings.specs.declared.Verdict.{Verdict}
-use Rattle.tzb_core.proofs.Sums.{back}
+use Rattle.basics.specs.Signed.{back}
 use Rattle.tzb_asked.specs.Asked.{verdictTold}
 use Rattle.tzb_c.specs.Exports.{insideCode}
 use borrow.Author.Needs.{needs}

@@ -5,7 +5,7 @@ use lib.IntN.{ℤ}
 use mir.Syntax.{w32}
 use mir.ValLaws.{toZ-ofZ}
 use Rattle.tzb_core.specs.Points.{point}
-use Rattle.tzb_core.proofs.Sums.{back}
+use Rattle.basics.specs.Signed.{back}
 use Rattle.tzb_asked.specs.Asked.{containsAsked}
 use Rattle.tzb_c.specs.Exports.{insideCode}
 use borrow.Author.Needs.{needs}

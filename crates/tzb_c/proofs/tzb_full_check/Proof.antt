@@ -2,7 +2,7 @@
 -- Assumes nothing.
 use mathlib.Core.Path.{ap, _∙_}
 use mir.Syntax.{w32}
-use Rattle.tzb_core.proofs.Sums.{back}
+use Rattle.basics.specs.Signed.{back}
 use Rattle.tzb_c.specs.Exports.{checkCode}
 use borrow.Author.Needs.{needs}
 use Rattle.tzb_c.proofs.tzb_full_check.Statement.{statement}

@@ -4,7 +4,7 @@ use mathlib.Core.Path.{sym, ap, _∙_}
 use lib.ListN.{length}
 use mir.Syntax.{w32}
 use Rattle.tzb_core.proofs.Decoded.{outcome-no, outcome-fine}
-use Rattle.tzb_core.proofs.Sums.{back}
+use Rattle.basics.specs.Signed.{back}
 use Rattle.tzb_asked.specs.Asked.{endsAsked}
 use Rattle.tzb_c.specs.Exports.{doneCode}
 use borrow.Author.Needs.{needs}

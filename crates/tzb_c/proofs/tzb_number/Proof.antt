@@ -3,7 +3,7 @@
 use mathlib.Core.Path.{sym, ap, _∙_}
 use borrow.Author.Needs.{needs}
 use mir.Syntax.{w32}
-use Rattle.tzb_core.proofs.Sums.{back}
+use Rattle.basics.specs.Signed.{back}
 use Rattle.tzb_core.specs.Varint.{told}
 use Rattle.tzb_c.specs.Exports.{number-no, number-is}
 use Rattle.tzb_c.proofs.tzb_number.Statement.{statement}

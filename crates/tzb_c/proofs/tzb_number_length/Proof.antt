@@ -6,7 +6,7 @@ use borrow.Author.Needs.{needs}
 use mir.Syntax.{w32}
 use mir.ValLaws.{toZ-pos}
 use Rattle.tzb_core.specs.Varint.{told}
-use Rattle.tzb_core.proofs.Sums.{back}
+use Rattle.basics.specs.Signed.{back}
 use Rattle.tzb_core.proofs.Places.{number-place}
 use Rattle.tzb_c.specs.Exports.{length-no, length-is}
 use Rattle.tzb_c.proofs.tzb_number_length.Statement.{statement}

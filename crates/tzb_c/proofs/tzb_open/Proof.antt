@@ -2,7 +2,7 @@
 -- Assumes nothing.
 use mathlib.Core.Path.{sym, ap, _∙_}
 use mir.Syntax.{w32}
-use Rattle.tzb_core.proofs.Sums.{back}
+use Rattle.basics.specs.Signed.{back}
 use Rattle.tzb.specs.Opening.{told}
 use Rattle.tzb_c.specs.Exports.{doneCode}
 use Rattle.tzb_c.specs.Opens.{open-barred, open-full, open-fine, kept-no, kept-full, kept-is}

@@ -4,7 +4,7 @@ use native.Mathlib.Omega.{arith}
 use mathlib.Core.Path.{sym, refl, ap, _∙_}
 use mir.Syntax.{w64}
 use mir.ValLaws.{toZ-pos}
-use Rattle.tzb_core.proofs.Sums.{back}
+use Rattle.basics.specs.Signed.{back}
 use Rattle.tzb_record.specs.Layout.{told}
 use Rattle.tzb_asked.specs.Asked.{zonesAsked, barred, asked}
 use Rattle.tzb_c.specs.Exports.{numberCode}

@@ -7,7 +7,7 @@ use lib.Ieee.{ofBits, neg}
 use mir.Syntax.{w32, w64}
 use mir.ValLaws.{toZ-ofZ}
 use Rattle.tzb_core.specs.Scan.{Around}
-use Rattle.tzb_core.proofs.Sums.{back}
+use Rattle.basics.specs.Signed.{back}
 use Rattle.tzb_core.proofs.Skips.{around-cut, around-all, within-fits}
 use Rattle.tzb_core.proofs.chunk.band_at.Statement.{statement}
 use Rattle.tzb_core.proofs.chunk.band_at.Tie as tie

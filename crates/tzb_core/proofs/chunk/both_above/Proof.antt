@@ -4,7 +4,7 @@ use mathlib.Core.Path.{sym, ap₂, _∙_}
 use lib.Signed.{ltZ}
 use mir.Syntax.{w32}
 use mir.ValLaws.{toZ-ofZ}
-use Rattle.tzb_core.proofs.Steps.{and-yes, and-no}
+use Rattle.basics.specs.Picked.{and-yes, and-no}
 use Rattle.tzb_core.proofs.chunk.both_above.Statement.{statement}
 use Rattle.tzb_core.proofs.chunk.both_above.Tie as tie
 

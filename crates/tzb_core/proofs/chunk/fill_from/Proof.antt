@@ -11,7 +11,7 @@ use mir.Val.{toZ, ofZ}
 use Rattle.answer.specs.Answers.{ok}
 use Rattle.tzb_core.specs.Varint.{told, numberAt}
 use Rattle.tzb_core.specs.Decode.{outcome, pointsFrom, put, readFrom}
-use Rattle.tzb_core.proofs.Sums.{back}
+use Rattle.basics.specs.Signed.{back}
 use Rattle.tzb_core.proofs.Decoded.{put-end, put-on}
 use Rattle.tzb_core.proofs.Turns.{nextOf, turn-none, turn-no, turn-half, turn-to, half-less, point-less, pointsBy, readBy, points-by, read-by, check-no, check-on, check-there, check-end, read-no, read-on, read-end}
 use borrow.Author.Needs.{needs}

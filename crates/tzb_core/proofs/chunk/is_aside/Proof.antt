@@ -6,7 +6,7 @@ use lib.IntN.{ℤ}
 use lib.Signed.{ltZ}
 use mir.Syntax.{w32}
 use Rattle.tzb_core.specs.Scan.{aside, bothBelow, bothAbove}
-use Rattle.tzb_core.proofs.Sums.{back}
+use Rattle.basics.specs.Signed.{back}
 use borrow.Author.Needs.{needs}
 use Rattle.tzb_core.proofs.chunk.is_aside.Statement.{statement}
 use Rattle.tzb_core.proofs.chunk.is_aside.Tie as tie

@@ -8,7 +8,7 @@ use mir.Val.{toZ, ofZ}
 use mir.Val.{SFits}
 use mir.ValLaws.{toZ-ofZ}
 use Rattle.tzb_core.specs.Scan.{bothBelow, bothAbove}
-use Rattle.tzb_core.proofs.Steps.{or-yes, or-no}
+use Rattle.basics.specs.Picked.{or-yes, or-no}
 use borrow.Author.Needs.{needs}
 use Rattle.tzb_core.proofs.chunk.is_beyond.Statement.{statement}
 use Rattle.tzb_core.proofs.chunk.is_beyond.Tie as tie

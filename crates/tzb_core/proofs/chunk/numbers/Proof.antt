@@ -6,7 +6,7 @@ use mir.Syntax.{w32}
 use Rattle.answer.specs.Answers.{ok}
 use Rattle.tzb_core.specs.Varint.{told}
 use Rattle.tzb_core.specs.Points.{point, numbers-first, numbers-second, numbers-both}
-use Rattle.tzb_core.proofs.Sums.{back}
+use Rattle.basics.specs.Signed.{back}
 use borrow.Author.Needs.{needs}
 use Rattle.tzb_core.proofs.chunk.numbers.Statement.{statement}
 use Rattle.tzb_core.proofs.chunk.numbers.Tie as tie

@@ -13,7 +13,7 @@ use Rattle.plane.specs.Domain.{inDomain}
 use Rattle.tzb_core.specs.Varint.{told, numberAt}
 use Rattle.tzb_core.specs.Scan.{onward}
 use Rattle.tzb_core.proofs.Turns.{nextOf, onwardBy, onward-by, turn-none, turn-no, turn-half, turn-to, turn-in, half-less, point-less, by-left, by-end, by-no, by-on, by-off, by-there}
-use Rattle.tzb_core.proofs.Sums.{back}
+use Rattle.basics.specs.Signed.{back}
 use borrow.Author.Needs.{needs}
 use Rattle.tzb_core.proofs.chunk.scan_from.Statement.{statement}
 use Rattle.tzb_core.proofs.chunk.scan_from.Tie as tie

@@ -4,9 +4,9 @@ use mathlib.Core.Path.{_≡_, sym, ap, ap₂, _∙_}
 use lib.IntN.{ℤ}
 use mir.Syntax.{w32}
 use Rattle.answer.specs.Answers.{ok}
-use Rattle.tzb_core.specs.Box.{addDelta, summed}
+use Rattle.tzb_core.specs.Delta.{addDelta, summed}
 use Rattle.tzb_core.specs.Points.{point, moved-x, moved-y, moved-to}
-use Rattle.tzb_core.proofs.Sums.{back}
+use Rattle.basics.specs.Signed.{back}
 use borrow.Author.Needs.{needs}
 use Rattle.tzb_core.proofs.chunk.shifted.Statement.{statement}
 use Rattle.tzb_core.proofs.chunk.shifted.Tie as tie

@@ -1,7 +1,7 @@
 -- `raycast::is_between` meets its contract: each branch is one case of the definition.
 -- Assumes nothing.
 use mathlib.Core.Path.{refl}
-use Rattle.tzb_core.proofs.Steps.{yes-is, no-is}
+use Rattle.basics.specs.Picked.{yes-is, no-is}
 use Rattle.tzb_core.proofs.raycast.is_between.Statement.{statement}
 use Rattle.tzb_core.proofs.raycast.is_between.Tie as tie
 

@@ -1,7 +1,7 @@
 -- `raycast::is_level` meets its contract: each branch is one case of the definition.
 -- Assumes nothing.
 use borrow.Author.Needs.{needs}
-use Rattle.tzb_core.proofs.Steps.{and-yes, and-no}
+use Rattle.basics.specs.Picked.{and-yes, and-no}
 use Rattle.tzb_core.proofs.raycast.is_level.Statement.{statement}
 use Rattle.tzb_core.proofs.raycast.is_level.Tie as tie
 

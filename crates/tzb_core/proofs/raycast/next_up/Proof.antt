@@ -9,7 +9,7 @@ use borrow.Author.Needs.{needs}
 use borrow.Author.Tests.{eq-eqb, ne-eqb}
 use Rattle.rounding.specs.Upward.{nextUp}
 use Rattle.tzb_core.proofs.Pattern.{not-nan, step-not-nan}
-use Rattle.tzb_core.proofs.Steps.{yes-is, no-is}
+use Rattle.basics.specs.Picked.{yes-is, no-is}
 use Rattle.tzb_core.proofs.raycast.next_up.Statement.{statement}
 use Rattle.tzb_core.proofs.raycast.next_up.Tie as tie
 

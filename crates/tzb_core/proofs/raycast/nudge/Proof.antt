@@ -2,7 +2,7 @@
 -- Assumes nothing.
 use mathlib.Core.Path.{refl}
 use borrow.Author.Needs.{needs}
-use Rattle.tzb_core.proofs.Steps.{yes-is, no-is}
+use Rattle.basics.specs.Picked.{yes-is, no-is}
 use Rattle.tzb_core.proofs.raycast.nudge.Statement.{statement}
 use Rattle.tzb_core.proofs.raycast.nudge.Tie as tie
 

@@ -4,7 +4,7 @@ use mathlib.Core.Path.{refl, sym, ap, _∙_}
 use borrow.Author.Needs.{needs}
 use Rattle.plane.specs.declared.Seen.the-variants.{Off}
 use Rattle.tzb_core.specs.Ray.{rayAt, crosses}
-use Rattle.tzb_core.proofs.Steps.{yes-is, no-is}
+use Rattle.basics.specs.Picked.{yes-is, no-is}
 use Rattle.tzb_core.proofs.raycast.ray_at.Statement.{statement}
 use Rattle.tzb_core.proofs.raycast.ray_at.Tie as tie
 

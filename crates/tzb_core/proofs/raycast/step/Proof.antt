@@ -3,7 +3,7 @@
 use mathlib.Core.Path.{refl}
 use borrow.Author.Needs.{needs}
 use borrow.Author.Tests.{lt-ltb, le-ltb, eq-eqb, ne-eqb}
-use Rattle.tzb_core.proofs.Steps.{yes-is, no-is}
+use Rattle.basics.specs.Picked.{yes-is, no-is}
 use Rattle.tzb_core.proofs.raycast.step.Statement.{statement}
 use Rattle.tzb_core.proofs.raycast.step.Tie as tie
 

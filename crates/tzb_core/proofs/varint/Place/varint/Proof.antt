@@ -4,7 +4,7 @@ use mathlib.Core.Path.{sym, ap, _∙_}
 use mir.Syntax.{w32}
 use borrow.Author.Needs.{needs}
 use Rattle.tzb_core.specs.Varint.{digitsTold, number-ok, number-no}
-use Rattle.tzb_core.proofs.Sums.{back}
+use Rattle.basics.specs.Signed.{back}
 use Rattle.tzb_core.proofs.varint.Place.varint.Statement.{statement}
 use Rattle.tzb_core.proofs.varint.Place.varint.Tie as tie
 

@@ -1,0 +1,2 @@
+-- What a box answers.
+pub mod Box

@@ -1,0 +1,31 @@
+-- Document 01's delta sum ("Chunk bytes"): a delta added to the coordinate before it.
+-- Assumes nothing.
+use mathlib.Core.Path.{_≡_}
+use mathlib.Core.Bool.{Bool, true, false, _&&_}
+use lib.IntN.{ℤ, pos, negsuc, _+ℤ_}
+use lib.Signed.{leZ}
+use Rattle.answer.specs.Answers.{Answer, ok, refused, no, need}
+use Rattle.tzb_core.specs.declared.delta.Sum.{Sum}
+use Rattle.tzb_core.specs.declared.delta.Sum.the-variants.{Of, Refused}
+
+-- within i32
+unfoldable pub fits32 : ℤ → Bool
+fits32 z = leZ (negsuc 2_147_483_647) z && leZ z (pos 2_147_483_647)
+
+-- a delta added to the coordinate before it: a sum outside i32 is 41
+unfoldable pub addDelta : ℤ → ℤ → Answer ℤ
+addDelta before delta = need 41 (fits32 (before +ℤ delta)) (ok (before +ℤ delta))
+
+-- what the enum of the code says
+abbrev pub summed : Sum → Answer ℤ
+summed (Of z) = ok z
+summed (Refused r) = refused r
+
+-- ---- laws
+pub sum-fits : (before delta z : ℤ) → z ≡ before +ℤ delta → fits32 z ≡ true → ok z ≡ addDelta before delta
+unfolding addDelta
+sum-fits before delta z e h = rw (← e, h)
+
+pub sum-over : (before delta : ℤ) → fits32 (before +ℤ delta) ≡ false → no 41 ≡ addDelta before delta
+unfolding addDelta
+sum-over before delta h = rw h
