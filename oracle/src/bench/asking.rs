@@ -192,7 +192,7 @@ impl Both<'_> {
 
 /// The original has none: its time beside that of opening.
 fn full_check(file: &[u8]) {
-    if !is_wanted("full check, a byte") {
+    if !is_wanted("full check, a byte") || std::env::var_os("COUNTS").is_some() {
         return;
     }
     let (data, length) = (file.as_ptr(), file.len());
