@@ -1,19 +1,19 @@
 -- Several bytes at once: where none has its top bit, each is a character.
 -- Assumes nothing.
-use mathlib.Core.Path.{_≡_, sym, ap, ap₂, _∙_}
-use mathlib.Core.Bool.{Bool, true, false, not, _||_, _&&_}
+use mathlib.Core.Path.{_≡_, refl, sym, ap, ap₂, _∙_, subst}
+use mathlib.Core.Bool.{Bool, true, false, not, _||_}
 use mathlib.Core.List.{List, []}
 use mathlib.Core.Option.{some}
-use Prim.Native.Nat.{ℕ, zero, suc, _+_, _*_, _≤_, _<_}
+use Prim.Native.Nat.{ℕ, zero, suc, _+_, _-_, _*_, _≤_, _<_}
 use native.Mathlib.Nat.{add-zero}
 use native.Mathlib.Omega.{arith}
 use lib.Bits.{bitAnd, and-block}
-use lib.Dec.{T, leb, ltb, eqb, ltb→lt}
+use lib.Dec.{T, ltb, eqb, ltb→lt}
 use lib.ListN.{length, getD, drop}
-use borrow.Author.Tests.{eq-eqb, eqb-true, leb-true, le-leb, lt-leb}
-use Rattle.basics.specs.Truth.{and-l, and-r}
+use borrow.Author.Tests.{eq-eqb, ltb-true, ltb-false}
 use Rattle.fields.specs.Le.{le}
 use Rattle.utf8.specs.Rfc3629.{on, utf8}
+use Rattle.utf8.specs.Parts.{Plain}
 use Rattle.utf8.proofs.Between.{between, lead-by}
 use Rattle.utf8.proofs.Steps.{begin}
 
@@ -35,34 +35,41 @@ passed b t e = go (eqb (bitAnd b 128) 0) (eq-eqb (bitAnd b 128) 0 e) t
 low : (b : ℕ) → b < 256 → bitAnd b 128 ≡ 0 → b < 128
 low b h e = passed b (between test 0 256 tt b (omega arith) (omega arith)) e
 
--- eight bytes are there, or not, as the code tests it
-pub too-few : (a b : ℕ) (t : Bool) → b < a → false ≡ (leb a b && t)
-too-few a b t h = rw (lt-leb a b h)
+-- one of them; one stretch, and the next
+pub one : (s : List ℕ) (i : ℕ) → getD s i 0 < 128 → Plain s i (i + 1)
+one s i h k a b = let e : i ≡ k = omega arith in subst (λ (j : ℕ). getD s j 0 < 128) e h
 
-pub enough : (a b x y m : ℕ) → a ≤ b → x ≡ y → eqb (bitAnd x m) 0 ≡ (leb a b && eqb (bitAnd y m) 0)
-enough a b x y m h e = rw (le-leb a b h, e)
+pub join : (s : List ℕ) (i m j : ℕ) → Plain s i m → Plain s m j → Plain s i j
+join s i m j f g k a b = go (ltb k m) refl
+  where
+    go : (t : Bool) → ltb k m ≡ t → getD s k 0 < 128
+    go true e = f k a (ltb-true k m e)
+    go false e = g k (ltb-false k m e) b
 
-module _ (s : List ℕ) (bytes : (i : ℕ) → getD s i 0 < 256) where
-  run : (n p : ℕ) → p + n ≤ length s → bitAnd (le n s p) (tops n) ≡ 0 → utf8 [] (drop p s) ≡ utf8 [] (drop (p + n) s)
-  unfolding le
-  run zero p h e = ap (λ (q : ℕ). utf8 [] (drop q s)) (sym (add-zero p))
-  run (suc n) p h e =
-      let b = getD s p 0 in
-      let l = le n s (p + 1) in
-      let x : b + 256 * l ≡ l * 256 + b = omega arith in
-      let y : 128 + 256 * tops n ≡ tops n * 256 + 128 = omega arith in
-      let z : bitAnd l (tops n) * 256 + bitAnd b 128 ≡ 0 = sym (ap₂ bitAnd x y ∙ and-block 8 l (tops n) b 128 (bytes p) (omega arith)) ∙ e in
-      let q : p + 1 + n ≡ p + suc n = omega arith in
-      begin s p (omega arith)
-      ∙ ap (λ o. on o (λ rs. utf8 rs (drop (p + 1) s))) (lead-by (some []) 0 128 b tt (omega arith) (low b (bytes p) (omega arith)))
-      ∙ run n (p + 1) (omega arith) (omega arith)
-      ∙ ap (λ (k : ℕ). utf8 [] (drop k s)) q
+-- n bytes, none of which has its top bit
+pub untopped : (s : List ℕ) → ((i : ℕ) → getD s i 0 < 256) → (n p : ℕ) → bitAnd (le n s p) (tops n) ≡ 0 → Plain s p (p + n)
+unfolding le
+untopped s bytes zero p e = λ k a b. absurd (omega arith)
+untopped s bytes (suc n) p e =
+    let c = getD s p 0 in
+    let l = le n s (p + 1) in
+    let x : c + 256 * l ≡ l * 256 + c = omega arith in
+    let y : 128 + 256 * tops n ≡ tops n * 256 + 128 = omega arith in
+    let z : bitAnd l (tops n) * 256 + bitAnd c 128 ≡ 0 = sym (ap₂ bitAnd x y ∙ and-block 8 l (tops n) c 128 (bytes p) (omega arith)) ∙ e in
+    let more = untopped s bytes n (p + 1) (omega arith) in
+    join s p (p + 1) (p + suc n) (one s p (low c (bytes p) (omega arith))) (λ k a b. more k a (omega arith))
 
-  -- past eight of them
-  pub eight : (p : ℕ) (r : Bool) → r ≡ (leb (p + 8) (length s) && eqb (bitAnd (le 8 s p) (tops 8)) 0) → r ≡ true
-      → (p + 8 ≤ length s) × (utf8 [] (drop p s) ≡ utf8 [] (drop (p + 8) s))
-  eight p r e t =
-      let w = sym e ∙ t in
-      let h = leb-true (p + 8) (length s) (and-l (leb (p + 8) (length s)) (eqb (bitAnd (le 8 s p) (tops 8)) 0) w) in
-      let z = eqb-true (bitAnd (le 8 s p) (tops 8)) 0 (and-r (leb (p + 8) (length s)) (eqb (bitAnd (le 8 s p) (tops 8)) 0) w) in
-      (h, run 8 p h z)
+-- past them
+pub passed-over : (s : List ℕ) (n p : ℕ) → p + n ≤ length s → Plain s p (p + n) → utf8 [] (drop p s) ≡ utf8 [] (drop (p + n) s)
+passed-over s zero p h f = ap (λ (q : ℕ). utf8 [] (drop q s)) (sym (add-zero p))
+passed-over s (suc n) p h f =
+    let q : p + 1 + n ≡ p + suc n = omega arith in
+    begin s p (omega arith)
+    ∙ ap (λ o. on o (λ rs. utf8 rs (drop (p + 1) s))) (lead-by (some []) 0 128 (getD s p 0) tt (omega arith) (f p (omega arith) (omega arith)))
+    ∙ passed-over s n (p + 1) (omega arith) (λ k a b. f k (omega arith) (omega arith))
+    ∙ ap (λ (k : ℕ). utf8 [] (drop k s)) q
+
+pub past-plain : (s : List ℕ) (i j : ℕ) → i ≤ j → j ≤ length s → Plain s i j → utf8 [] (drop i s) ≡ utf8 [] (drop j s)
+past-plain s i j a b f =
+    let e : i + (j - i) ≡ j = omega arith in
+    passed-over s (j - i) i (omega arith) (subst (Plain s i) (sym e) f) ∙ ap (λ (k : ℕ). utf8 [] (drop k s)) e

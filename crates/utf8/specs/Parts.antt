@@ -1,6 +1,6 @@
 -- What the parts of the code find: whether the octets at a place fit a row of ranges, and the size of a character that is there.
 -- Assumes nothing.
-use Prim.Native.Nat.{ℕ, _+_}
+use Prim.Native.Nat.{ℕ, _+_, _≤_, _<_}
 use mathlib.Core.Bool.{Bool, true, false, _&&_}
 use mathlib.Core.List.{List, [], _∷_}
 use lib.ListN.{getD}
@@ -15,3 +15,7 @@ fit (r ∷ rs) s p = within r (getD s p 0) && fit rs s (p + 1)
 abbrev pub sized : ℕ → Bool → ℕ
 sized n true = n
 sized n false = 0
+
+-- each of the octets from i up to j is a character
+abbrev pub Plain : List ℕ → ℕ → ℕ → Type 0
+Plain s i j = (k : ℕ) → i ≤ k → k < j → getD s k 0 < 128

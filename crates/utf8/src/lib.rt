@@ -1,14 +1,12 @@
 // UTF-8 by RFC 3629: are the bytes of a slice well formed?
 ghost use mathlib.Core.Path.{_≡_};
-ghost use mathlib.Core.Bool.{_&&_, not};
+ghost use mathlib.Core.Bool.{_&&_, not, true};
 ghost use mathlib.Core.List.{_∷_, []};
-ghost use Prim.Native.Nat.{_+_, _≤_, _<_};
-ghost use lib.Bits.{bitAnd};
-ghost use lib.Dec.{eqb, leb};
+ghost use Prim.Native.Nat.{_+_, _-_, _≤_, _<_};
+ghost use lib.Dec.{eqb};
 ghost use lib.ListN.{length, getD, drop};
-ghost use Rattle.fields.specs.Le.{le};
 ghost use Rattle.utf8.specs.Rfc3629.{utf8, within, range, tail};
-ghost use Rattle.utf8.specs.Parts.{fit, sized};
+ghost use Rattle.utf8.specs.Parts.{fit, sized, Plain};
 
 // The byte k places after i, and 0, which continues no character, past the end.
 fn byte(s: &[u8], i: usize, k: usize) -> u8
@@ -120,15 +118,67 @@ fn size(s: &[u8], i: usize) -> usize
     }
 }
 
-// Eight bytes stand at i, and all of them are characters.
-fn plain(s: &[u8], i: usize) -> bool
-    requires { ⌜ i ≤ length (now s) ⌝ }
-    ensures { λ r. ⌜ r ≡ (leb (i + 8) (length (now (s .entry))) && eqb (bitAnd (le 8 (now (s .entry)) i) 0x8080_8080_8080_8080) 0) ⌝ }
+// The eight bytes from i on are characters: none has its top bit.
+fn eight(s: &[u8], i: usize) -> bool
+    requires { ⌜ i + 8 ≤ length (now s) ⌝ }
+    ensures { λ r. ⌜ (r ≡ true → Plain (now (s .entry)) i (i + 8)) ⌝ }
 {
-    if s.len() - i < 8 {
+    fields::u64_at(s, i) & 0x8080_8080_8080_8080 == 0
+}
+
+fn sixteen(s: &[u8], i: usize) -> bool
+    requires { ⌜ i + 16 ≤ length (now s) ⌝ }
+    ensures { λ r. ⌜ (r ≡ true → Plain (now (s .entry)) i (i + 16)) ⌝ }
+{
+    eight(s, i) & eight(s, i + 8)
+}
+
+// The last eight bytes are characters.
+fn last_eight(s: &[u8]) -> bool
+    ensures { λ r. ⌜ (r ≡ true → Plain (now (s .entry)) (length (now (s .entry)) - 8) (length (now (s .entry)))) ⌝ }
+{
+    if s.len() < 8 {
         return false;
     }
-    fields::u64_at(s, i) & 0x8080_8080_8080_8080 == 0
+    eight(s, s.len() - 8)
+}
+
+// The place after the blocks of 32 ASCII bytes that stand at i.
+fn blocks_from(s: &[u8], i: usize) -> usize
+    requires { ⌜ i ≤ length (now s) ⌝ }
+    ensures { λ r. ⌜ Plain (now (s .entry)) i r ⌝ }
+    ensures { λ r. ⌜ (i ≤ r) × (r ≤ length (now (s .entry))) ⌝ }
+{
+    let mut at = i;
+    while 32 <= s.len() - at {
+        if !sixteen(s, at) {
+            return at;
+        }
+        if !sixteen(s, at + 16) {
+            return at;
+        }
+        at += 32;
+    }
+    at
+}
+
+// The place after some ASCII bytes that stand at i: after one of them, where no more are seen at once.
+fn ascii_from(s: &[u8], i: usize) -> usize
+    requires { ⌜ i < length (now s) ⌝ }
+    requires { ⌜ getD (now s) i 0 < 128 ⌝ }
+    ensures { λ r. ⌜ Plain (now (s .entry)) i r ⌝ }
+    ensures { λ r. ⌜ (i < r) × (r ≤ length (now (s .entry))) ⌝ }
+{
+    if 8 <= s.len() - i {
+        if eight(s, i) {
+            return blocks_from(s, i + 8);
+        }
+        return i + 1;
+    }
+    if last_eight(s) {
+        return s.len();
+    }
+    i + 1
 }
 
 pub fn utf8_ok(s: &[u8]) -> bool
@@ -136,8 +186,8 @@ pub fn utf8_ok(s: &[u8]) -> bool
 {
     let mut i = 0;
     while i < s.len() {
-        if plain(s, i) {
-            i += 8;
+        if s[i] < 0x80 {
+            i = ascii_from(s, i);
             continue;
         }
         let n = size(s, i);

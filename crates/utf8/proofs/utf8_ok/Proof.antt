@@ -9,7 +9,7 @@ use lib.ListN.{length, drop}
 use borrow.Author.Tests.{eq-eqb, ne-eqb}
 use Rattle.utf8.specs.Rfc3629.{utf8}
 use Rattle.utf8.proofs.Steps.{past}
-use Rattle.utf8.proofs.Ascii.{eight}
+use Rattle.utf8.proofs.Ascii.{past-plain}
 use borrow.Author.Needs.{needs}
 use Rattle.utf8.proofs.utf8_ok.Statement.{statement}
 use Rattle.utf8.proofs.utf8_ok.Tie as tie
@@ -23,29 +23,21 @@ abbrev μ-loop : tie.MeasureT-loop
 loop-holds : tie.Need-loop-holds Inv-loop μ-loop
 loop-holds c = (omega arith, refl)
 
-plain-requires : tie.Need-plain-requires Inv-loop μ-loop
-plain-requires c κs = search needs
+shared-slice-read-if1 : tie.Need-shared-slice-read-if1 Inv-loop μ-loop
+shared-slice-read-if1 c = search needs
 
-add-i : tie.Need-add-i Inv-loop μ-loop
-add-i c =
-    let a = c .before .before .before in
-    let g = a .before .before .args in
-    let e = eight (g .s .now) (λ i. a .before .shared-slice-known .given i .fits) (a .loop .i) _ (c .before .plain .ensures) (c .if1 .taken) in
-    omega (arith, e .0)
+ascii-from-requires : tie.Need-ascii-from-requires Inv-loop μ-loop
+ascii-from-requires c κs = search needs
 
 loop-less : tie.Need-loop-less Inv-loop μ-loop
-loop-less c =
-    let a = c .before .before .before in
-    let g = a .before .before .args in
-    let e = eight (g .s .now) (λ i. a .before .shared-slice-known .given i .fits) (a .loop .i) _ (c .before .plain .ensures) (c .if1 .taken) in
-    omega (arith, e .0)
+loop-less c = search needs
 
 loop-again : tie.Need-loop-again Inv-loop μ-loop
 loop-again c =
-    let a = c .before .before .before in
+    let a = c .before .before .before .before in
     let g = a .before .before .args in
-    let e = eight (g .s .now) (λ i. a .before .shared-slice-known .given i .fits) (a .loop .i) _ (c .before .plain .ensures) (c .if1 .taken) in
-    (e .0, a .loop .inv .1 ∙ e .1)
+    let e = c .ascii-from .ensures in
+    (omega arith, a .loop .inv .1 ∙ past-plain (g .s .now) (a .loop .i) (c .ascii-from .result) (omega arith) (omega arith) (e .0))
 
 size-requires : tie.Need-size-requires Inv-loop μ-loop
 size-requires c κs = search needs
@@ -58,8 +50,8 @@ returns c =
     sym (a .loop .inv .1 ∙ z .size .ensures .0
     ∙ ap (λ (t : Bool). not t && utf8 [] (drop (a .loop .i + z .size .result) (g .s .now))) (eq-eqb _ _ (c .if2 .taken)))
 
-add-i-2 : tie.Need-add-i-2 Inv-loop μ-loop
-add-i-2 c = omega arith
+add-i : tie.Need-add-i Inv-loop μ-loop
+add-i c = omega arith
 
 loop-less-2 : tie.Need-loop-less-2 Inv-loop μ-loop
 loop-less-2 c =
@@ -89,13 +81,13 @@ utf8-ok-spec =
     Inv-loop
     μ-loop
     loop-holds
-    plain-requires
-    add-i
+    shared-slice-read-if1
+    ascii-from-requires
     loop-less
     loop-again
     size-requires
     returns
-    add-i-2
+    add-i
     loop-less-2
     loop-again-2
     returns-2)
