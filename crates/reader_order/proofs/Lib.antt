@@ -1,5 +1,6 @@
 -- Laws of the order of names, and what the sort gives.
 pub mod Bytes
+pub mod Words
 pub mod Sorted
 pub mod Only
 pub mod Shift

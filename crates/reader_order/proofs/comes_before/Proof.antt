@@ -1,7 +1,7 @@
--- `comes_before` meets its contract. The loop's invariant: what is left of the two names compares as the whole names do.
+-- `comes_before` meets its contract. The loop's invariant: what is left of the two names compares as the whole names do; it holds past the equal front, by the promise of `same_front`.
 -- Assumes nothing.
 use Prim.Native.Nat.{_≤_, _-_}
-use mathlib.Core.Path.{_≡_, refl, _∙_}
+use mathlib.Core.Path.{_≡_, _∙_}
 use lib.ListN.{length, drop}
 use Rattle.reader_order.specs.Order.{comesBefore}
 use Rattle.reader_order.proofs.Bytes.{before-none, before-end, before-less, before-more, before-on}
@@ -16,8 +16,11 @@ Inv-loop a b i₀ i = (i ≤ length a) × (comesBefore (drop i a) (drop i b) ≡
 abbrev μ-loop : tie.MeasureT-loop
 μ-loop a b i₀ i = length b - i
 
+same-front-requires : tie.Need-same-front-requires Inv-loop μ-loop
+same-front-requires c κs = search needs
+
 loop-holds : tie.Need-loop-holds Inv-loop μ-loop
-loop-holds c = (omega arith, refl)
+loop-holds c = c .same-front .ensures
 
 returns : tie.Need-returns Inv-loop μ-loop
 returns c =
@@ -63,6 +66,7 @@ comes-before-spec =
     (tie.spec
     Inv-loop
     μ-loop
+    same-front-requires
     loop-holds
     returns
     shared-slice-read-x
