@@ -27,13 +27,11 @@ pub enum Count {
 pub fn name_bounds(record: &[u8], file: &[u8], zone: u32) -> Bounds
     ensures { λ r. ⌜ nameTold r ≡ nameAsked (now («record» .entry)) (now (file .entry)) zone ⌝ }
 {
-    if record.len() != 84 {
-        return Bounds::Refused(answer::refuse(44));
+    let a = tzb_record::read_record(record);
+    match a {
+        RecordRead::Refused(k) => Bounds::Refused(k),
+        RecordRead::Is(o) => reader_names::name_bounds(file, o.names.off, o.zones.count, zone),
     }
-    // of the record these two fields alone: where the names stand, and how many zones there are
-    let names = fields::u32_at(record, 4);
-    let zones = fields::u32_at(record, 16);
-    reader_names::name_bounds(file, names, zones, zone)
 }
 
 // Where it starts and where it ends, into the first two lent numbers; those behind are never touched. A refusal leaves them all as they were.

@@ -1,38 +1,31 @@
--- `name_bounds` meets its contract: the record's length first, then the question with two of its fields.
+-- `name_bounds` meets its contract: the record first, then the question.
 -- Assumes nothing.
-use Prim.Native.Nat.{ℕ}
-use mathlib.Core.Path.{refl, ap₂, _∙_}
-use Rattle.reader_names.specs.Asked.{boundsAt}
-use Rattle.tzb_record.specs.Layout.{openedIn, record-none, record-is}
+use mathlib.Core.Path.{sym, ap, _∙_}
+use Rattle.tzb_record.specs.Layout.{told}
 use Rattle.tzb_asked.specs.Asked.{nameAsked, barred, asked}
 use borrow.Author.Needs.{needs}
 use Rattle.tzb_asked.proofs.name_bounds.Statement.{statement}
 use Rattle.tzb_asked.proofs.name_bounds.Tie as tie
 
-refuse-requires : tie.Need-refuse-requires
-refuse-requires c κs = search needs
+read-record-requires : tie.Need-read-record-requires
+read-record-requires c κs = search needs
 
-u32-at-requires : tie.Need-u32-at-requires
-u32-at-requires c κs = search needs
+enum-known-a : tie.Need-enum-known-a
+enum-known-a c = search needs
 
-u32-at-requires-2 : tie.Need-u32-at-requires-2
-u32-at-requires-2 c κs = search needs
+enum-known-a-2 : tie.Need-enum-known-a-2
+enum-known-a-2 c = search needs
 
 name-bounds-requires : tie.Need-name-bounds-requires
 name-bounds-requires c κs = search needs
 
 returns : tie.Need-returns
 unfolding nameAsked
-returns c = barred _ _ _ (record-none _ _ (c .before .if1 .taken) (c .refuse .ensures))
+returns c = barred _ _ _ (sym (ap told (c .before .a .given .1)) ∙ c .before .before .before .read-record .ensures)
 
 returns-2 : tie.Need-returns-2
-unfolding nameAsked openedIn
-returns-2 c =
-    let zones = c .before in
-    let names = zones .before in
-    let a = names .before .before .before .before .args in
-    asked _ _ _ _ (record-is _ _ (names .before .if1 .left) refl)
-    (c .name-bounds .ensures ∙ ap₂ (λ (at n : ℕ). boundsAt (a .file .now) at n (a .zone)) (names .u32-at .ensures) (zones .u32-at2 .ensures))
+unfolding nameAsked
+returns-2 c = asked _ _ _ _ (sym (ap told (c .before .before .a2 .given .1)) ∙ c .before .before .before .before .read-record .ensures) (c .name-bounds .ensures)
 
 pub name-bounds-spec : {M : Type 1} → statement M
-name-bounds-spec = tie.close (tie.spec refuse-requires returns u32-at-requires u32-at-requires-2 name-bounds-requires returns-2)
+name-bounds-spec = tie.close (tie.spec read-record-requires enum-known-a enum-known-a-2 name-bounds-requires returns returns-2)
