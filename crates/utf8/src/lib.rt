@@ -6,7 +6,7 @@ ghost use Prim.Native.Nat.{_+_, _-_, _≤_, _<_};
 ghost use lib.Dec.{eqb};
 ghost use lib.ListN.{length, getD, drop};
 ghost use Rattle.utf8.specs.Rfc3629.{utf8, within, range, tail};
-ghost use Rattle.utf8.specs.Parts.{fit, sized, Plain};
+ghost use Rattle.utf8.specs.Parts.{fit, sized, second, Plain};
 
 // The byte k places after i, and 0, which continues no character, past the end.
 fn byte(s: &[u8], i: usize, k: usize) -> u8
@@ -96,24 +96,42 @@ fn four(s: &[u8], i: usize, second: bool) -> usize
     0
 }
 
-// How many bytes the character at i has; 0 where none stands there.
+// The second byte fits, after the first byte of a character of three or of four: two of the first bytes allow only some of the tails.
+fn second_of_three(first: u8, b: u8) -> bool
+    requires { ⌜ (0xe0 ≤ first) × (first < 0xf0) ⌝ }
+    ensures { λ r. ⌜ r ≡ within (second first) b ⌝ }
+{
+    match first {
+        0xe0 => after_e0(b),
+        0xed => after_ed(b),
+        _ => tail(b),
+    }
+}
+
+fn second_of_four(first: u8, b: u8) -> bool
+    requires { ⌜ (0xf0 ≤ first) × (first < 0xf5) ⌝ }
+    ensures { λ r. ⌜ r ≡ within (second first) b ⌝ }
+{
+    match first {
+        0xf0 => after_f0(b),
+        0xf4 => after_f4(b),
+        _ => tail(b),
+    }
+}
+
+// How many bytes the character at i has, where it has more than one; 0 where none stands there.
 fn size(s: &[u8], i: usize) -> usize
     requires { ⌜ i < length (now s) ⌝ }
+    requires { ⌜ 0x80 ≤ getD (now s) i 0 ⌝ }
     ensures { λ r. ⌜ utf8 [] (drop i (now (s .entry))) ≡ (not (eqb r 0) && utf8 [] (drop (i + r) (now (s .entry)))) ⌝ }
     ensures { λ r. ⌜ i + r ≤ length (now (s .entry)) ⌝ }
 {
+    let first = s[i];
     let next = byte(s, i, 1);
-    let any = tail(next);
-    match s[i] {
-        0x00..=0x7f => 1,
-        0xc2..=0xdf => two(any),
-        0xe0 => three(s, i, after_e0(next)),
-        0xe1..=0xec => three(s, i, any),
-        0xed => three(s, i, after_ed(next)),
-        0xee..=0xef => three(s, i, any),
-        0xf0 => four(s, i, after_f0(next)),
-        0xf1..=0xf3 => four(s, i, any),
-        0xf4 => four(s, i, after_f4(next)),
+    match first {
+        0xc2..=0xdf => two(tail(next)),
+        0xe0..=0xef => three(s, i, second_of_three(first, next)),
+        0xf0..=0xf4 => four(s, i, second_of_four(first, next)),
         _ => 0,
     }
 }
