@@ -108,3 +108,7 @@ pub fn simpler(bytes: &[u8]) -> Vec<Vec<u8>> {
     }
     out
 }
+
+pub fn hex(bytes: &[u8]) -> String {
+    bytes.iter().map(|b| format!("{b:02x}")).collect()
+}

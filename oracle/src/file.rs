@@ -130,14 +130,22 @@ pub fn repair(file: &mut [u8]) {
     }
 }
 
-/// The entries of a file's table, as far as they lie in the file: type, offset, length.
-pub fn entries(file: &[u8]) -> Vec<[u32; 3]> {
+/// How many entries of a file's table lie in the file.
+pub fn entry_count(file: &[u8]) -> usize {
     if file.len() < 68 {
-        return Vec::new();
+        return 0;
     }
     let room = (file.len() - 68) / 16;
-    let count = room.min(word(file, 20) as usize);
-    (0..count).map(|i| [0, 4, 8].map(|field| word(file, 64 + 16 * i + field))).collect()
+    room.min(word(file, 20) as usize)
+}
+
+/// An entry of a file's table: type, offset, length.
+pub fn entry(file: &[u8], i: usize) -> [u32; 3] {
+    [0, 4, 8].map(|field| word(file, 64 + 16 * i + field))
+}
+
+pub fn entries(file: &[u8]) -> Vec<[u32; 3]> {
+    (0..entry_count(file)).map(|i| entry(file, i)).collect()
 }
 
 /// NAMES: blob length, offsets, blob. `skipped` stands in the blob before the first name.

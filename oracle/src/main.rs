@@ -27,6 +27,7 @@ oracle compare asking [SECONDS [SEED]]
 oracle compare asking FILE.tzb [SECONDS [SEED]]
 oracle compare exact [SECONDS [SEED]]
 oracle compare exact FILE.tzb [SECONDS [SEED]]
+oracle compare wide [SECONDS [SEED]]
 oracle load [INPUTS [SEED]] [--from NUMBER]
 oracle short [SECONDS [SEED]]
 oracle lists FOLDER
@@ -57,6 +58,9 @@ fn main() {
         ["compare", "tables", seconds, seed] => {
             compare::files::tables(number(seconds), number(seed))
         }
+        ["compare", "wide"] => compare::wide::run(60, random::fresh_seed()),
+        ["compare", "wide", seconds] => compare::wide::run(number(seconds), random::fresh_seed()),
+        ["compare", "wide", seconds, seed] => compare::wide::run(number(seconds), number(seed)),
         ["compare", "file", file] => compare::files::one(file.as_ref()),
         ["compare", seconds] => compare::run(number(seconds), random::fresh_seed()),
         ["compare", seconds, seed] => compare::run(number(seconds), number(seed)),
@@ -89,7 +93,7 @@ fn timed(one: &str, rest: &[&str], small: fn(u64, u64), large: fn(&Path, u64, u6
 fn short(seconds: u64, seed: u64) {
     println!("seed {seed}, each comparison for {seconds} s");
     compare::short(seconds, seed);
-    compare::files::short(seconds, seed);
+    compare::wide::short(seconds, seed);
     compare::asking::short(seconds, seed);
     load::short(5000 * seconds, seed);
 }

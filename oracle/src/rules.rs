@@ -80,6 +80,18 @@ fn need(number: u32, holds: bool) -> Said<()> {
 
 pub fn open<'a>(file: &'a [u8], original: &[Departure]) -> Said<Opened<'a>> {
     header(file)?;
+    behind_header(file, original)
+}
+
+/// Without departures, and with these. None of them has to do with the header, so that is judged once.
+pub fn open_both<'a>(file: &'a [u8], original: &[Departure]) -> [Said<Opened<'a>>; 2] {
+    match header(file) {
+        Ok(()) => [behind_header(file, &[]), behind_header(file, original)],
+        Err(number) => [Err(number), Err(number)],
+    }
+}
+
+fn behind_header<'a>(file: &'a [u8], original: &[Departure]) -> Said<Opened<'a>> {
     let sections = table(file, original)?;
     let (flags, zones) = (u32_at(file, 8), u32_at(file, 40));
     let mut opened = Opened { file, sections, flags, zones, grid: None };

@@ -1,9 +1,14 @@
 //! Who can be asked of an opened file, and what. The rules, the original and the port are voices.
 
-use crate::rules::{Judge, Said};
+use crate::rules::{Candidates, Judge, Said};
 
 #[derive(Debug, Clone, Copy)]
 pub enum Question {
+    /// A zone.
+    Name(u32),
+    Candidates(f64, f64),
+    /// A place of the candidates.
+    Candidate(u32),
     /// A chunk, and how many numbers there is room for.
     Decode(u32, u64),
     /// A zone and a whole-number point.
@@ -17,6 +22,10 @@ pub enum Question {
 
 #[derive(Debug, Clone, PartialEq, Eq)]
 pub enum Answer {
+    /// Where it starts in the lent bytes, and its length.
+    Name(u64, u64),
+    Candidates(Candidates),
+    Candidate(u64),
     Points(Vec<i64>),
     Is(bool),
     Zone(Option<u64>),
@@ -30,10 +39,14 @@ pub trait Voice {
 
 impl Voice for Judge<'_> {
     fn ask(&self, question: Question) -> Option<Said<Answer>> {
+        let opened = &self.opened;
         Some(match question {
-            Question::Decode(chunk, room) => {
-                self.opened.decode(chunk.into(), room).map(Answer::Points)
+            Question::Name(zone) => {
+                opened.name(zone.into()).map(|(start, length)| Answer::Name(start, length))
             }
+            Question::Candidates(lng, lat) => opened.candidates(lng, lat).map(Answer::Candidates),
+            Question::Candidate(place) => opened.candidate(place.into()).map(Answer::Candidate),
+            Question::Decode(chunk, room) => opened.decode(chunk.into(), room).map(Answer::Points),
             Question::Contains(zone, x, y) => self.contains(zone.into(), x, y).map(Answer::Is),
             Question::ContainsAt(zone, x, y) => self.contains_at(zone.into(), x, y).map(Answer::Is),
             Question::Lookup(lng, lat) => self.lookup(lng, lat).map(Answer::Zone),

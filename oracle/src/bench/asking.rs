@@ -76,7 +76,7 @@ pub fn run(file: &[u8]) {
         .collect();
 
     let both = Both {
-        port: port::asking::open(file).expect("a file that opens"),
+        port: port::opening::open(file).expect("a file that opens"),
         original: original::opening::open(file).ok().expect("a file that opens"),
     };
     both.lookup("random positions", &anywhere);
@@ -91,7 +91,7 @@ pub fn run(file: &[u8]) {
 }
 
 struct Both<'a> {
-    port: port::asking::Opened<'a>,
+    port: port::opening::Opened<'a>,
     original: Original<'a>,
 }
 

@@ -99,7 +99,7 @@ fn file_of(mut parts: Vec<Part>, all: &[Vec<u8>]) -> Vec<u8> {
 
 fn of_zones(order: &str, file: &[u8]) {
     of_file(order, file);
-    let opened = port::asking::open(file).expect("a file that opens");
+    let opened = port::opening::open(file).expect("a file that opens");
     let (r, size, f, length) = opened.parts();
     let other = original::opening::open(file).ok().expect("a file that opens");
     let mut ask = || unsafe { tzb_ask(r, size, f, length, 0.0, 0.0) } as u64;
@@ -132,7 +132,7 @@ fn listed(zones: &[u32]) -> u64 {
 
 fn of_chunks(what: &str, file: &[u8]) {
     of_file(what, file);
-    let opened = port::asking::open(file).expect("a file that opens");
+    let opened = port::opening::open(file).expect("a file that opens");
     let (r, size, f, length) = opened.parts();
     let other = original::opening::open(file).ok().expect("a file that opens");
     let mut contains = || unsafe { tzb_contains(r, size, f, length, 0, -1, 0) } as u64;

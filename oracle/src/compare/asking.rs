@@ -1,24 +1,24 @@
 //! Decoding, containment and lookups: each voice against the rules with its departures, and the rules against exact geometry.
 
-mod ask;
-mod met;
+pub mod met;
 pub mod questions;
 
-use super::files::DIFFERENCE;
+use super::panel::Panel;
+use super::sides::{Record, Sides};
+use super::stop;
+use crate::file;
 use crate::file::damage::Aim;
-use crate::file::{self, smaller};
 use crate::port;
 use crate::random::Random;
 use crate::rules::{self, full_check};
 use crate::voice::Question;
-use ask::Panel;
 use met::Met;
 use std::path::Path;
 use std::time::{Duration, Instant};
 
 /// How many questions of each kind are put: to a valid file, and to a damaged one.
 const MANY: usize = 1000;
-const FEW: usize = 60;
+pub const FEW: usize = 60;
 
 /// Fixed files first, then random ones until the time is over.
 pub fn run(seconds: u64, seed: u64) {
@@ -31,7 +31,7 @@ pub fn run(seconds: u64, seed: u64) {
         some(&mut met, &mut random, MANY, 40);
     }
     met.make_small();
-    met.print();
+    met.print(true);
     println!("no difference but the known ones");
 }
 
@@ -43,7 +43,8 @@ pub fn short(seconds: u64, seed: u64) {
     while start.elapsed() < Duration::from_secs(seconds) {
         some(&mut met, &mut random, FEW, 4);
     }
-    println!("compare asking: {}, no difference but the known ones", met.in_short());
+    let (files, asked) = (met.files(), met.in_short());
+    println!("compare asking: {files} files, {asked}, no difference but the known ones");
 }
 
 /// A valid file, and as many damaged ones that may still open.
@@ -56,13 +57,14 @@ fn some(met: &mut Met, random: &mut Random, most: usize, count: usize) {
     assert_eq!(full_check(&file), Ok(()), "a file of the builder");
     judge(met, &file, most);
     let cut = random.below(file.len());
-    judge_otherwise(met, &file, &file[..cut]);
+    let record = Sides::open(&file).record(&file).expect("a file that opens");
+    judge_otherwise(met, &record, &file[..cut]);
     let aim = Aim::at_geometry(&file);
     for _ in 0..count {
         let damages = 1 + random.below(2);
         let damaged = aim.damage(random, &file, damages);
         judge(met, &damaged, FEW);
-        judge_otherwise(met, &file, &damaged);
+        judge_otherwise(met, &record, &damaged);
     }
 }
 
@@ -91,58 +93,45 @@ fn judge(met: &mut Met, file: &[u8], most: usize) {
     if let Some(difference) = checks_differ(file) {
         stop(file, &difference, checks_differ);
     }
-    let Some(panel) = Panel::of(file) else {
+    let Some(panel) = Panel::of_file(file) else {
         met.passed_over += 1;
         return;
     };
     met.add_file(panel.broken);
-    match panel.ask_all(questions::of(panel.opened(), most)) {
+    match panel.ask_all(small(&panel, most)) {
         Ok(outcome) => met.add(file, outcome),
         Err(difference) => {
-            stop(file, &difference.to_string(), |file| differs(&Panel::of(file)?, most))
+            stop(file, &difference.to_string(), |file| differs(&Panel::of_file(file)?, most))
         }
     }
 }
 
 /// Puts questions to the file's record with other bytes.
-fn judge_otherwise(met: &mut Met, file: &[u8], lent: &[u8]) {
-    let panel = Panel::with_other_bytes(file, lent).expect("a file that opens");
-    match panel.ask_all(questions::of(panel.opened(), FEW)) {
+fn judge_otherwise(met: &mut Met, record: &Record, lent: &[u8]) {
+    let panel = Panel::with_other_bytes(record, lent);
+    match panel.ask_all(small(&panel, FEW)) {
         Ok(outcome) => met.otherwise += outcome.questions,
         Err(difference) => stop(lent, &difference.to_string(), |lent| {
-            differs(&Panel::with_other_bytes(file, lent)?, FEW)
+            differs(&Panel::with_other_bytes(record, lent), FEW)
         }),
     }
 }
 
-fn differs(panel: &Panel, most: usize) -> Option<String> {
-    let difference = panel.ask_all(questions::of(panel.opened(), most)).err()?;
+/// The questions of a small file, at most so many of each kind.
+fn small(panel: &Panel, most: usize) -> Vec<Question> {
+    panel.opened().map_or(Vec::new(), |opened| questions::of(&opened, most))
+}
+
+pub fn differs(panel: &Panel, most: usize) -> Option<String> {
+    let difference = panel.ask_all(small(panel, most)).err()?;
     Some(difference.to_string())
 }
 
 /// What the port's full check says and what the rules say, where that differs.
-fn checks_differ(file: &[u8]) -> Option<String> {
+pub fn checks_differ(file: &[u8]) -> Option<String> {
     let port = port::asking::full_check(file);
     let rules = full_check(file).err().map_or((0, 0), |broken| (broken.number, broken.rule));
     (port != rules).then(|| format!("full check: the port says {port:?}, the rules {rules:?}"))
-}
-
-/// Prints a difference that is not on the list, made small, and ends the run.
-fn stop(file: &[u8], found: &str, differs: impl Fn(&[u8]) -> Option<String>) -> ! {
-    println!("found: {found}, in a file of {} bytes", file.len());
-    let small = match file.len() {
-        0..5000 => super::smallest(file.to_vec(), |f| smaller::files(f), |f| differs(f).is_some()),
-        _ => file.to_vec(),
-    };
-    if let Some(difference) = differs(&small) {
-        println!("made small: {difference}, in a file of {} bytes", small.len());
-    }
-    std::fs::write(DIFFERENCE, &small).expect("a place for the file");
-    println!("written to {DIFFERENCE}; the full check says {:?}", full_check(&small));
-    if small.len() < 5000 {
-        println!("{}", met::hex(&small));
-    }
-    std::process::exit(1)
 }
 
 /// One large file: every chunk, then positions on and beside its borders and anywhere.
@@ -153,8 +142,8 @@ pub fn one(path: &Path, seconds: u64, seed: u64) {
     if let Some(difference) = checks_differ(&file) {
         stop(&file, &difference, |_| None);
     }
-    let panel = Panel::of(&file).expect("a file that opens");
-    let opened = *panel.opened();
+    let panel = Panel::of_file(&file).expect("a file that opens");
+    let opened = panel.opened().expect("a file that opens");
     let mut met = Met::default();
     met.add_file(panel.broken);
     let mut ask = |all: Vec<Question>| match panel.ask_all(all) {
@@ -175,6 +164,6 @@ pub fn one(path: &Path, seconds: u64, seed: u64) {
         }
     }
     println!("{swept:>12}  of {chunks} chunks: on and beside every point and edge");
-    met.print();
+    met.print(true);
     println!("no difference but the known ones");
 }

@@ -1,12 +1,12 @@
 //! Containment of the port against exact geometry alone, on files that the full check accepts: all of a small file's lattice, and along the borders of a large one.
 
-use super::Tally;
 use super::asking::questions;
-use super::files::DIFFERENCE;
+use super::{DIFFERENCE, Tally};
 use crate::exact::Exact;
 use crate::file::damage::Aim;
 use crate::file::{on_lattice, some};
-use crate::port::asking::{self, Opened};
+use crate::port::asking;
+use crate::port::opening::{self, Opened};
 use crate::random::Random;
 use crate::rules;
 use std::path::Path;
@@ -27,7 +27,7 @@ impl<'a> Pair<'a> {
         }
         let opened = rules::open(file, &[]).ok().expect("an accepted file opens");
         let exact = Exact::of(&opened).expect("an accepted file decodes");
-        let port = asking::open(file).expect("an accepted file opens");
+        let port = opening::open(file).expect("an accepted file opens");
         Some(Self { port, exact, zones: opened.zones as u32 })
     }
 

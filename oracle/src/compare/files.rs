@@ -1,17 +1,17 @@
 //! Opening, names and candidates: the original against the rules with every known departure, the port against document 01's rules.
 
 mod ask;
-mod met;
+pub mod met;
 
-use super::Tally;
+pub use ask::questions;
+
+use super::{Tally, stop};
 use crate::file::damage::{self, Aim};
-use crate::file::{self, smaller, tables};
+use crate::file::{self, tables};
 use crate::random::Random;
 use met::Met;
 use std::path::Path;
 use std::time::{Duration, Instant};
-
-pub const DIFFERENCE: &str = "target/difference.tzb";
 
 /// In so many of the fixed files every byte is set to every value.
 const SWEPT: usize = 5;
@@ -29,8 +29,8 @@ impl Run {
     /// Puts one file to all sides.
     fn judge(&mut self, file: &[u8]) {
         match ask::everything(file) {
-            Ok(outcome) => self.met.add(file, &outcome),
-            Err(why) => stop(file, &why),
+            Ok((numbers, questions)) => self.met.add(file, numbers, questions),
+            Err(why) => stop(file, &why, |file| ask::everything(file).err()),
         }
     }
 
@@ -39,26 +39,6 @@ impl Run {
         self.met.print();
         println!("no difference but the known ones");
     }
-}
-
-/// Prints a difference that is not on the list, made small, and ends the run.
-fn stop(file: &[u8], why: &str) -> ! {
-    println!("found: {why}, in a file of {} bytes", file.len());
-    let small = match file.len() {
-        0..5000 => {
-            super::smallest(file.to_vec(), |f| smaller::files(f), |f| ask::everything(f).is_err())
-        }
-        _ => file.to_vec(),
-    };
-    if let Err(why) = ask::everything(&small) {
-        println!("made small: {why}, in a file of {} bytes", small.len());
-    }
-    std::fs::write(DIFFERENCE, &small).expect("a place for the file");
-    println!("written to {DIFFERENCE}");
-    if small.len() < 5000 {
-        println!("{}", met::hex(&small));
-    }
-    std::process::exit(1)
 }
 
 /// Fixed files first: all damage to small ones. Then random files, with random damage.
@@ -74,22 +54,6 @@ pub fn run(seconds: u64, seed: u64) {
     }
     run.met.make_small();
     run.end();
-}
-
-/// The fixed files as they are, then random ones with less damage to each, until the time is over.
-pub fn short(seconds: u64, seed: u64) {
-    let (mut run, mut random) = (Run::new(), Random::new(seed));
-    file::bases().iter().for_each(|file| run.judge(file));
-    let start = Instant::now();
-    while start.elapsed() < Duration::from_secs(seconds) {
-        let file = file::some(&mut random).lay();
-        let aim = Aim::at(&file);
-        run.judge(&file);
-        for damages in [1, 1, 1, 1, 2, 2, 2, 3] {
-            run.judge(&aim.damage(&mut random, &file, damages));
-        }
-    }
-    println!("compare files: {}, no difference but the known ones", run.met.in_short());
 }
 
 /// Long section tables alone.
@@ -174,6 +138,6 @@ pub fn one(path: &Path) {
     let mut run = Run::new();
     run.judge(&file);
     run.tally.add("file", 1);
-    ask::all_of(&file, &mut run.tally).unwrap_or_else(|why| stop(&file, &why));
+    ask::all_of(&file, &mut run.tally).unwrap_or_else(|why| stop(&file, &why, |_| None));
     run.end();
 }

@@ -5,9 +5,14 @@ mod checksum;
 pub mod exact;
 pub mod files;
 mod geometry;
+mod panel;
+mod sides;
 mod utf8;
 mod varint;
+pub mod wide;
 
+use crate::bytes::hex;
+use crate::file::smaller;
 use crate::random::Random;
 use std::fmt::Debug;
 use std::time::{Duration, Instant};
@@ -92,6 +97,34 @@ pub fn differs<T: Debug, A: Debug + PartialEq>(
         }),
     );
     std::process::exit(1)
+}
+
+/// Where a file is kept on which a difference shows that is not on the list.
+pub const DIFFERENCE: &str = "target/difference.tzb";
+
+/// Prints such a difference, makes its file small, keeps it, and ends the run. What is asked says what differs, or None.
+pub fn stop(file: &[u8], found: &str, differs: impl Fn(&[u8]) -> Option<String>) -> ! {
+    println!("found: {found}, in a file of {} bytes", file.len());
+    let small = match file.len() {
+        0..5000 => smallest(file.to_vec(), |f| smaller::files(f), |f| differs(f).is_some()),
+        _ => file.to_vec(),
+    };
+    if let Some(difference) = differs(&small) {
+        println!("made small: {difference}, in a file of {} bytes", small.len());
+    }
+    std::fs::write(DIFFERENCE, &small).expect("a place for the file");
+    println!("written to {DIFFERENCE}");
+    if small.len() < 5000 {
+        println!("{}", hex(&small));
+    }
+    std::process::exit(1)
+}
+
+/// Keeps the shorter of two files.
+fn keep(place: &mut Option<Vec<u8>>, file: &[u8]) {
+    if place.as_ref().is_none_or(|kept| file.len() < kept.len()) {
+        *place = Some(file.to_vec());
+    }
 }
 
 /// Goes from an input to a simpler one that still differs, as long as there is one.

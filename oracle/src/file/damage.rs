@@ -44,10 +44,8 @@ pub const TELLING: [u32; 37] = [
     0xffff_ffff,
 ];
 
-fn set(file: &[u8], field: Field, value: u32) -> Vec<u8> {
-    let mut out = file.to_vec();
-    out[field.at..field.at + field.width].copy_from_slice(&value.to_le_bytes()[..field.width]);
-    out
+fn set(file: &mut [u8], field: Field, value: u32) {
+    file[field.at..field.at + field.width].copy_from_slice(&value.to_le_bytes()[..field.width]);
 }
 
 fn get(file: &[u8], field: Field) -> u32 {
@@ -56,23 +54,47 @@ fn get(file: &[u8], field: Field) -> u32 {
     u32::from_le_bytes(bytes)
 }
 
-/// What a field may be set to: the telling values and their negatives, its neighbours, and what other entries say. The nearest first.
-fn values(file: &[u8], field: Field) -> Vec<u32> {
+/// Steps to what stands beside: a byte, a word, a record.
+const STEPS: [u32; 6] = [1, 2, 4, 24, 28, 44];
+
+/// So many values tell of a field, some of them more than once.
+fn value_count(file: &[u8]) -> usize {
+    100 + 8 * entry_count(file)
+}
+
+/// One of them: the telling values and their negatives, the field's neighbours, what has to do with the size, and with an entry.
+fn value(file: &[u8], field: Field, which: usize) -> u32 {
     let now = get(file, field);
     let size = file.len() as u32;
-    let mut out = TELLING.to_vec();
-    out.extend(TELLING.map(u32::wrapping_neg));
-    out.extend([1, 2, 4, 24, 28, 44].map(|n| now.wrapping_add(n)));
-    out.extend([1, 2, 4, 24, 28, 44].map(|n| now.wrapping_sub(n)));
-    out.extend((0..32).step_by(4).map(|bit| now ^ 1 << bit));
-    out.extend([size, size - 1, size - 3, size - 4, size - 8, size + 1]);
-    for [_, off, len] in entries(file) {
-        let end = off.wrapping_add(len);
-        out.extend([off, off.wrapping_sub(4), off.wrapping_add(4), end, len]);
-        out.extend([end & !3, (end & !3).wrapping_add(4), end.wrapping_sub(now)]);
-    }
-    let all = u32::MAX >> (32 - 8 * field.width);
-    out.iter_mut().for_each(|n| *n &= all);
+    let value = match which {
+        0..37 => TELLING[which],
+        37..74 => TELLING[which - 37].wrapping_neg(),
+        74..80 => now.wrapping_add(STEPS[which - 74]),
+        80..86 => now.wrapping_sub(STEPS[which - 80]),
+        86..94 => now ^ 1 << (4 * (which - 86)),
+        94..100 => [size, size - 1, size - 3, size - 4, size - 8, size + 1][which - 94],
+        _ => {
+            let [_, off, len] = entry(file, (which - 100) / 8);
+            let end = off.wrapping_add(len);
+            match which % 8 {
+                0 => off,
+                1 => off.wrapping_sub(4),
+                2 => off.wrapping_add(4),
+                3 => end,
+                4 => len,
+                5 => end & !3,
+                6 => (end & !3).wrapping_add(4),
+                _ => end.wrapping_sub(now),
+            }
+        }
+    };
+    value & u32::MAX >> (32 - 8 * field.width)
+}
+
+/// All that a field may be set to, each once. The nearest first.
+fn values(file: &[u8], field: Field) -> Vec<u32> {
+    let now = get(file, field);
+    let mut out: Vec<u32> = (0..value_count(file)).map(|i| value(file, field, i)).collect();
     out.sort_unstable_by_key(|&n| (n.wrapping_sub(now).min(now.wrapping_sub(n)), n));
     out.dedup();
     out.retain(|&n| n != now);
@@ -83,7 +105,8 @@ fn values(file: &[u8], field: Field) -> Vec<u32> {
 pub fn fields(file: &[u8], each: &mut impl FnMut(&'static str, Vec<u8>)) {
     for field in fields::all(file) {
         for value in values(file, field) {
-            let mut with = set(file, field, value);
+            let mut with = file.to_vec();
+            set(&mut with, field, value);
             repair(&mut with);
             each(field.what, with);
         }
@@ -161,11 +184,10 @@ impl Aim {
 
     /// The fields of the directories and the bytes of the points alone.
     pub fn at_geometry(file: &[u8]) -> Self {
+        let mut sections = entries(file);
+        sections.retain(|&[typ, ..]| matches!(typ, TZDIR..=CHUNKDIR | POINTS));
         let within = |at: usize| {
-            entries(file).into_iter().any(|[typ, off, len]| {
-                matches!(typ, TZDIR..=CHUNKDIR | POINTS)
-                    && (off as usize..(off + len) as usize).contains(&at)
-            })
+            sections.iter().any(|&[_, off, len]| (off as usize..(off + len) as usize).contains(&at))
         };
         let Self { mut kinds } = Self::at(file);
         kinds.iter_mut().for_each(|kind| kind.retain(|field| within(field.at)));
@@ -180,6 +202,14 @@ impl Aim {
 
     /// `count` random damages, one on top of the other. The sum is repaired but for one time in 50.
     pub fn damage(&self, random: &mut Random, file: &[u8], count: usize) -> Vec<u8> {
+        let mut out = self.unrepaired(random, file, count);
+        if random.below(50) > 0 {
+            repair(&mut out);
+        }
+        out
+    }
+
+    pub fn unrepaired(&self, random: &mut Random, file: &[u8], count: usize) -> Vec<u8> {
         let mut out = file.to_vec();
         for _ in 0..count {
             match random.below(100) {
@@ -194,9 +224,6 @@ impl Aim {
                 _ => self.set_field(random, &mut out),
             }
         }
-        if random.below(50) > 0 {
-            repair(&mut out);
-        }
         out
     }
 
@@ -204,7 +231,7 @@ impl Aim {
     pub fn hit(&self, random: &mut Random, file: &mut [u8]) {
         let field = self.field(random);
         let now = get(file, field);
-        let step = random.pick(&[1, 2, 4, 24, 28, 44]);
+        let step = random.pick(&STEPS);
         let value = match random.below(8) {
             0..3 => random.pick(&TELLING),
             3 => random.pick(&TELLING).wrapping_neg(),
@@ -213,17 +240,19 @@ impl Aim {
             6 => now ^ 1 << random.below(32),
             _ => random.bits() as u32,
         };
-        file[field.at..field.at + field.width].copy_from_slice(&value.to_le_bytes()[..field.width]);
+        set(file, field, value);
     }
 
-    fn set_field(&self, random: &mut Random, file: &mut Vec<u8>) {
+    fn set_field(&self, random: &mut Random, file: &mut [u8]) {
         let field = self.field(random);
         if file.len() < 68 || field.at + field.width > file.len() {
             return;
         }
-        let all = values(file, field);
-        let any = random.bits() as u32;
-        let value = if random.below(8) == 0 || all.is_empty() { any } else { random.pick(&all) };
-        *file = set(file, field, value);
+        let value = match random.below(8) {
+            0 => random.bits() as u32,
+            _ => value(file, field, random.below(value_count(file))),
+        };
+        let same = value == get(file, field);
+        set(file, field, if same { value ^ 1 } else { value });
     }
 }

@@ -60,7 +60,7 @@ fn bytes(hex: &str) -> Vec<u8> {
 /// The rules, the port and the original, of a file that is opened and then asked with these bytes.
 fn all(file: &[u8], lent: &[u8], q: Question) -> [Result<Answer, u32>; 3] {
     let opened = rules::open(file, &[]).ok().unwrap().asked_with(lent);
-    let port = port::asking::open(file).ok().unwrap().asked_with(lent);
+    let port = port::opening::open(file).ok().unwrap().asked_with(lent);
     let original = original(file).ok().unwrap().asked_with(lent);
     let judge = Judge { opened, original: &[] };
     [judge.ask(q), port.ask(q), original.ask(q)].map(Option::unwrap)
@@ -119,6 +119,6 @@ fn of_other_bytes_than_it_was_opened_from() {
     let first = names[1] as usize + 4;
     put(&mut turned, first, word(&file, first + 4) + 1);
     assert_eq!(rules::open(&file, &[]).ok().unwrap().asked_with(&turned).name(0), Err(23));
-    assert_eq!(port::opening::opened(&file).unwrap().asked_with(&turned).name(0), Err(23));
+    assert_eq!(port::opening::open(&file).unwrap().asked_with(&turned).name(0), Err(23));
     assert_eq!(original(&file).ok().unwrap().asked_with(&turned).name(0), Err(44));
 }

@@ -5,16 +5,10 @@ use super::blocks::{block, word as put_word};
 use crate::file::{self, GRID, NAMES, entries, word};
 use crate::known::ALL;
 use crate::random::Random;
-use crate::rules::{self, Candidates, Opened, Said};
+use crate::rules::{self, Candidates, Judge, Opened, Said};
+use crate::voice::{Question, Voice};
 use crate::{original, scene};
 use std::collections::BTreeMap;
-
-#[derive(Clone, Copy)]
-enum Question {
-    Name(u32),
-    Candidates(f64, f64),
-    Candidate(u32),
-}
 
 /// A file, and for each of the bytes that its record is asked with the questions.
 struct Asked {
@@ -50,6 +44,7 @@ fn question(out: &mut Vec<u8>, rules: &Opened, lent: &[u8], q: Question, counts:
             let zone = rules.candidate(place.into()).map(|zone| [zone, 0, 0]);
             (3, "candidate", place, (0.0, 0.0), zone)
         }
+        _ => unreachable!("walked.bin has the others"),
     };
     let refusal = answer.err().unwrap_or(0);
     let refused = [0, 0, if kind == 2 { 3 } else { 0 }];
@@ -81,25 +76,15 @@ fn candidates(rules: &Opened, lng: f64, lat: f64) -> Said<[u64; 3]> {
 /// Where a name ends before it starts, the original's difference wraps and it says 44. A file that the original does not open is left out.
 fn hold_original(file: &[u8], lent: &[u8], questions: &[Question]) {
     let Ok(rules) = rules::open(file, &ALL) else { return };
-    let rules = rules.asked_with(lent);
+    let judge = Judge { opened: rules.asked_with(lent), original: &ALL };
     let original = original::opening::open(file).ok().expect("opened by the original");
     let original = original.asked_with(lent);
     for &q in questions {
-        match q {
-            Question::Name(zone) => {
-                let by_rules = match rules.name(zone.into()) {
-                    Err(23) => Err(44),
-                    other => other,
-                };
-                assert_eq!(original.name(zone), by_rules);
-            }
-            Question::Candidates(lng, lat) => {
-                assert_eq!(original.candidates(lng, lat), rules.candidates(lng, lat));
-            }
-            Question::Candidate(place) => {
-                assert_eq!(original.candidate(place), rules.candidate(place.into()));
-            }
-        }
+        let by_rules = match judge.ask(q) {
+            Some(Err(23)) => Some(Err(44)),
+            other => other,
+        };
+        assert_eq!(original.ask(q), by_rules, "{q:?}");
     }
 }
 

@@ -2,6 +2,7 @@
 //! README.md has the layout of their records. Of each file's own bytes the original must say the same, but for its known departures.
 
 use super::blocks::{block, word};
+use crate::compare::asking::questions::{self, spread};
 use crate::file;
 use crate::known::EVERY;
 use crate::random::Random;
@@ -38,7 +39,7 @@ pub fn list() -> (Vec<u8>, Counts) {
         }
         block(&mut out, &file, lent.len());
         for (k, bytes) in lent.iter().enumerate() {
-            let questions = questions(&opened, if k == 0 { MANY } else { FEW });
+            let questions = some_of(&opened, if k == 0 { MANY } else { FEW });
             block(&mut out, bytes, questions.len());
             let judge = Judge { opened: opened.asked_with(bytes), original: &[] };
             for &q in &questions {
@@ -107,16 +108,9 @@ fn other_bytes(file: &[u8], opened: &Opened) -> Vec<Vec<u8>> {
     out
 }
 
-fn spread<T: Copy>(all: &[T], most: usize) -> Vec<T> {
-    if all.len() <= most {
-        return all.to_vec();
-    }
-    (0..most).map(|i| all[i * all.len() / most]).collect()
-}
-
 /// Some of what a comparison asks: of each kind so many. A list is asked with at most 16 places.
-fn questions(opened: &Opened, most: usize) -> Vec<Question> {
-    let all = crate::compare::asking::questions::of(opened, 400);
+fn some_of(opened: &Opened, most: usize) -> Vec<Question> {
+    let all = questions::of(opened, 400);
     let of = |kind: fn(&Question) -> bool| {
         spread(&all.iter().copied().filter(kind).collect::<Vec<_>>(), most)
     };
@@ -139,7 +133,7 @@ fn record(out: &mut Vec<u8>, q: Question, answer: Said<Answer>, counts: &mut Cou
         Question::Contains(zone, x, y) => (2, "point", zone, [x as u32, y as u32], (0.0, 0.0)),
         Question::Lookup(x, y) => (3, "lookup", 0, [0, 0], (x, y)),
         Question::LookupInto(x, y, places) => (4, "list", 0, [places as u32, 0], (x, y)),
-        Question::ContainsAt(..) => unreachable!("no export takes floats in a zone"),
+        _ => unreachable!("asked.bin has the others, and no export takes floats in a zone"),
     };
     [kind, of, a, b].iter().for_each(|&n| word(out, n.into()));
     [x, y].iter().for_each(|&x| out.extend_from_slice(&scene::bits(x).to_le_bytes()));
@@ -160,6 +154,7 @@ fn numbers(answer: Answer) -> [u64; 2] {
         Answer::Zones(zones) => sum(&zones.iter().map(|&n| n as u32).collect::<Vec<_>>()),
         Answer::Is(is) => [is.into(), 0],
         Answer::Zone(zone) => [zone.is_some().into(), zone.unwrap_or(0)],
+        _ => unreachable!("asked.bin has the others"),
     }
 }
 

@@ -108,8 +108,7 @@ impl Caller {
 
         let room = input.rooms[2] % 4;
         let lent = self.rooms[3].lend(8 * room, input.at_end[4], input.guard)?.cast();
-        let code =
-            unsafe { (self.call(Export::Name).name)(r, size, f, length, zone, lent, room) };
+        let code = unsafe { (self.call(Export::Name).name)(r, size, f, length, zone, lent, room) };
         let said = self.said(Export::Name, code.into(), 0, 0)?;
         let ends = self.rooms[3].take(if said.is_some() { 16 } else { 0 })?;
         let may = match first {

@@ -1,6 +1,6 @@
 //! The inputs of a run. Each is made from the seed and its number alone.
 
-use crate::bytes;
+use crate::bytes::{self, hex};
 use crate::file::damage::{Aim, TELLING};
 use crate::file::{self, put, repair, seal, word};
 use crate::port;
@@ -83,10 +83,6 @@ pub struct Input {
     pub at_end: [bool; 6],
     /// What lent memory holds before a call.
     pub guard: u64,
-}
-
-fn hex(bytes: &[u8]) -> String {
-    bytes.iter().map(|b| format!("{b:02x}")).collect()
 }
 
 impl fmt::Debug for Input {

@@ -72,6 +72,11 @@ impl Opened<'_> {
 impl Voice for Opened<'_> {
     fn ask(&self, question: Question) -> Option<Said<Answer>> {
         Some(match question {
+            Question::Name(zone) => {
+                self.name(zone).map(|(start, length)| Answer::Name(start, length))
+            }
+            Question::Candidates(lng, lat) => self.candidates(lng, lat).map(Answer::Candidates),
+            Question::Candidate(place) => self.candidate(place).map(Answer::Candidate),
             Question::Decode(chunk, room) => self.decode(chunk, room).map(Answer::Points),
             Question::Contains(zone, x, y) => self.contains(zone, x, y).map(Answer::Is),
             Question::ContainsAt(zone, x, y) => {

@@ -1,6 +1,6 @@
 //! The port's decoding, containment and lookups, as a voice. Lent memory is held to what was promised, to its last number.
 
-use super::opening::{open_into, said};
+use super::opening::{Opened, said, unless_changed};
 use crate::rules::Said;
 use crate::voice::{Answer, Question, Voice};
 
@@ -55,34 +55,14 @@ const GUARD: u32 = 0xa5a5_a5a5;
 /// So many numbers are lent behind the room, to see that they stay.
 const BEHIND: usize = 8;
 
-/// A file with its record, as the port's bytes, and the bytes that it is asked with.
-pub struct Opened<'a> {
-    record: Vec<u8>,
-    lent: &'a [u8],
-}
-
-pub fn open(file: &[u8]) -> Said<Opened<'_>> {
-    Ok(Opened { record: open_into(file, super::opening::SIZE)?, lent: file })
-}
-
-impl<'a> Opened<'a> {
-    /// The same record, asked with other bytes.
-    pub fn asked_with(self, lent: &'a [u8]) -> Self {
-        Self { lent, ..self }
-    }
-
-    /// A pointer and a length of each, for the calls below.
-    pub fn parts(&self) -> (*const u8, usize, *const u8, usize) {
-        (self.record.as_ptr(), self.record.len(), self.lent.as_ptr(), self.lent.len())
-    }
-
+impl Opened<'_> {
     fn decode(&self, chunk: u32, room: usize) -> Said<Vec<i64>> {
         let (r, size, f, length) = self.parts();
         let mut out = vec![GUARD as i32; room + BEHIND];
         let code = unsafe { tzb_decode(r, size, f, length, chunk, out.as_mut_ptr(), room) };
         let written = 2 * code.max(0) as usize;
-        assert!(out[written..].iter().all(|&n| n == GUARD as i32), "lent memory changed: {code}");
-        said(code).map(|_| out[..written].iter().map(|&n| n.into()).collect())
+        unless_changed(code, &out, written, GUARD as i32)?;
+        Ok(out[..written].iter().map(|&n| n.into()).collect())
     }
 
     pub fn contains(&self, zone: u32, x: i32, y: i32) -> Said<bool> {
@@ -104,8 +84,8 @@ impl<'a> Opened<'a> {
         let (to, room) = (zones.as_mut_ptr(), places);
         let code = unsafe { tzb_ask_all(r, size, f, length, lng, lat, to, room) };
         let written = code.max(0) as usize;
-        assert!(zones[written..].iter().all(|&n| n == GUARD), "lent memory changed: {code}");
-        said(code).map(|_| zones[..written].iter().map(|&zone| zone.into()).collect())
+        unless_changed(code, &zones, written, GUARD)?;
+        Ok(zones[..written].iter().map(|&zone| zone.into()).collect())
     }
 }
 
@@ -117,6 +97,11 @@ fn at_most(room: u64, most: usize) -> usize {
 impl Voice for Opened<'_> {
     fn ask(&self, question: Question) -> Option<Said<Answer>> {
         Some(match question {
+            Question::Name(zone) => {
+                self.name(zone).map(|(start, length)| Answer::Name(start, length))
+            }
+            Question::Candidates(lng, lat) => self.candidates(lng, lat).map(Answer::Candidates),
+            Question::Candidate(place) => self.candidate(place).map(Answer::Candidate),
             Question::Decode(chunk, room) => {
                 self.decode(chunk, at_most(room, 131_072)).map(Answer::Points)
             }

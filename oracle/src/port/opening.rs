@@ -61,6 +61,22 @@ pub const SIZE: usize = 84;
 /// What lent memory holds before, and where nothing may be written.
 const GUARD: u8 = 0xa5;
 
+/// Stands where a refusal's number would: the port wrote where it may not.
+pub const CHANGED: u32 = 1_000_001;
+/// Stands there too: asked in two ways, the port says two things.
+pub const AT_ODDS: u32 = 1_000_002;
+
+/// The code's answer, if nothing but the first so many of what was lent has changed.
+pub(super) fn unless_changed<T: PartialEq>(
+    code: i64,
+    lent: &[T],
+    written: usize,
+    guard: T,
+) -> Said<i64> {
+    let stays = lent.get(written..).is_some_and(|rest| rest.iter().all(|n| *n == guard));
+    if stays { said(code) } else { Err(CHANGED) }
+}
+
 /// A number, or -1000 - n for refusal n.
 pub fn said(code: i64) -> Said<i64> {
     if code < 0 { Err((-1000 - code) as u32) } else { Ok(code) }
@@ -71,19 +87,22 @@ pub fn open_into(file: &[u8], room: usize) -> Said<Vec<u8>> {
     let mut lent = vec![GUARD; room + 16];
     let code = unsafe { tzb_open(file.as_ptr(), file.len(), lent.as_mut_ptr(), room) };
     let kept = if code < 0 { 0 } else { SIZE };
-    assert!(lent[kept..].iter().all(|&b| b == GUARD), "lent memory changed, answer {code}");
-    said(code.into()).map(|_| lent[..SIZE].to_vec())
+    unless_changed(code.into(), &lent, kept, GUARD)?;
+    lent.truncate(SIZE);
+    Ok(lent)
 }
 
 /// Opens into more room than it takes, and into a byte too few.
-pub fn open(file: &[u8]) -> Said<i64> {
+pub fn open(file: &[u8]) -> Said<Opened<'_>> {
     let record = open_into(file, SIZE + 8);
-    assert_eq!(open_into(file, SIZE - 1), record.clone().and(Err(46)), "a room that is too short");
+    let short = open_into(file, SIZE - 1).err();
+    if short != Some(record.as_ref().err().copied().unwrap_or(46)) {
+        return Err(if short == Some(CHANGED) { CHANGED } else { AT_ODDS });
+    }
     let record = record?;
     let zones = said(unsafe { tzb_zone_count(record.as_ptr(), record.len()) })?;
     let count = u32::from_le_bytes(file[40..44].try_into().unwrap());
-    assert_eq!(zones, count.into(), "the zone count");
-    Ok(0)
+    if zones == count.into() { Ok(Opened { record, lent: file }) } else { Err(AT_ODDS) }
 }
 
 /// Opens the file: the number of its refusal, or 0.
@@ -93,53 +112,51 @@ pub unsafe extern "C" fn refusal(file: *const u8, length: usize) -> u32 {
     said(code.into()).err().unwrap_or(0)
 }
 
-/// A file that the port has opened: its record, asked with the file's bytes.
+/// A file that the port has opened: its record, as the port's bytes, and the bytes that it is asked with.
 pub struct Opened<'a> {
     record: Vec<u8>,
-    file: &'a [u8],
-}
-
-pub fn opened(file: &[u8]) -> Said<Opened<'_>> {
-    open_into(file, SIZE).map(|record| Opened { record, file })
-}
-
-impl<'a> Opened<'a> {
-    /// The same record, asked with other bytes.
-    #[cfg(test)]
-    pub fn asked_with(self, file: &'a [u8]) -> Self {
-        Self { file, ..self }
-    }
+    lent: &'a [u8],
 }
 
 impl Opened<'_> {
-    fn lent(&self) -> (*const u8, usize, *const u8, usize) {
-        (self.record.as_ptr(), self.record.len(), self.file.as_ptr(), self.file.len())
+    /// The same record, asked with other bytes.
+    pub fn asked_with<'b>(&self, lent: &'b [u8]) -> Opened<'b> {
+        Opened { record: self.record.clone(), lent }
+    }
+
+    /// A pointer and a length of each, for the calls.
+    pub fn parts(&self) -> (*const u8, usize, *const u8, usize) {
+        (self.record.as_ptr(), self.record.len(), self.lent.as_ptr(), self.lent.len())
     }
 
     /// Where a name starts and how long it is. Both ends at once are as each alone, and 46 with one number lent.
     pub fn name(&self, zone: u32) -> Said<(u64, u64)> {
-        let (r, size, f, length) = self.lent();
+        let (r, size, f, length) = self.parts();
         let start = said(unsafe { tzb_name_start(r, size, f, length, zone) });
         let end = said(unsafe { tzb_name_end(r, size, f, length, zone) });
         let apart = start.and_then(|start| Ok((start as u64, end? as u64)));
-        assert_eq!(self.ends(zone, 3), apart, "both ends of a name at once");
-        assert_eq!(self.ends(zone, 1), apart.and(Err(46)), "both ends with one number lent");
-        apart.map(|(start, end)| (start, end - start))
+        for (room, alike) in [(3, apart), (1, apart.and(Err(46)))] {
+            let ends = self.ends(zone, room);
+            if ends != alike {
+                return Err(if ends == Err(CHANGED) { CHANGED } else { AT_ODDS });
+            }
+        }
+        let (start, end) = apart?;
+        end.checked_sub(start).map(|length| (start, length)).ok_or(AT_ODDS)
     }
 
     /// Both ends of a name, into so many lent numbers. Nothing is written behind them, and nothing at all on a refusal.
     fn ends(&self, zone: u32, room: usize) -> Said<(u64, u64)> {
-        let (r, size, f, length) = self.lent();
+        let (r, size, f, length) = self.parts();
         let mut ends = [u64::from(GUARD); 4];
         let code = unsafe { tzb_name(r, size, f, length, zone, ends.as_mut_ptr(), room) };
         let written = if code < 0 { 0 } else { 2 };
-        let stays = |&n: &u64| n == u64::from(GUARD);
-        assert!(ends[written..].iter().all(stays), "lent memory changed, answer {code}");
-        said(code.into()).map(|_| (ends[0], ends[1]))
+        unless_changed(code.into(), &ends, written, u64::from(GUARD))?;
+        Ok((ends[0], ends[1]))
     }
 
     pub fn candidates(&self, lng: f64, lat: f64) -> Said<Candidates> {
-        let (r, size, f, length) = self.lent();
+        let (r, size, f, length) = self.parts();
         let kind = said(unsafe { tzb_choice(r, size, f, length, lng, lat) }.into())?;
         let listed = unsafe { tzb_listed(r, size, f, length, lng, lat) };
         let (count, offset) = (listed >> 32, listed & 0xffff_ffff);
@@ -152,7 +169,23 @@ impl Opened<'_> {
     }
 
     pub fn candidate(&self, place: u32) -> Said<u64> {
-        let (r, size, f, length) = self.lent();
+        let (r, size, f, length) = self.parts();
         said(unsafe { tzb_candidate(r, size, f, length, place) }).map(|zone| zone as u64)
+    }
+}
+
+#[cfg(test)]
+mod tests {
+    use super::{CHANGED, unless_changed};
+
+    /// Written where it may not be, or said to be written where nothing was lent.
+    #[test]
+    fn changed_memory_is_found_out() {
+        let lent = [7, 7, 0, 0];
+        assert_eq!(unless_changed(2, &lent, 2, 0), Ok(2));
+        assert_eq!(unless_changed(-1042, &lent, 0, 0), Err(CHANGED));
+        assert_eq!(unless_changed(1, &lent, 1, 0), Err(CHANGED));
+        assert_eq!(unless_changed(9, &lent, 9, 0), Err(CHANGED));
+        assert_eq!(unless_changed(-1042, &lent, 2, 0), Err(42));
     }
 }

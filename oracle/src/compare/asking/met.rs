@@ -1,10 +1,12 @@
 //! What a run met: how often each answer was given, and each known difference with the smallest file for it.
 
-use super::ask::{Known, Outcome, Panel};
 use super::{FEW, questions};
-use crate::compare::smallest;
+use crate::bytes::hex;
+use crate::compare::panel::{Known, Outcome, Panel};
+use crate::compare::{keep, smallest};
 use crate::file::smaller;
 use crate::known::OF_ASKING;
+use crate::rules::Said;
 use std::collections::BTreeMap;
 use std::time::{Duration, Instant};
 
@@ -20,7 +22,7 @@ pub struct Met {
     /// Those put to a record with other bytes.
     pub otherwise: u64,
     exact: u64,
-    answers: BTreeMap<(&'static str, String), u64>,
+    answers: BTreeMap<(&'static str, Said<&'static str>), u64>,
     known: [Smallest; OF_ASKING.len()],
 }
 
@@ -33,12 +35,6 @@ struct Smallest {
     accepted: Option<Vec<u8>>,
 }
 
-fn keep(place: &mut Option<Vec<u8>>, file: &[u8]) {
-    if place.as_ref().is_none_or(|kept| file.len() < kept.len()) {
-        *place = Some(file.to_vec());
-    }
-}
-
 /// Whether only this difference was met, and where document 01 has an answer.
 fn tells(known: &[Known], which: usize) -> bool {
     known.iter().all(|k| k.which == which) && known.iter().any(|k| k.document.is_ok())
@@ -46,11 +42,11 @@ fn tells(known: &[Known], which: usize) -> bool {
 
 /// The first question of the file that shows this difference, where it shows no other.
 fn shown(file: &[u8], which: usize, accepted: bool) -> Option<Known> {
-    let panel = Panel::of(file)?;
+    let panel = Panel::of_file(file)?;
     if accepted && panel.broken.is_some() {
         return None;
     }
-    let known = panel.ask_all(questions::of(panel.opened(), FEW)).ok()?.known;
+    let known = panel.ask_all(questions::of(&panel.opened()?, FEW)).ok()?.known;
     if !tells(&known, which) {
         return None;
     }
@@ -62,16 +58,25 @@ impl Met {
         *self.files.entry(broken.unwrap_or(0)).or_default() += 1;
     }
 
+    /// Those put to a record with other bytes.
+    pub fn add_otherwise(&mut self, outcome: Outcome) {
+        self.otherwise += outcome.questions;
+        self.count(outcome.answers);
+    }
+
+    fn count(&mut self, answers: Vec<(&'static str, Said<&'static str>)>) {
+        for answer in answers {
+            *self.answers.entry(answer).or_default() += 1;
+        }
+    }
+
     /// The questions of one file, or some of them.
     pub fn add(&mut self, file: &[u8], outcome: Outcome) {
         self.questions += outcome.questions;
         self.exact += outcome.exact;
-        for answer in outcome.answers {
-            *self.answers.entry(answer).or_default() += 1;
-        }
         for known in &outcome.known {
             let of = &mut self.known[known.which];
-            let accepted = outcome.broken.is_none();
+            let accepted = outcome.accepted;
             of.met += 1;
             of.met_in_accepted += u64::from(accepted);
             if tells(&outcome.known, known.which) {
@@ -81,6 +86,7 @@ impl Met {
                 }
             }
         }
+        self.count(outcome.answers);
     }
 
     /// Makes the smallest files smaller still, as far as there is time.
@@ -97,39 +103,43 @@ impl Met {
         }
     }
 
-    pub fn in_short(&self) -> String {
-        let files: u64 = self.files.values().sum();
-        format!(
-            "{files} files, {} questions, {} more with other bytes",
-            self.questions, self.otherwise
-        )
+    pub fn files(&self) -> u64 {
+        self.files.values().sum()
     }
 
-    pub fn print(&self) {
+    pub fn in_short(&self) -> String {
+        format!("{} questions, {} more with other bytes", self.questions, self.otherwise)
+    }
+
+    /// With the smallest files for the known differences, or without.
+    pub fn print(&self, files: bool) {
         for (rule, count) in &self.files {
             match rule {
                 0 => println!("{count:>12}  files that the full check accepts"),
                 _ => println!("{count:>12}  files that it refuses, lowest broken rule {rule}"),
             }
         }
-        println!("{:>12}  files passed over: a side does not open them", self.passed_over);
+        if self.passed_over > 0 {
+            println!("{:>12}  files passed over: a side does not open them", self.passed_over);
+        }
         println!("{:>12}  questions", self.questions);
         println!("{:>12}  more, put to a record with other bytes", self.otherwise);
         println!("{:>12}  of the first held against exact geometry", self.exact);
         for ((kind, answer), count) in &self.answers {
-            println!("{count:>12}  {kind}: {answer}");
+            match answer {
+                Ok(answer) => println!("{count:>12}  {kind}: {answer}"),
+                Err(number) => println!("{count:>12}  {kind}: refusal {number}"),
+            }
         }
         for (which, (known, of)) in OF_ASKING.iter().zip(&self.known).enumerate() {
-            println!(
-                "known: {}, met {} times, {} of them in files that the full check accepts",
-                known.name, of.met, of.met_in_accepted
-            );
+            println!("known: {}, met {} times", known.name, of.met);
+            println!("  in files that the full check accepts: {} times", of.met_in_accepted);
             println!("  document 01: {}\n  original: {}", known.document, known.original);
             for (what, file, accepted) in [
                 ("smallest", &of.any, false),
                 ("smallest that the full check accepts", &of.accepted, true),
             ] {
-                if let Some(file) = file {
+                if let Some(file) = file.as_ref().filter(|_| files) {
                     println!("  {what}: {} bytes", file.len());
                     if let Some(Known { question, document, original, .. }) =
                         shown(file, which, accepted)
@@ -143,8 +153,4 @@ impl Met {
             }
         }
     }
-}
-
-pub fn hex(file: &[u8]) -> String {
-    file.iter().map(|b| format!("{b:02x}")).collect()
 }

@@ -1,13 +1,13 @@
 //! What is asked of a file: on and beside its points and edges, on a lattice around it, and at the floats that tell.
 
 use crate::random::Random;
-use crate::rules::{Judge, Opened};
+use crate::rules::{Candidates, Judge, Opened};
 use crate::voice::Question;
 
 type Place = (i32, i32);
 
 /// So many of a list, spread over it.
-fn spread<T: Copy>(all: &[T], most: usize) -> Vec<T> {
+pub fn spread<T: Copy>(all: &[T], most: usize) -> Vec<T> {
     if all.len() <= most {
         return all.to_vec();
     }
@@ -142,19 +142,8 @@ pub fn at_random(judge: &Judge, random: &mut Random) -> Vec<Question> {
         1 => (random.from_to(-180, 180) * 100_000, random.from_to(-90, 90) * 100_000),
         _ => on_border(o, random),
     };
-    let move_by = random.pick(&[0, 0, 0, 1, 1, 3, 1000]);
-    let x = x.saturating_add(random.from_to(-move_by, move_by));
-    let y = y.saturating_add(random.from_to(-move_by, move_by));
-    let nudge = |random: &mut Random, n: i32| {
-        let x = f64::from(n) / 100_000.0;
-        match random.below(5) {
-            0 => x.next_up(),
-            1 => x.next_down(),
-            2 => x + (random.part() - 0.5) * 1e-5,
-            _ => x,
-        }
-    };
-    let (lng, lat) = (nudge(random, x), nudge(random, y));
+    let (x, y) = moved((x, y), random);
+    let (lng, lat) = (degrees(random, x), degrees(random, y));
     let mut out = vec![Question::Lookup(lng, lat), Question::LookupInto(lng, lat, u64::MAX)];
     let mut zones = judge.lookup_into(lng, lat, u64::MAX).unwrap_or_default();
     zones.push(random.below(o.zones as usize) as u64);
@@ -163,6 +152,133 @@ pub fn at_random(judge: &Judge, random: &mut Random) -> Vec<Question> {
         out.push(Question::ContainsAt(zone as u32, lng * 100_000.0, lat * 100_000.0));
     }
     out
+}
+
+/// A point or one beside it.
+fn moved((x, y): Place, random: &mut Random) -> Place {
+    let by = random.pick(&[0, 0, 0, 1, 1, 3, 1000]);
+    let x = x.saturating_add(random.from_to(-by, by));
+    (x, y.saturating_add(random.from_to(-by, by)))
+}
+
+/// The degrees of a whole number, or beside them.
+fn degrees(random: &mut Random, n: i32) -> f64 {
+    let x = f64::from(n) / 100_000.0;
+    match random.below(5) {
+        0 => x.next_up(),
+        1 => x.next_down(),
+        2 => x + (random.part() - 0.5) * 1e-5,
+        _ => x,
+    }
+}
+
+/// A corner of a zone's, a group's or a chunk's box.
+fn corner(o: &Opened, random: &mut Random) -> Place {
+    let any = |random: &mut Random, count: u64| random.below(count as usize) as u64;
+    let bounds = match random.below(3) {
+        0 => o.zone_at(any(random, o.zones)).map(|zone| zone.bounds),
+        1 => o.group_at(any(random, o.groups())).map(|group| group.bounds),
+        _ => o.chunk_at(any(random, o.chunks())).map(|chunk| chunk.bounds),
+    };
+    let Ok(b) = bounds else { return (0, 0) };
+    (random.pick(&[b.minx, b.maxx]) as i32, random.pick(&[b.miny, b.maxy]) as i32)
+}
+
+/// A number below a total most of the time, else the first past it, or far past it.
+fn number(random: &mut Random, total: u64) -> u32 {
+    match random.below(12) {
+        0 => total as u32,
+        1 => random.pick(&[total as u32 + 1, 65_535, 65_536, u32::MAX]),
+        _ => random.below(total.max(1) as usize) as u32,
+    }
+}
+
+/// Where questions tell: points of two chunks, the middles of their edges, and corners of boxes.
+struct Marks(Vec<Place>);
+
+impl Marks {
+    fn of(o: &Opened, random: &mut Random) -> Self {
+        let mut marks = vec![corner(o, random), corner(o, random)];
+        for _ in 0..2 {
+            marks.extend(border(o, random.below(o.chunks() as usize) as u64));
+        }
+        Self(marks)
+    }
+
+    /// One of them, or between two of them, or beside.
+    fn place(&self, random: &mut Random) -> Place {
+        let (a, b) = (random.pick(&self.0), random.pick(&self.0));
+        match random.below(8) {
+            0..3 => moved(middle(a, b), random),
+            _ => moved(a, random),
+        }
+    }
+
+    fn position(&self, o: &Opened, random: &mut Random) -> (f64, f64) {
+        let (x, y) = self.place(random);
+        let (lng, lat) = (degrees(random, x), degrees(random, y));
+        match (o.grid, random.below(16)) {
+            (_, 0) => (end(random, 180.0), lat),
+            (_, 1) => (lng, end(random, 90.0)),
+            (_, 2) => (end(random, 180.0), end(random, 90.0)),
+            (Some(g), 3..6) => {
+                let lng = g.lng as f64 + random.below(g.columns as usize + 1) as f64;
+                let lat = g.lat as f64 + random.below(g.rows as usize + 1) as f64;
+                match random.below(3) {
+                    0 => (lng + 0.5, lat + 0.25),
+                    1 => (beside_float(random, lng), lat + 0.25),
+                    _ => (lng + 0.5, beside_float(random, lat)),
+                }
+            }
+            _ => (lng, lat),
+        }
+    }
+
+    /// Where there are candidates, if such a position is soon found.
+    fn listed(&self, o: &Opened, random: &mut Random) -> (f64, f64) {
+        let mut at = self.position(o, random);
+        for _ in 0..3 {
+            if o.candidates(at.0, at.1) != Ok(Candidates::Nothing) {
+                break;
+            }
+            at = self.position(o, random);
+        }
+        at
+    }
+}
+
+fn beside_float(random: &mut Random, x: f64) -> f64 {
+    random.pick(&[x, x, x.next_down(), x.next_up()])
+}
+
+/// The end of the world or of the shortcut, or beside; now and then a float that is special everywhere.
+fn end(random: &mut Random, end: f64) -> f64 {
+    let special = random.pick(&[f64::NAN, f64::INFINITY, 0.0, f64::from_bits(1), end + 1.0]);
+    let x = random.pick(&[end, end, end - 1.0, special]);
+    beside_float(random, x) * random.pick(&[1.0, -1.0])
+}
+
+/// Of a small file: a question of each kind, where it tells.
+pub fn few(o: &Opened, random: &mut Random) -> [Question; 8] {
+    let marks = Marks::of(o, random);
+    let chunk = number(random, o.chunks());
+    let numbers = o.chunk_at(chunk.into()).map_or(4, |chunk| 2 * chunk.count);
+    let room = random.pick(&[numbers, numbers + 1, numbers + 6, numbers.saturating_sub(1), 0]);
+    let places = random.pick(&[o.zones, o.zones + 3, 1, 0]);
+    let (x, y) = marks.place(random);
+    let anywhere = marks.position(o, random);
+    let (first, second) = (marks.listed(o, random), marks.listed(o, random));
+    let zone = random.below(o.zones as usize) as u32;
+    [
+        Question::Name(number(random, o.zones)),
+        Question::Candidate(number(random, o.candidate_total())),
+        Question::Candidates(anywhere.0, anywhere.1),
+        Question::Decode(chunk, room),
+        Question::Contains(number(random, o.zones), x, y),
+        Question::ContainsAt(zone, first.0 * 100_000.0, first.1 * 100_000.0),
+        Question::Lookup(first.0, first.1),
+        Question::LookupInto(second.0, second.1, places),
+    ]
 }
 
 /// On and beside every point and the middle of every edge of a chunk, in the zones listed there.
@@ -192,10 +308,13 @@ pub fn beside((x, y): Place) -> [Place; 5] {
     [(x, y), (x + 1, y), (x, y + 1), (x - 1, y), (x, y - 1)]
 }
 
-/// A point of a chunk, or one on the way to the next.
+/// A point of a chunk, or one on the way to the next. A corner of a box, where no point of the chunk can be read.
 fn on_border(o: &Opened, random: &mut Random) -> Place {
     let points = o.readable(random.below(o.chunks() as usize) as u64);
     let whole = |(x, y): (i64, i64)| (x as i32, y as i32);
+    if points.is_empty() {
+        return corner(o, random);
+    }
     let i = random.below(points.len());
     let a = whole(points[i]);
     match points.get(i + 1) {

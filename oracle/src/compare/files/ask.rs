@@ -1,43 +1,21 @@
 //! Puts one file and its questions to all sides.
 
 use super::Tally;
-use crate::known::ALL;
+use crate::compare::panel::Panel;
+use crate::compare::sides::Sides;
 use crate::random::Random;
-use crate::rules::{self, Opened, Said};
-use crate::{original, port};
-use std::fmt::Debug;
+use crate::rules::Opened;
+use crate::voice::Question;
 
-/// The numbers that were said, 0 where the file opens.
-pub struct Outcome {
-    pub document: u32,
-    pub original: u32,
-    pub questions: u64,
-}
-
-fn same<T: PartialEq + Debug>(what: &str, side: T, rules: T) -> Result<(), String> {
-    if side == rules {
-        return Ok(());
-    }
-    Err(format!("{what} {side:?}, where the rules say {rules:?}"))
-}
-
-fn number<T>(said: &Said<T>) -> u32 {
-    said.as_ref().err().copied().unwrap_or(0)
-}
-
-/// All that is asked of a small file, or what differs.
-pub fn everything(file: &[u8]) -> Result<Outcome, String> {
-    let document = rules::open(file, &[]);
-    let departed = rules::open(file, &ALL);
-    let original = original::opening::open(file);
-    same("opening: the original says", number(&original), number(&departed))?;
-    let mut questions = 0;
-    if let (Ok(side), Ok(rules)) = (&original, &departed) {
-        questions += of_original(side, rules)?;
-    }
-    same("opening: the port says", number(&port::opening::open(file)), number(&document))?;
-    questions += of_port(file, &document)?;
-    Ok(Outcome { document: number(&document), original: number(&original), questions })
+/// All that is asked of a small file: the numbers that were said of opening, and how many questions more; or what differs.
+pub fn everything(file: &[u8]) -> Result<([u32; 2], u64), String> {
+    let sides = Sides::open(file);
+    sides.agree()?;
+    let numbers = sides.numbers();
+    let panel = Panel::of(sides);
+    let Some(opened) = panel.opened() else { return Ok((numbers, 0)) };
+    let outcome = panel.ask_all(questions(&opened)).map_err(|difference| difference.to_string())?;
+    Ok((numbers, outcome.questions))
 }
 
 /// Numbers of zones or places that tell, below and past a total.
@@ -67,73 +45,32 @@ fn positions(opened: &Opened) -> Vec<(f64, f64)> {
     out
 }
 
-fn of_original(side: &original::opening::Opened, rules: &Opened) -> Result<u64, String> {
-    let mut count = 0;
-    for zone in numbers(rules.zones) {
-        same("name: the original says", side.name(zone), rules.name(zone.into()))?;
-        count += 1;
-    }
-    for place in numbers(rules.candidate_total()) {
-        let by_rules = rules.candidate(place.into());
-        same("candidate: the original says", side.candidate(place), by_rules)?;
-        count += 1;
-    }
-    for (lng, lat) in positions(rules) {
-        let by_rules = rules.candidates(lng, lat);
-        same("candidates: the original says", side.candidates(lng, lat), by_rules)?;
-        count += 1;
-    }
-    Ok(count)
-}
-
-/// Where the file opens, it is opened once and asked all.
-fn of_port(file: &[u8], document: &Said<Opened>) -> Result<u64, String> {
-    let (Ok(rules), Ok(side)) = (document, port::opening::opened(file)) else { return Ok(0) };
-    let mut count = 0;
-    for zone in numbers(rules.zones) {
-        same("name: the port says", side.name(zone), rules.name(zone.into()))?;
-        count += 1;
-    }
-    for place in numbers(rules.candidate_total()) {
-        let by_rules = rules.candidate(place.into());
-        same("candidate: the port says", side.candidate(place), by_rules)?;
-        count += 1;
-    }
-    for (lng, lat) in positions(rules) {
-        let by_rules = rules.candidates(lng, lat);
-        same("candidates: the port says", side.candidates(lng, lat), by_rules)?;
-        count += 1;
-    }
-    Ok(count)
+/// Names, and places of the candidates, up to past the last; the candidates at positions that tell.
+pub fn questions(opened: &Opened) -> Vec<Question> {
+    let mut out: Vec<Question> = numbers(opened.zones).map(Question::Name).collect();
+    out.extend(numbers(opened.candidate_total()).map(Question::Candidate));
+    out.extend(positions(opened).into_iter().map(|(x, y)| Question::Candidates(x, y)));
+    out
 }
 
 /// All that there is to ask of a large file that opens.
 pub fn all_of(file: &[u8], tally: &mut Tally) -> Result<(), String> {
-    let Ok(rules) = rules::open(file, &[]) else { return Ok(()) };
-    let Ok(side) = original::opening::open(file) else { return Ok(()) };
-    let port = port::opening::opened(file).map_err(|n| format!("opening: the port says {n}"))?;
-    for zone in 0..rules.zones {
-        same("name: the original says", side.name(zone as u32), rules.name(zone))?;
-        tally.add("names", 1);
-        same("name: the port says", port.name(zone as u32), rules.name(zone))?;
-        tally.add("names, port", 1);
-    }
-    let total = rules.candidate_total();
-    for place in 0..total + 2 {
-        let by_rules = rules.candidate(place);
-        same("candidate: the original says", side.candidate(place as u32), by_rules)?;
-        tally.add("places of the candidates", 1);
-        same("candidate: the port says", port.candidate(place as u32), by_rules)?;
-        tally.add("places of the candidates, port", 1);
-    }
+    let panel = Panel::of(Sides::open(file));
+    let Some(opened) = panel.opened() else { return Ok(()) };
     let mut random = Random::new(6);
-    for _ in 0..200_000 {
+    let mut anywhere = || {
         let (lng, lat) = position(&mut random);
-        let by_rules = rules.candidates(lng, lat);
-        same("candidates: the original says", side.candidates(lng, lat), by_rules)?;
-        tally.add("positions", 1);
-        same("candidates: the port says", port.candidates(lng, lat), by_rules)?;
-        tally.add("positions, port", 1);
+        Question::Candidates(lng, lat)
+    };
+    let places = 0..opened.candidate_total() as u32 + 2;
+    let all: [(&str, Vec<Question>); 3] = [
+        ("names", (0..opened.zones as u32).map(Question::Name).collect()),
+        ("places of the candidates", places.map(Question::Candidate).collect()),
+        ("positions", (0..200_000).map(|_| anywhere()).collect()),
+    ];
+    for (what, questions) in all {
+        let outcome = panel.ask_all(questions).map_err(|difference| difference.to_string())?;
+        tally.add(what, outcome.questions);
     }
     Ok(())
 }
@@ -151,17 +88,14 @@ fn position(random: &mut Random) -> (f64, f64) {
 
 #[cfg(test)]
 mod tests {
-    use super::{everything, of_port};
+    use super::everything;
     use crate::file::{bases, damage};
-    use crate::rules;
 
     #[test]
     fn answers_of_the_port_are_read_rightly() {
         for base in bases() {
             assert!(everything(&base).is_ok());
-            damage::tables(&base, &mut |_, file| {
-                assert!(of_port(&file, &rules::open(&file, &[])).is_ok());
-            });
+            damage::tables(&base, &mut |_, file| assert!(everything(&file).is_ok()));
         }
     }
 }

@@ -1,6 +1,7 @@
 //! What a run met: how often each refusal was said, and each known difference with the smallest file for it.
 
-use super::ask::Outcome;
+use crate::bytes::hex;
+use crate::compare::{keep, stop};
 use crate::known::{self, ALL, KNOWN};
 use std::collections::BTreeMap;
 
@@ -21,31 +22,27 @@ struct Smallest {
     opens: Option<Vec<u8>>,
 }
 
-fn keep(place: &mut Option<Vec<u8>>, file: &[u8]) {
-    if place.as_ref().is_none_or(|kept| file.len() < kept.len()) {
-        *place = Some(file.to_vec());
-    }
-}
-
 impl Met {
-    pub fn add(&mut self, file: &[u8], outcome: &Outcome) {
+    /// A file with document 01's number and the original's, and how many questions were put to it.
+    pub fn add(&mut self, file: &[u8], [document, original]: [u32; 2], questions: u64) {
         self.files += 1;
-        self.questions += outcome.questions;
-        self.said.entry(outcome.document).or_default()[0] += 1;
-        self.said.entry(outcome.original).or_default()[1] += 1;
-        if outcome.document == outcome.original {
+        self.questions += questions;
+        self.said.entry(document).or_default()[0] += 1;
+        self.said.entry(original).or_default()[1] += 1;
+        if document == original {
             return;
         }
         let which = known::met(file);
         if which.is_empty() {
-            super::stop(file, "the two sides differ, and no known difference tells why");
+            let why = "the two sides differ, and no known difference tells why";
+            stop(file, why, |_| None);
         }
         for &i in &which {
             let smallest = &mut self.known[i];
             smallest.met += 1;
             if which.len() == 1 {
                 keep(&mut smallest.any, file);
-                if outcome.document == 0 || outcome.original == 0 {
+                if document == 0 || original == 0 {
                     keep(&mut smallest.opens, file);
                 }
             }
@@ -63,13 +60,14 @@ impl Met {
         }
     }
 
-    pub fn in_short(&self) -> String {
-        format!("{} files, {} questions", self.files, self.questions)
-    }
-
     pub fn print(&self) {
         println!("{:>12}  files", self.files);
         println!("{:>12}  questions of names and candidates", self.questions);
+        self.print_opening(true);
+    }
+
+    /// What was said of opening, and the known differences; with the smallest files or without.
+    pub fn print_opening(&self, files: bool) {
         println!("{:>12}{:>12}{:>12}", "answer", "document 01", "original");
         for n in 0..=34 {
             let [document, original] = self.said.get(&n).unwrap_or(&[0; 2]);
@@ -80,7 +78,7 @@ impl Met {
             println!("known: {}, met {} times", known.name, of.met);
             println!("  document 01: {}\n  original: {}", known.document, known.original);
             for (what, file) in [("smallest", &of.any), ("smallest that a side opens", &of.opens)] {
-                if let Some(file) = file {
+                if let Some(file) = file.as_ref().filter(|_| files) {
                     let (d, o) = (known::number(file, &[]), known::number(file, &ALL));
                     println!("  {what}: {} bytes, document 01 {d}, original {o}", file.len());
                     println!("    {}", hex(file));
@@ -88,8 +86,4 @@ impl Met {
             }
         }
     }
-}
-
-pub fn hex(file: &[u8]) -> String {
-    file.iter().map(|b| format!("{b:02x}")).collect()
 }
