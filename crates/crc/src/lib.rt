@@ -2,7 +2,7 @@
 ghost use mathlib.Core.Path.{_≡_};
 ghost use Prim.Native.Nat.{_+_, _*_, _%_, _<_, _≤_};
 ghost use lib.ListN.{length, drop, take};
-ghost use Rattle.crc.specs.Crc32.{step, steps, bytes, crc32, Filled};
+ghost use Rattle.crc.specs.Crc32.{step, steps, bytes, crc32, Filled, First, Power};
 
 fn wide(b: u8) -> u32
     ensures { λ r. ⌜ (r ≡ b) × (r < 256) ⌝ }
@@ -48,24 +48,38 @@ fn eight(c: u32) -> u32
     one(one(one(one(one(one(one(one(c))))))))
 }
 
-// The first table, bit by bit; the others still empty.
-fn first_row() -> [u32; 4096]
-    ensures { λ r. ⌜ Filled r 256 ⌝ }
+// The entries from p on, p of them, from those below p: the bits of p and of what is below p leave apart.
+fn doubled(t: &mut [u32], p: usize)
+    requires { ⌜ (p ≤ 128) × Power p × First (now t) p ⌝ }
+    ensures { λ _. ⌜ First (now (t .exit)) (p * 2) ⌝ }
 {
-    let mut t = [0u32; 4096];
-    let mut i: usize = 0;
-    while i < 256 {
-        t[i] = eight(narrow(i));
-        i += 1;
+    let x = eight(narrow(p));
+    let mut j: usize = 0;
+    while j < p {
+        t[p + j] = x ^ t[j];
+        j += 1;
     }
-    t
+}
+
+// The first table, in the first 256 places.
+fn first_row(t: &mut [u32])
+    requires { ⌜ 256 ≤ length (now t) ⌝ }
+    ensures { λ _. ⌜ First (now (t .exit)) 256 ⌝ }
+{
+    t[0] = 0;
+    let mut p: usize = 1;
+    while p < 256 {
+        doubled(t, p);
+        p *= 2;
+    }
 }
 
 // All sixteen tables: each entry after the first 256 comes from the one 256 places before it.
 pub fn tables() -> [u32; 4096]
     ensures { λ r. ⌜ Filled r 4096 ⌝ }
 {
-    let mut t = first_row();
+    let mut t = [0u32; 4096];
+    first_row(&mut t);
     let mut i: usize = 256;
     while i < 4096 {
         let prev = t[i - 256];
@@ -84,8 +98,8 @@ fn slot(t: &[u32; 4096], k: usize, v: u64) -> u32
 }
 
 // The same of the first table, which may be the only one.
-fn first_slot(t: &[u32; 4096], v: u64) -> u32
-    requires { ⌜ Filled (now t) 256 ⌝ }
+fn first_slot(t: &[u32], v: u64) -> u32
+    requires { ⌜ First (now t) 256 ⌝ }
     ensures { λ r. ⌜ r ≡ steps 8 (v % 256) ⌝ }
 {
     t[low(v)]
@@ -122,8 +136,8 @@ fn sixteen(t: &[u32; 4096], c: u32, s: &[u8], i: usize) -> u32
 }
 
 // The register after the bytes from `from` on, one at a time, by the first table.
-fn tail(t: &[u32; 4096], c0: u32, s: &[u8], from: usize) -> u32
-    requires { ⌜ (from ≤ length (now s)) × Filled (now t) 256 ⌝ }
+fn tail(t: &[u32], c0: u32, s: &[u8], from: usize) -> u32
+    requires { ⌜ (from ≤ length (now s)) × First (now t) 256 ⌝ }
     ensures { λ r. ⌜ r ≡ bytes c0 (drop from (now (s .entry))) ⌝ }
 {
     let mut c = c0;
@@ -154,7 +168,8 @@ pub fn crc32_with(t: &[u32; 4096], s: &[u8]) -> u32
 fn crc32_short(s: &[u8]) -> u32
     ensures { λ r. ⌜ r ≡ crc32 (now (s .entry)) ⌝ }
 {
-    let t = first_row();
+    let mut t = [0u32; 256];
+    first_row(&mut t);
     tail(&t, 0xffff_ffff, s, 0) ^ 0xffff_ffff
 }
 

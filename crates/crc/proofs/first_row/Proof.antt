@@ -1,56 +1,57 @@
--- The first table: before each turn the entries below i are right.
+-- The first table: before each turn the entries below p are right, p a power of two.
 -- Assumes nothing.
-use mathlib.Core.Path.{_≡_, ap, _∙_, subst}
-use Prim.Native.Nat.{ℕ, _-_, _≤_}
-use lib.ListN.{length-replicate}
-use Rattle.crc.specs.Crc32.{steps, Filled}
-use Rattle.crc.proofs.Front.{none, more, first}
+use mathlib.Core.Path.{_≡_, refl, ap, _∙_, subst}
+use Prim.Native.Nat.{ℕ, _+_, _-_, _*_, _≤_}
+use lib.ListN.{length, length-set}
+use Rattle.crc.specs.Crc32.{First, Power}
+use Rattle.crc.proofs.Front.{begun, power-first, power-next, power-least, power-most}
 use native.Mathlib.Omega.{arith}
 use borrow.Author.Needs.{needs}
 use Rattle.crc.proofs.first_row.Statement.{statement}
 use Rattle.crc.proofs.first_row.Tie as tie
 
 abbrev Inv-loop : tie.InvT-loop
-Inv-loop t₀ i₀ t i = (i ≤ 256) × Filled t i
+Inv-loop t₀ p₀ t p = Power p × (length t ≡ length t₀) × First t p
 
 abbrev μ-loop : tie.MeasureT-loop
-μ-loop t₀ i₀ t i = 256 - i
+μ-loop t₀ p₀ t p = 256 - p
+
+slice-write-t : tie.Need-slice-write-t Inv-loop μ-loop
+slice-write-t c = search needs
 
 loop-holds : tie.Need-loop-holds Inv-loop μ-loop
-loop-holds c = (omega arith, none _ (length-replicate {A = ℕ} 4096 0))
+loop-holds c = (power-first, refl, begun (c .before .args .t .now) (c .before .pre))
 
-narrow-requires : tie.Need-narrow-requires Inv-loop μ-loop
-narrow-requires c κs = search needs
+doubled-requires : tie.Need-doubled-requires Inv-loop μ-loop
+doubled-requires c κs =
+    let v = c .before .before .loop in
+    let m = power-most _ (power-next (v .p) (v .inv .0) (c .before .loop-test .taken)) in
+    (omega arith, v .inv .0, v .inv .2)
 
-eight-requires : tie.Need-eight-requires Inv-loop μ-loop
-eight-requires c κs = search needs
-
-mul-t : tie.Need-mul-t Inv-loop μ-loop
-mul-t c = search needs
-
-array-write-t : tie.Need-array-write-t Inv-loop μ-loop
-array-write-t c = search needs
-
-add-i : tie.Need-add-i Inv-loop μ-loop
-add-i c = search needs
+mul-p : tie.Need-mul-p Inv-loop μ-loop
+mul-p c = search needs
 
 loop-less : tie.Need-loop-less Inv-loop μ-loop
-loop-less c = omega arith
+loop-less c =
+    let v = c .before .before .before .before .before .loop in
+    omega (arith, power-least (v .p) (v .inv .0))
 
 loop-again : tie.Need-loop-again Inv-loop μ-loop
 loop-again c =
-    let n = c .before in
-    let v = n .before .before .loop in (
-      omega arith,
-      more (v .t) (v .i) (c .eight .result) (omega arith) (v .inv .1)
-          (c .eight .ensures ∙ ap (steps 8) (n .narrow .ensures) ∙ first (v .i) (n .before .loop-test .taken)),
-    )
+    let d = c .before .before .doubled in
+    let k = c .before .before .before .before in
+    let v = k .before .loop in
+    (power-next (v .p) (v .inv .0) (k .loop-test .taken), d .kept .0 ∙ v .inv .1, d .ensures)
+
+same-length : tie.Need-same-length Inv-loop μ-loop
+same-length c = c .before .loop .inv .1 ∙ length-set (c .before .before .before .args .t .now) 0 0
 
 returns : tie.Need-returns Inv-loop μ-loop
 returns c =
     let v = c .before .loop in
-    let e : v .i ≡ 256 = omega arith in
-    subst (Filled (v .t)) e (v .inv .1)
+    let m = power-most (v .p) (v .inv .0) in
+    let e : v .p ≡ 256 = omega arith in
+    subst (First (v .t)) e (v .inv .2)
 
 pub first-row-spec : {M : Type 1} → statement M
 first-row-spec =
@@ -58,12 +59,11 @@ first-row-spec =
     (tie.spec
     Inv-loop
     μ-loop
+    slice-write-t
     loop-holds
-    narrow-requires
-    eight-requires
-    mul-t
-    array-write-t
-    add-i
+    doubled-requires
+    mul-p
     loop-less
     loop-again
+    same-length
     returns)

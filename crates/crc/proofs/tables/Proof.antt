@@ -3,9 +3,9 @@
 use mathlib.Core.Path.{_≡_, refl, ap, _∙_, subst}
 use Prim.Native.Nat.{ℕ, _-_, _/_, _%_, _≤_}
 use lib.Bits.{bitXor}
-use lib.ListN.{getD}
+use lib.ListN.{getD, length-replicate}
 use Rattle.crc.specs.Crc32.{Filled}
-use Rattle.crc.proofs.Front.{more, later}
+use Rattle.crc.proofs.Front.{back, more, later}
 use native.Mathlib.Omega.{arith}
 use borrow.Author.Needs.{needs}
 use Rattle.crc.proofs.tables.Statement.{statement}
@@ -17,11 +17,16 @@ Inv-loop t₀ i₀ t i = (256 ≤ i) × (i ≤ 4096) × Filled t i
 abbrev μ-loop : tie.MeasureT-loop
 μ-loop t₀ i₀ t i = 4096 - i
 
+slice-aggregate-first-row : tie.Need-slice-aggregate-first-row Inv-loop μ-loop
+slice-aggregate-first-row c = search needs
+
 first-row-requires : tie.Need-first-row-requires Inv-loop μ-loop
 first-row-requires c κs = search needs
 
 loop-holds : tie.Need-loop-holds Inv-loop μ-loop
-loop-holds c = (omega arith, omega arith, c .first-row .ensures)
+loop-holds c =
+    let f = c .before .first-row in
+    (omega arith, omega arith, back (f .last .0) (f .kept .0 ∙ length-replicate {A = ℕ} 4096 0) (f .ensures))
 
 sub-prev : tie.Need-sub-prev Inv-loop μ-loop
 sub-prev c = search needs
@@ -81,6 +86,7 @@ tables-spec =
     (tie.spec
     Inv-loop
     μ-loop
+    slice-aggregate-first-row
     first-row-requires
     loop-holds
     sub-prev
