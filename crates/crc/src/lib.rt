@@ -125,14 +125,14 @@ fn word(t: &[u32; 4096], k: usize, v0: u64) -> u32
                         ^ (slot(t, k + 2, v5) ^ (slot(t, k + 1, v6) ^ slot(t, k, v7)))))))
 }
 
-// The register after the sixteen bytes from i on.
+// The register after the sixteen bytes from i on: the eight that do not wait for it first.
 fn sixteen(t: &[u32; 4096], c: u32, s: &[u8], i: usize) -> u32
     requires { ⌜ (i + 16 ≤ length (now s)) × Filled (now t) 4096 ⌝ }
     ensures { λ r. ⌜ r ≡ bytes c (take 16 (drop i (now (s .entry)))) ⌝ }
 {
+    let hi = word(t, 0, fields::u64_at(s, i + 8));
     let lo = wide64(c) ^ fields::u64_at(s, i);
-    let hi = fields::u64_at(s, i + 8);
-    word(t, 8, lo) ^ word(t, 0, hi)
+    word(t, 8, lo) ^ hi
 }
 
 // The register after the bytes from `from` on, one at a time, by the first table.
