@@ -50,7 +50,7 @@ loop-again c =
     let at = l .loop .at in (
       join (g .s .now) (g .i) at (at + 32) (l .loop .inv .0)
           (join (g .s .now) at (at + 16) (at + 32) (c .before .before .before .sixteen .ensures (not-false (c .before .before .before .sixteen .result) (c .before .before .if1 .left)))
-          (λ k a b. c .before .sixteen2 .ensures (not-false (c .before .sixteen2 .result) (c .if2 .left)) k a (omega arith))),
+          (λ k a b. c .before .sixteen2 .ensures (not-false (c .before .sixteen2 .result) (c .if2 .left)) k (omega arith) (omega arith))),
       (omega arith, omega arith),
     )
 

@@ -22,7 +22,7 @@ returns c = λ t.
     let g = c .before .before .before .args in
     let x = c .before .eight .result in
     let y = c .eight2 .result in
-    join (g .s .now) (g .i) (g .i + 8) (g .i + 16) (c .before .eight .ensures (and-l x y t)) (λ k a b. c .eight2 .ensures (and-r x y t) k a (omega arith))
+    join (g .s .now) (g .i) (g .i + 8) (g .i + 16) (c .before .eight .ensures (and-l x y t)) (λ k a b. c .eight2 .ensures (and-r x y t) k (omega arith) (omega arith))
 
 pub sixteen-spec : {M : Type 1} → statement M
 sixteen-spec = tie.close (tie.spec eight-requires add-eight eight-requires-2 returns)
