@@ -2,15 +2,14 @@
 //! An input is made from the seed and its number alone, so that any of them can be asked for again.
 
 mod calls;
-mod exports;
 mod fence;
 mod inputs;
 #[cfg(test)]
 mod tests;
 mod watch;
 
+use crate::port::exports::{NAMES, PORT};
 use calls::Caller;
-use exports::{NAMES, PORT};
 use inputs::Inputs;
 
 /// How many inputs where nothing else is said.

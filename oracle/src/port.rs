@@ -1,41 +1,13 @@
 //! The port, through its archive's C exports. A `&[u8]` passes as pointer, then length.
 
 pub mod asking;
+pub mod exports;
 #[cfg(test)]
 mod header;
 pub mod opening;
 
 use crate::bytes::Reading;
 use crate::scene::Scene;
-
-pub mod exports {
-    unsafe extern "C" {
-        pub fn tzb_crc32(data: *const u8, length: usize) -> u32;
-        pub fn tzb_utf8(data: *const u8, length: usize) -> u32;
-        pub fn tzb_number(data: *const u8, length: usize, at: usize) -> i32;
-        pub fn tzb_number_length(data: *const u8, length: usize, at: usize) -> i32;
-        pub safe fn tzb_ray(ax: i32, ay: i32, bx: i32, by: i32, x: f64, y: f64) -> i32;
-        pub safe fn tzb_parity(ax: i32, ay: i32, bx: i32, by: i32, x: f64, y: f64) -> u32;
-        pub safe fn tzb_next_up(x: f64) -> f64;
-        pub safe fn tzb_box_contains(
-            minx: i32,
-            miny: i32,
-            maxx: i32,
-            maxy: i32,
-            x: f64,
-            y: f64,
-        ) -> u32;
-        pub safe fn tzb_box_relevant(
-            minx: i32,
-            miny: i32,
-            maxx: i32,
-            maxy: i32,
-            x: f64,
-            y: f64,
-        ) -> u32;
-    }
-}
-
 use exports::*;
 
 pub fn crc32(data: &[u8]) -> u32 {

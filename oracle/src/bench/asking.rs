@@ -3,8 +3,7 @@
 use super::{ROUNDS, is_wanted, row, time};
 use crate::original;
 use crate::port;
-use crate::port::asking::exports::*;
-use crate::port::opening::exports::tzb_name;
+use crate::port::exports::*;
 use crate::random::Random;
 use crate::rules::{self, Judge};
 use std::time::Duration;

@@ -3,7 +3,7 @@
 use crate::file::{
     Chunks, Draft, GROUPDIR, NAMES, Op, Part, RINGDIR, RINGOPS, Shape, TZDIR, names, put, shuffle,
 };
-use crate::port::asking::exports::*;
+use crate::port::exports::*;
 use crate::port::opening::refusal;
 use crate::random::Random;
 use crate::{original, port};

@@ -18,7 +18,7 @@ use std::time::{Duration, Instant};
 
 /// How many questions of each kind are put: to a valid file, and to a damaged one.
 const MANY: usize = 1000;
-pub const FEW: usize = 60;
+const FEW: usize = 60;
 
 /// Fixed files first, then random ones until the time is over.
 pub fn run(seconds: u64, seed: u64) {
@@ -122,7 +122,7 @@ fn small(panel: &Panel, most: usize) -> Vec<Question> {
     panel.opened().map_or(Vec::new(), |opened| questions::of(&opened, most))
 }
 
-pub fn differs(panel: &Panel, most: usize) -> Option<String> {
+fn differs(panel: &Panel, most: usize) -> Option<String> {
     let difference = panel.ask_all(small(panel, most)).err()?;
     Some(difference.to_string())
 }

@@ -102,17 +102,24 @@ pub fn differs<T: Debug, A: Debug + PartialEq>(
 /// Where a file is kept on which a difference shows that is not on the list.
 pub const DIFFERENCE: &str = "target/difference.tzb";
 
-/// Prints such a difference, makes its file small, keeps it, and ends the run. What is asked says what differs, or None.
+/// So many seconds are spent on making such a file small.
+const SHRINKING: u64 = 120;
+
+/// Prints such a difference, keeps its file, makes it small as far as there is time, and ends the run. `differs` says what differs in a file, if something does.
 pub fn stop(file: &[u8], found: &str, differs: impl Fn(&[u8]) -> Option<String>) -> ! {
+    let keep = |file: &[u8]| std::fs::write(DIFFERENCE, file).expect("a place for the file");
     println!("found: {found}, in a file of {} bytes", file.len());
+    keep(file);
+    let end = Instant::now() + Duration::from_secs(SHRINKING);
+    let shows = |f: &Vec<u8>| Instant::now() < end && differs(f).is_some();
     let small = match file.len() {
-        0..5000 => smallest(file.to_vec(), |f| smaller::files(f), |f| differs(f).is_some()),
+        0..5000 => smallest(file.to_vec(), |f| smaller::files(f), shows),
         _ => file.to_vec(),
     };
     if let Some(difference) = differs(&small) {
         println!("made small: {difference}, in a file of {} bytes", small.len());
     }
-    std::fs::write(DIFFERENCE, &small).expect("a place for the file");
+    keep(&small);
     println!("written to {DIFFERENCE}");
     if small.len() < 5000 {
         println!("{}", hex(&small));

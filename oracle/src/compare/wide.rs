@@ -1,8 +1,8 @@
 //! Many files and few questions to each: random ones, valid and damaged, through opening, names, candidates, decoding, containment, lookups and, now and then, the full check.
 //! A file's record is also asked with other bytes. Two runs with different seeds see different files.
 
-use super::asking::{self, FEW, met::Met as Asked, questions};
-use super::files::{self, met::Met as Openings};
+use super::asking::{self, met::Met as Asked, questions};
+use super::files::met::Met as Openings;
 use super::panel::{Difference, Panel};
 use super::sides::{Record, Sides};
 use super::{Tally, stop};
@@ -81,20 +81,18 @@ impl Found {
         Box::new(Self { file: file.to_vec(), lent: None, question: None, why })
     }
 
-    /// What differs where the panel is asked the same, and what a small file is asked.
+    /// What differs where the panel is asked the same.
     fn again(&self, panel: &Panel) -> Option<String> {
-        if let Some(difference) = panel.ask_all(self.question).err() {
-            return Some(difference.to_string());
-        }
-        let names = files::questions(&panel.opened()?);
-        let difference = panel.ask_all(names).err().map(|difference| difference.to_string());
-        difference.or_else(|| asking::differs(panel, FEW))
+        Some(panel.ask_all(self.question).err()?.to_string())
     }
 
+    /// What differs in this file, of the same kind.
     fn anew(&self, file: &[u8]) -> Option<String> {
         let sides = Sides::open(file);
-        let opening = sides.agree().err();
-        opening.or_else(|| asking::checks_differ(file)).or_else(|| self.again(&Panel::of(sides)))
+        match self.question {
+            None => sides.agree().err().or_else(|| asking::checks_differ(file)),
+            Some(_) => self.again(&Panel::of(sides).checked()),
+        }
     }
 
     /// Makes the file small, or the bytes that its record is asked with, keeps it and ends the run.

@@ -1,11 +1,12 @@
 //! One input through every export. What is wrong with an answer, or with lent memory after it, is told.
 
 use super::Tally;
-use super::exports::{Export, Exports};
 use super::fence::{Lent, Room};
 use super::inputs::{Input, LONGEST, SHORT};
 use super::watch;
+use crate::port::exports::{Export, Exports};
 use crate::port::opening::SIZE;
+use crate::scene::Scene;
 
 pub struct Caller {
     exports: Exports,
@@ -173,12 +174,15 @@ impl Caller {
         unsafe { (self.call(Export::Crc32).crc32)(p, length) };
         let is = |what: u32| hold(what < 2, || format!("{what} is no answer"));
         is(unsafe { (self.call(Export::Utf8).utf8)(p, length) })?;
-        is((self.call(Export::BoxContains).box_contains)(s.ax, s.ay, s.bx, s.by, s.x, s.y))?;
-        is((self.call(Export::BoxRelevant).box_relevant)(s.ax, s.ay, s.bx, s.by, s.x, s.y))?;
-        is((self.call(Export::Parity).parity)(s.ax, s.ay, s.bx, s.by, s.x, s.y))?;
-        let seen = (self.call(Export::Ray).ray)(s.ax, s.ay, s.bx, s.by, s.x, s.y);
+        let Scene { ax, ay, bx, by, x, y } = s;
+        let export = self.call(Export::BoxContains).box_contains;
+        is(unsafe { export(ax, ay, bx, by, x, y) })?;
+        let export = self.call(Export::BoxRelevant).box_relevant;
+        is(unsafe { export(ax, ay, bx, by, x, y) })?;
+        is(unsafe { (self.call(Export::Parity).parity)(ax, ay, bx, by, x, y) })?;
+        let seen = unsafe { (self.call(Export::Ray).ray)(ax, ay, bx, by, x, y) };
         hold((0..=2).contains(&seen), || format!("{seen} is no answer"))?;
-        (self.call(Export::NextUp).next_up)(s.x);
+        unsafe { (self.call(Export::NextUp).next_up)(x) };
         Ok(())
     }
 }

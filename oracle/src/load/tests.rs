@@ -1,10 +1,10 @@
 //! That the run can fail: fences fault, and a wrong export is found out.
 
 use super::calls::Caller;
-use super::exports::{Exports, NAMES, PORT};
 use super::fence::{Lent, PAGE, Room};
 use super::inputs::Inputs;
 use super::watch;
+use crate::port::exports::{Exports, NAMES, PORT};
 use std::os::unix::process::ExitStatusExt;
 use std::process::{Command, Stdio};
 

@@ -1,8 +1,8 @@
 //! Looks after a run: tells the input where a call faults, or takes too long, and keeps the number of the present one in a file.
 
-use super::exports::NAMES;
 use super::fence;
 use super::inputs::Input;
+use crate::port::exports::NAMES;
 use std::arch::naked_asm;
 use std::fs::{self, File};
 use std::sync::atomic::{AtomicPtr, AtomicU64, AtomicUsize, Ordering::Relaxed};

@@ -1,54 +1,9 @@
 //! The port's decoding, containment and lookups, as a voice. Lent memory is held to what was promised, to its last number.
 
+use super::exports::*;
 use super::opening::{Opened, said, unless_changed};
 use crate::rules::Said;
 use crate::voice::{Answer, Question, Voice};
-
-pub mod exports {
-    unsafe extern "C" {
-        pub fn tzb_lookup(file: *const u8, length: usize, lng: f64, lat: f64) -> i32;
-        pub fn tzb_ask(
-            record: *const u8,
-            size: usize,
-            file: *const u8,
-            length: usize,
-            lng: f64,
-            lat: f64,
-        ) -> i64;
-        pub fn tzb_ask_all(
-            record: *const u8,
-            size: usize,
-            file: *const u8,
-            length: usize,
-            lng: f64,
-            lat: f64,
-            zones: *mut u32,
-            places: usize,
-        ) -> i64;
-        pub fn tzb_contains(
-            record: *const u8,
-            size: usize,
-            file: *const u8,
-            length: usize,
-            zone: u32,
-            x: i32,
-            y: i32,
-        ) -> i32;
-        pub fn tzb_decode(
-            record: *const u8,
-            size: usize,
-            file: *const u8,
-            length: usize,
-            chunk: u32,
-            out: *mut i32,
-            room: usize,
-        ) -> i64;
-        pub fn tzb_full_check(file: *const u8, length: usize) -> i32;
-        pub fn tzb_full_check_rule(file: *const u8, length: usize) -> u32;
-    }
-}
-
-use exports::*;
 
 /// What lent numbers hold before, and where nothing may be written.
 const GUARD: u32 = 0xa5a5_a5a5;

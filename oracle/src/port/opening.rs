@@ -1,61 +1,7 @@
 //! The port's opening, names and candidates. Opening writes the opened record into lent bytes, and every question takes it beside the file.
 
+use super::exports::*;
 use crate::rules::{Candidates, Said};
-
-pub mod exports {
-    unsafe extern "C" {
-        pub fn tzb_open(file: *const u8, length: usize, record: *mut u8, room: usize) -> i32;
-        pub fn tzb_zone_count(record: *const u8, size: usize) -> i64;
-        pub fn tzb_name_start(
-            record: *const u8,
-            size: usize,
-            file: *const u8,
-            length: usize,
-            zone: u32,
-        ) -> i64;
-        pub fn tzb_name_end(
-            record: *const u8,
-            size: usize,
-            file: *const u8,
-            length: usize,
-            zone: u32,
-        ) -> i64;
-        pub fn tzb_name(
-            record: *const u8,
-            size: usize,
-            file: *const u8,
-            length: usize,
-            zone: u32,
-            ends: *mut u64,
-            room: usize,
-        ) -> i32;
-        pub fn tzb_choice(
-            record: *const u8,
-            size: usize,
-            file: *const u8,
-            length: usize,
-            lng: f64,
-            lat: f64,
-        ) -> i32;
-        pub fn tzb_listed(
-            record: *const u8,
-            size: usize,
-            file: *const u8,
-            length: usize,
-            lng: f64,
-            lat: f64,
-        ) -> u64;
-        pub fn tzb_candidate(
-            record: *const u8,
-            size: usize,
-            file: *const u8,
-            length: usize,
-            place: u32,
-        ) -> i64;
-    }
-}
-
-use exports::*;
 
 pub const SIZE: usize = 84;
 /// What lent memory holds before, and where nothing may be written.

@@ -1,0 +1,81 @@
+//! Every export of `include/tzb.h`, in its order. Declared once, and as a table, so that a test can put a wrong one in the place of any.
+
+type Bytes = *const u8;
+
+/// For each export: its place in `NAMES`, its field in the table, and its declaration.
+macro_rules! exports {
+    ($($place:ident $field:ident: $safety:ident fn $name:ident($($of:ident: $lent:ty),*) -> $answer:ty;)*) => {
+        unsafe extern "C" {
+            $(pub $safety fn $name($($of: $lent),*) -> $answer;)*
+        }
+
+        #[derive(Clone, Copy)]
+        pub struct Exports {
+            $(pub $field: unsafe extern "C" fn($($lent),*) -> $answer,)*
+        }
+
+        pub const PORT: Exports = Exports { $($field: $name,)* };
+
+        /// Their places in `NAMES`.
+        #[derive(Clone, Copy)]
+        pub enum Export {
+            $($place,)*
+        }
+
+        pub const NAMES: &[&str] = &[$(stringify!($name),)*];
+    };
+}
+
+exports! {
+    Open open: unsafe fn tzb_open(file: Bytes, length: usize, record: *mut u8, room: usize) -> i32;
+    ZoneCount zone_count: unsafe fn tzb_zone_count(record: Bytes, size: usize) -> i64;
+    NameStart name_start: unsafe fn tzb_name_start(
+        record: Bytes, size: usize, file: Bytes, length: usize, zone: u32
+    ) -> i64;
+    NameEnd name_end: unsafe fn tzb_name_end(
+        record: Bytes, size: usize, file: Bytes, length: usize, zone: u32
+    ) -> i64;
+    Name name: unsafe fn tzb_name(
+        record: Bytes, size: usize, file: Bytes, length: usize, zone: u32, ends: *mut u64, room: usize
+    ) -> i32;
+    Choice choice: unsafe fn tzb_choice(
+        record: Bytes, size: usize, file: Bytes, length: usize, lng: f64, lat: f64
+    ) -> i32;
+    Listed listed: unsafe fn tzb_listed(
+        record: Bytes, size: usize, file: Bytes, length: usize, lng: f64, lat: f64
+    ) -> u64;
+    Candidate candidate: unsafe fn tzb_candidate(
+        record: Bytes, size: usize, file: Bytes, length: usize, place: u32
+    ) -> i64;
+    Contains contains: unsafe fn tzb_contains(
+        record: Bytes, size: usize, file: Bytes, length: usize, zone: u32, x: i32, y: i32
+    ) -> i32;
+    Decode decode: unsafe fn tzb_decode(
+        record: Bytes, size: usize, file: Bytes, length: usize, chunk: u32, out: *mut i32, room: usize
+    ) -> i64;
+    Lookup lookup: unsafe fn tzb_lookup(file: Bytes, length: usize, lng: f64, lat: f64) -> i32;
+    Ask ask: unsafe fn tzb_ask(
+        record: Bytes, size: usize, file: Bytes, length: usize, lng: f64, lat: f64
+    ) -> i64;
+    AskAll ask_all: unsafe fn tzb_ask_all(
+        record: Bytes, size: usize, file: Bytes, length: usize,
+        lng: f64, lat: f64, zones: *mut u32, places: usize
+    ) -> i64;
+    FullCheck full_check: unsafe fn tzb_full_check(file: Bytes, length: usize) -> i32;
+    FullCheckRule full_check_rule: unsafe fn tzb_full_check_rule(file: Bytes, length: usize) -> u32;
+    Number number: unsafe fn tzb_number(data: Bytes, length: usize, at: usize) -> i32;
+    NumberLength number_length: unsafe fn tzb_number_length(
+        data: Bytes, length: usize, at: usize
+    ) -> i32;
+    BoxContains box_contains: safe fn tzb_box_contains(
+        minx: i32, miny: i32, maxx: i32, maxy: i32, x: f64, y: f64
+    ) -> u32;
+    BoxRelevant box_relevant: safe fn tzb_box_relevant(
+        minx: i32, miny: i32, maxx: i32, maxy: i32, x: f64, y: f64
+    ) -> u32;
+    Crc32 crc32: unsafe fn tzb_crc32(data: Bytes, length: usize) -> u32;
+    Utf8 utf8: unsafe fn tzb_utf8(data: Bytes, length: usize) -> u32;
+    Ray ray: safe fn tzb_ray(ax: i32, ay: i32, bx: i32, by: i32, x: f64, y: f64) -> i32;
+    Parity parity: safe fn tzb_parity(ax: i32, ay: i32, bx: i32, by: i32, x: f64, y: f64) -> u32;
+    NextUp next_up: safe fn tzb_next_up(x: f64) -> f64;
+}
