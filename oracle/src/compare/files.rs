@@ -1,9 +1,7 @@
 //! Opening, names and candidates: the original against the rules with every known departure, the port against document 01's rules.
 
-mod ask;
+pub mod ask;
 pub mod met;
-
-pub use ask::questions;
 
 use super::{Tally, stop};
 use crate::file::damage::{self, Aim};

@@ -135,7 +135,11 @@ fn keep(place: &mut Option<Vec<u8>>, file: &[u8]) {
 }
 
 /// Goes from an input to a simpler one that still differs, as long as there is one.
-pub fn smallest<T>(found: T, simpler: impl Fn(&T) -> Vec<T>, differs: impl Fn(&T) -> bool) -> T {
+pub fn smallest<T, I: IntoIterator<Item = T>>(
+    found: T,
+    simpler: impl Fn(&T) -> I,
+    differs: impl Fn(&T) -> bool,
+) -> T {
     let mut now = found;
     while let Some(next) = simpler(&now).into_iter().find(|t| differs(t)) {
         now = next;

@@ -264,7 +264,7 @@ impl<'a> Panel<'a> {
 pub mod tests {
     use super::Panel;
     use crate::compare::asking::questions;
-    use crate::compare::files;
+    use crate::compare::files::ask;
     use crate::file::{broken, kinds};
     use crate::rules::{Candidates, Judge, Said};
     use crate::voice::{Answer, Question, Voice};
@@ -349,7 +349,7 @@ pub mod tests {
             join(&mut panel, change);
             let opened = panel.opened().unwrap();
             let all = questions::of(&opened, 1000);
-            panel.ask_all(files::questions(&opened).into_iter().chain(all)).is_err()
+            panel.ask_all(ask::questions(&opened).into_iter().chain(all)).is_err()
         })
     }
 

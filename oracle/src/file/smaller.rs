@@ -2,30 +2,47 @@
 
 use super::*;
 
-/// Simpler files, the most daring first.
-pub fn files(file: &[u8]) -> Vec<Vec<u8>> {
-    let mut out = Vec::new();
+/// A way to make a file shorter.
+type Way = fn(&[u8]) -> Vec<Vec<u8>>;
+
+const WAYS: [Way; 8] = [
+    without_entries,
+    transplants,
+    shorter_sections,
+    |file| cuts(file, 256),
+    |file| cuts(file, 64),
+    |file| cuts(file, 16),
+    |file| cuts(file, 4),
+    |file| cuts(file, 1),
+];
+
+/// Simpler files, the most daring first. The files of one way are made when those before it are used up.
+pub fn files(file: &[u8]) -> Box<dyn Iterator<Item = Vec<u8>>> {
     if file.len() < 68 {
-        return crate::bytes::simpler(file);
+        return Box::new(crate::bytes::simpler(file).into_iter());
     }
-    let count = entries(file).len();
-    for i in 0..count {
-        out.push(without_entry(file, i));
-    }
-    transplants(file, &mut out);
-    for i in 0..count {
-        out.extend(shorter_section(file, i));
-    }
-    for length in [1, 4, 16, 64, 256] {
-        for at in (64 + 16 * count..file.len() - 4).step_by(length.min(4)) {
-            if at + length <= file.len() - 4 {
-                out.push(cut(file, at, length));
-            }
-        }
-    }
-    out.retain(|other| other.len() < file.len());
-    lower(file, &mut out);
-    out
+    let (file, same) = (file.to_vec(), file.to_vec());
+    let shorter = WAYS.into_iter().flat_map(move |way| {
+        let mut made = way(&file);
+        made.retain(|other| other.len() < file.len());
+        made
+    });
+    Box::new(shorter.chain([same].into_iter().flat_map(|file| lower(&file))))
+}
+
+fn without_entries(file: &[u8]) -> Vec<Vec<u8>> {
+    (0..entry_count(file)).map(|i| without_entry(file, i)).collect()
+}
+
+fn shorter_sections(file: &[u8]) -> Vec<Vec<u8>> {
+    (0..entry_count(file)).flat_map(|i| shorter_section(file, i)).collect()
+}
+
+/// So many bytes left out behind the table, anywhere.
+fn cuts(file: &[u8], length: usize) -> Vec<Vec<u8>> {
+    let last = file.len() - 4;
+    let places = (64 + 16 * entry_count(file)..last).step_by(length.min(4));
+    places.filter(|at| at + length <= last).map(|at| cut(file, at, length)).collect()
 }
 
 /// Bytes left out; entries behind them move up, and the section around them shrinks.
@@ -62,7 +79,8 @@ fn shorter_section(file: &[u8], i: usize) -> Vec<Vec<u8>> {
 }
 
 /// The least files with one or two sections of this one in the place of their own, and with this one's header.
-fn transplants(file: &[u8], out: &mut Vec<Vec<u8>>) {
+fn transplants(file: &[u8]) -> Vec<Vec<u8>> {
+    let mut out = Vec::new();
     let own: Vec<Part> = entries(file)
         .into_iter()
         .filter_map(|[typ, off, len]| {
@@ -90,10 +108,12 @@ fn transplants(file: &[u8], out: &mut Vec<Vec<u8>>) {
             }
         }
     }
+    out
 }
 
 /// The same length, but a byte made less.
-fn lower(file: &[u8], out: &mut Vec<Vec<u8>>) {
+fn lower(file: &[u8]) -> Vec<Vec<u8>> {
+    let mut out = Vec::new();
     for at in 0..file.len() - 4 {
         for value in [0, file[at] / 2, file[at].saturating_sub(1)] {
             if value < file[at] && !(16..20).contains(&at) {
@@ -104,4 +124,5 @@ fn lower(file: &[u8], out: &mut Vec<Vec<u8>>) {
             }
         }
     }
+    out
 }
