@@ -348,7 +348,7 @@ pub mod tests {
         files.iter().filter_map(|file| Panel::of_file(file)).any(|mut panel| {
             join(&mut panel, change);
             let opened = panel.opened().unwrap();
-            let all = questions::of(&opened, 1000);
+            let all = questions::of(&opened, 60);
             panel.ask_all(ask::questions(&opened).into_iter().chain(all)).is_err()
         })
     }
