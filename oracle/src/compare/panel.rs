@@ -201,7 +201,7 @@ impl<'a> Panel<'a> {
         Ok(())
     }
 
-    /// Of an accepted file: containment is exact geometry, and nothing is refused but numbers too large and room too short.
+    /// Of an accepted file: containment is exact geometry, and nothing is refused but numbers too large, room too short, and a candidate that no cell names.
     fn hold_exact(
         &self,
         question: Question,
@@ -213,6 +213,8 @@ impl<'a> Panel<'a> {
         let refused = match (question, document) {
             (Question::Decode(chunk, _), Err(34)) => u64::from(chunk) < opened.chunks(),
             (Question::Candidate(place), Err(30)) => u64::from(place) < opened.candidate_total(),
+            // opening looks at those candidates alone that a cell names
+            (Question::Candidate(place), Err(31)) => opened.is_named(place.into()),
             (_, Err(n)) => ![45, 46].contains(n),
             _ => false,
         };

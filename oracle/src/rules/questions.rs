@@ -64,6 +64,15 @@ impl<'a> Opened<'a> {
         self.grid.map_or(0, |g| g.total)
     }
 
+    /// Whether the candidates of a cell take in that place.
+    pub fn is_named(&self, place: u64) -> bool {
+        let Some(g) = self.grid else { return false };
+        (0..g.columns * g.rows).any(|cell| {
+            let (count, offset) = self.word(g, cell);
+            (offset..offset + count).contains(&place)
+        })
+    }
+
     pub(super) fn word(&self, g: Grid, cell: u64) -> (u64, u64) {
         parts(u32_at(self.file, g.words + 4 * cell))
     }
