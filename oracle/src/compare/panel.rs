@@ -267,7 +267,7 @@ pub mod tests {
     use super::Panel;
     use crate::compare::asking::questions;
     use crate::compare::files::ask;
-    use crate::file::{broken, kinds};
+    use crate::file::{Chunks, GRID, Grid, broken, kinds, one_zone};
     use crate::rules::{Candidates, Judge, Said};
     use crate::voice::{Answer, Question, Voice};
 
@@ -361,5 +361,20 @@ pub mod tests {
         for (i, change) in CHANGES.into_iter().enumerate() {
             assert!(is_found_out(change), "change {i}");
         }
+    }
+
+    /// Opening looks at those candidates alone that a cell names, so the question for another may be refused, also where the full check accepts.
+    #[test]
+    fn a_candidate_that_no_cell_names_may_be_refused() {
+        let grid =
+            Grid { lng: 0, lat: 0, columns: 1, rows: 1, words: vec![0], candidates: vec![7] };
+        let mut draft = one_zone(Chunks(vec![vec![(0, 0), (9, 0), (0, 9)]]), usize::MAX, true);
+        draft.parts.iter_mut().find(|part| part.typ == GRID).unwrap().bytes = grid.bytes();
+        let file = draft.lay();
+        let panel = Panel::of_file(&file).expect("a file that all sides open");
+        assert!(panel.exact.is_some(), "the full check accepts it");
+        let opened = panel.opened().unwrap();
+        assert_eq!(super::rules(opened, &[], Question::Candidate(0)), Err(31));
+        assert!(panel.ask_all([Question::Candidate(0)]).is_ok());
     }
 }
