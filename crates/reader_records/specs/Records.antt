@@ -65,6 +65,10 @@ abbrev pub toldChunk : ChunkAt → Answer ChunkRecord
 toldChunk (C.At v) = ok v
 toldChunk (C.Refused k) = refused k
 
+-- a directory of that many records, from that place on
+abbrev pub directory : ℕ → ℕ → Directory
+directory off count = record { off = off; count = count }
+
 -- where record i of w bytes stands
 abbrev pub place : Directory → ℕ → ℕ → ℕ
 place d w i = d .off + i * w

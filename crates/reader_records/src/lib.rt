@@ -2,11 +2,10 @@
 ghost use mathlib.Core.Path.{_≡_};
 ghost use Prim.Native.Nat.{_+_, _≤_, _<_};
 ghost use lib.ListN.{length};
-ghost use Rattle.reader_records.specs.Records.{toldPlace, toldList, toldRing, toldOp, toldGroup, toldChunk, recordAt, boxIn, pointIn, within, listIn, listRule, listAt, zoneAt, polyAt, ringIn, ringRule, ringAt, countRule, opRule, opAt, groupIn, groupRule, groupAt, chunkIn, chunkRule, chunkAt};
+ghost use Rattle.reader_records.specs.Records.{toldPlace, toldList, toldRing, toldOp, toldGroup, toldChunk, directory, recordAt, boxIn, pointIn, within, listIn, listRule, listAt, zoneAt, polyAt, ringIn, ringRule, ringAt, countRule, opRule, opAt, groupIn, groupRule, groupAt, chunkIn, chunkRule, chunkAt};
 use answer::Refusal;
 use boxes::BBox;
 use plane::I32Point;
-use reader_opened::Directory;
 use reader_opened::Opened;
 
 // A zone with its polygons, a polygon with its rings.
@@ -76,15 +75,15 @@ pub fn wide16(x: u16) -> usize
     x as usize
 }
 
-// Where record `index` of `width` bytes stands.
-fn record_at(s: &[u8], d: Directory, width: usize, index: usize) -> RecordPlace
+// Where record `index` of `width` bytes stands, in a directory of `count` records from `off` on.
+fn record_at(s: &[u8], off: u32, count: u32, width: usize, index: usize) -> RecordPlace
     requires { ⌜ width ≤ 64 ⌝ }
-    ensures { λ r. ⌜ toldPlace r ≡ recordAt (now (s .entry)) d width index ⌝ }
+    ensures { λ r. ⌜ toldPlace r ≡ recordAt (now (s .entry)) (directory off count) width index ⌝ }
 {
-    if reader_head::wide(d.count) <= index {
+    if reader_head::wide(count) <= index {
         return RecordPlace::Refused(answer::refuse(34));
     }
-    let at = reader_head::wide(d.off) + index * width;
+    let at = reader_head::wide(off) + index * width;
     if s.len() < at + width {
         return RecordPlace::Refused(answer::refuse(44));
     }
@@ -138,10 +137,10 @@ fn list_rule(below: u32, v: ListRecord) -> bool
     b.in_domain() & is_within(v.first, v.count, below)
 }
 
-fn list_at(s: &[u8], d: Directory, below: u32, index: usize) -> ListAt
-    ensures { λ r. ⌜ toldList r ≡ listAt (now (s .entry)) d below index ⌝ }
+fn list_at(s: &[u8], off: u32, count: u32, below: u32, index: usize) -> ListAt
+    ensures { λ r. ⌜ toldList r ≡ listAt (now (s .entry)) (directory off count) below index ⌝ }
 {
-    let t = record_at(s, d, 24, index);
+    let t = record_at(s, off, count, 24, index);
     match t {
         RecordPlace::Refused(r) => ListAt::Refused(r),
         RecordPlace::At(at) => {
@@ -158,15 +157,13 @@ fn list_at(s: &[u8], d: Directory, below: u32, index: usize) -> ListAt
 pub fn tz_at(o: Opened, s: &[u8], index: usize) -> ListAt
     ensures { λ r. ⌜ toldList r ≡ zoneAt o (now (s .entry)) index ⌝ }
 {
-    let d = o.zones;
-    list_at(s, d, o.polys.count, index)
+    list_at(s, o.zones.off, o.zones.count, o.polys.count, index)
 }
 
 pub fn poly_at(o: Opened, s: &[u8], index: usize) -> ListAt
     ensures { λ r. ⌜ toldList r ≡ polyAt o (now (s .entry)) index ⌝ }
 {
-    let d = o.polys;
-    list_at(s, d, o.rings.count, index)
+    list_at(s, o.polys.off, o.polys.count, o.rings.count, index)
 }
 
 fn ring_in(s: &[u8], at: usize) -> RingRecord
@@ -191,8 +188,7 @@ fn ring_rule(below: u32, v: RingRecord) -> bool
 pub fn ring_at(o: Opened, s: &[u8], index: usize) -> RingAt
     ensures { λ r. ⌜ toldRing r ≡ ringAt o (now (s .entry)) index ⌝ }
 {
-    let d = o.rings;
-    let t = record_at(s, d, 28, index);
+    let t = record_at(s, o.rings.off, o.rings.count, 28, index);
     match t {
         RecordPlace::Refused(r) => RingAt::Refused(r),
         RecordPlace::At(at) => {
@@ -223,8 +219,7 @@ fn op_rule(below: u32, word: usize) -> bool
 pub fn op_at(o: Opened, s: &[u8], index: usize) -> OpAt
     ensures { λ r. ⌜ toldOp r ≡ opAt o (now (s .entry)) index ⌝ }
 {
-    let d = o.ops;
-    let t = record_at(s, d, 4, index);
+    let t = record_at(s, o.ops.off, o.ops.count, 4, index);
     match t {
         RecordPlace::Refused(r) => OpAt::Refused(r),
         RecordPlace::At(at) => {
@@ -266,8 +261,7 @@ pub fn group_rule(below: u32, v: GroupRecord) -> bool
 pub fn group_at(o: Opened, s: &[u8], index: usize) -> GroupAt
     ensures { λ r. ⌜ toldGroup r ≡ groupAt o (now (s .entry)) index ⌝ }
 {
-    let d = o.groups;
-    let t = record_at(s, d, 44, index);
+    let t = record_at(s, o.groups.off, o.groups.count, 44, index);
     match t {
         RecordPlace::Refused(r) => GroupAt::Refused(r),
         RecordPlace::At(at) => {
@@ -303,8 +297,7 @@ pub fn chunk_rule(v: ChunkRecord) -> bool
 pub fn chunk_at(o: Opened, s: &[u8], index: usize) -> ChunkAt
     ensures { λ r. ⌜ toldChunk r ≡ chunkAt o (now (s .entry)) index ⌝ }
 {
-    let d = o.chunks;
-    let t = record_at(s, d, 24, index);
+    let t = record_at(s, o.chunks.off, o.chunks.count, 24, index);
     match t {
         RecordPlace::Refused(r) => ChunkAt::Refused(r),
         RecordPlace::At(at) => {
