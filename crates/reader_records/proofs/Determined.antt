@@ -4,11 +4,13 @@ use mathlib.Core.Path.{_≡_, sym, _∙_}
 use Prim.Native.Nat.{ℕ}
 use Rattle.basics.specs.Determined.{Determined}
 use Rattle.answer.specs.Answers.{Answer}
-use Rattle.reader_records.specs.Records.{toldList, toldRing, toldOp, toldGroup, toldChunk}
+use Rattle.reader_records.specs.Records.{toldPlace, toldList, toldRing, toldOp, toldGroup, toldChunk}
 use Rattle.reader_records.specs.declared.ListRecord.{ListRecord}
 use Rattle.reader_records.specs.declared.RingRecord.{RingRecord}
 use Rattle.reader_records.specs.declared.GroupRecord.{GroupRecord}
 use Rattle.reader_records.specs.declared.ChunkRecord.{ChunkRecord}
+use Rattle.reader_records.specs.declared.RecordPlace.{RecordPlace}
+use Rattle.reader_records.specs.declared.RecordPlace.the-variants as P
 use Rattle.reader_records.specs.declared.ListAt.{ListAt}
 use Rattle.reader_records.specs.declared.ListAt.the-variants as L
 use Rattle.reader_records.specs.declared.RingAt.{RingAt}
@@ -20,10 +22,12 @@ use Rattle.reader_records.specs.declared.GroupAt.the-variants as G
 use Rattle.reader_records.specs.declared.ChunkAt.{ChunkAt}
 use Rattle.reader_records.specs.declared.ChunkAt.the-variants as C
 use Rattle.reader_records.proofs.wide16.Reads as wide16-reads
+use Rattle.reader_records.proofs.list_at.Reads as list-at-reads
 use Rattle.reader_records.proofs.tz_at.Reads as tz-at-reads
 use Rattle.reader_records.proofs.poly_at.Reads as poly-at-reads
 use Rattle.reader_records.proofs.ring_at.Reads as ring-at-reads
 use Rattle.reader_records.proofs.op_at.Reads as op-at-reads
+use Rattle.reader_records.proofs.group_place.Reads as group-place-reads
 use Rattle.reader_records.proofs.group_at.Reads as group-at-reads
 use Rattle.reader_records.proofs.chunk_at.Reads as chunk-at-reads
 use Rattle.reader_records.proofs.group_in.Reads as group-in-reads
@@ -31,6 +35,12 @@ use Rattle.reader_records.proofs.chunk_in.Reads as chunk-in-reads
 use Rattle.reader_records.proofs.group_rule.Reads as group-rule-reads
 use Rattle.reader_records.proofs.chunk_rule.Reads as chunk-rule-reads
 use Rattle.reader_records.proofs.count_rule.Reads as count-rule-reads
+
+one-place : (a b : RecordPlace) (x : Answer ℕ) → toldPlace a ≡ x → toldPlace b ≡ x → a ≡ b
+one-place (P.At p) (P.At q) x e f = cc
+one-place (P.At p) (P.Refused k) x e f = cc
+one-place (P.Refused k) (P.At q) x e f = cc
+one-place (P.Refused k) (P.Refused l) x e f = cc
 
 one-list : (a b : ListAt) (x : Answer ListRecord) → toldList a ≡ x → toldList b ≡ x → a ≡ b
 one-list (L.At v) (L.At w) x e f = cc
@@ -62,6 +72,9 @@ one-chunk (C.At v) (C.Refused k) x e f = cc
 one-chunk (C.Refused k) (C.At w) x e f = cc
 one-chunk (C.Refused k) (C.Refused l) x e f = cc
 
+pub list-at : Determined list-at-reads.Learnt
+list-at κ a r r' e e' p q = one-list r r' _ p q
+
 pub tz-at : Determined tz-at-reads.Learnt
 tz-at κ a r r' e e' p q = one-list r r' _ p q
 
@@ -73,6 +86,9 @@ ring-at κ a r r' e e' p q = one-ring r r' _ p q
 
 pub op-at : Determined op-at-reads.Learnt
 op-at κ a r r' e e' p q = one-op r r' _ p q
+
+pub group-place : Determined group-place-reads.Learnt
+group-place κ a r r' e e' p q = one-place r r' _ p q
 
 pub group-at : Determined group-at-reads.Learnt
 group-at κ a r r' e e' p q = one-group r r' _ p q

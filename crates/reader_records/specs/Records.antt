@@ -147,6 +147,10 @@ groupIn s p =
 unfoldable pub groupRule : ℕ → GroupRecord → Bool
 groupRule below v = (boxInDomain (v .bbox) && within (v .first) (v .count) below) && (inDomain (v .entry) && inDomain (v .exit))
 
+-- where group i stands, if its record keeps the rule
+unfoldable pub groupPlace : Opened → List ℕ → ℕ → Answer ℕ
+groupPlace o s i = ruled (recordAt s (o .groups) 44 i) (λ p. p) (λ p. groupRule (o .chunks .count) (groupIn s p)) 34
+
 unfoldable pub groupAt : Opened → List ℕ → ℕ → Answer GroupRecord
 groupAt o s i = ruled (recordAt s (o .groups) 44 i) (groupIn s) (groupRule (o .chunks .count)) 34
 
@@ -207,6 +211,41 @@ module _ {A : Type 0} (at : Answer ℕ) (read : ℕ → A) (rule : A → Bool) (
 pub ruled-there : {A : Type 0} (s : List ℕ) (d : Directory) (w i n : ℕ) (read : ℕ → A) (rule : A → Bool)
     → i < d .count → place d w i + w ≤ length s → rule (read (place d w i)) ≡ true → ok (read (place d w i)) ≡ ruled (recordAt s d w i) read rule n
 ruled-there s d w i n read rule h k e = ruled-ok (recordAt s d w i) read rule n (place d w i) (read (place d w i)) true (record-at s d w i h k) refl (sym e) refl
+
+-- the place alone of what keeps its rule
+module _ {A : Type 0} (read : ℕ → A) (rule : A → Bool) (n : ℕ) where
+  tested : (k : Refusal) (p : ℕ) (b : Bool) → refused k ≡ need n b (ok p) → refused k ≡ need n b (ok (read p))
+  tested k p true e = cc
+  tested k p false e = cc
+
+  pub placed-no : (at : Answer ℕ) (k : Refusal) → refused k ≡ ruled at (λ p. p) (λ p. rule (read p)) n → refused k ≡ ruled at read rule n
+  unfolding ruled
+  placed-no (refused j) k e = cc
+  placed-no (ok p) k e = tested k p (rule (read p)) e
+
+  kept : (p q : ℕ) (b : Bool) → ok p ≡ need n b (ok q) → (ok p ≡ ok q) × (ok (read p) ≡ need n b (ok (read q)))
+  kept p q true e = let z : p ≡ q = cc in (e, ap (λ (j : ℕ). ok (read j)) z)
+  kept p q false e = (cc, cc)
+
+  pub placed-is : (at : Answer ℕ) (p : ℕ) → ok p ≡ ruled at (λ q. q) (λ q. rule (read q)) n → (ok p ≡ at) × (ok (read p) ≡ ruled at read rule n)
+  unfolding ruled
+  placed-is (refused j) p e = (e, cc)
+  placed-is (ok q) p e = kept p q (rule (read q)) e
+
+module _ (o : Opened) (s : List ℕ) (i : ℕ) where
+  pub place-none : (k : Refusal) → refused k ≡ groupPlace o s i → refused k ≡ groupAt o s i
+  unfolding groupPlace groupAt
+  place-none k e = placed-no (groupIn s) (groupRule (o .chunks .count)) 34 (recordAt s (o .groups) 44 i) k e
+
+  module _ (p : ℕ) (e : ok p ≡ groupPlace o s i) where
+    pub place-group : ok (groupIn s p) ≡ groupAt o s i
+    unfolding groupPlace groupAt
+    place-group = placed-is (groupIn s) (groupRule (o .chunks .count)) 34 (recordAt s (o .groups) 44 i) p e .1
+
+    -- all its bytes are there
+    pub place-room : p + 44 ≤ length s
+    unfolding groupPlace
+    place-room = record-room s (o .groups) 44 i p (placed-is (groupIn s) (groupRule (o .chunks .count)) 34 (recordAt s (o .groups) 44 i) p e .0)
 
 -- what the rules tell
 module _ (first count below : ℕ) (h : within first count below ≡ true) where

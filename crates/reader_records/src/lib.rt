@@ -2,7 +2,7 @@
 ghost use mathlib.Core.Path.{_≡_};
 ghost use Prim.Native.Nat.{_+_, _≤_, _<_};
 ghost use lib.ListN.{length};
-ghost use Rattle.reader_records.specs.Records.{toldPlace, toldList, toldRing, toldOp, toldGroup, toldChunk, directory, recordAt, boxIn, pointIn, within, listIn, listRule, listAt, zoneAt, polyAt, ringIn, ringRule, ringAt, countRule, opRule, opAt, groupIn, groupRule, groupAt, chunkIn, chunkRule, chunkAt};
+ghost use Rattle.reader_records.specs.Records.{toldPlace, toldList, toldRing, toldOp, toldGroup, toldChunk, directory, recordAt, boxIn, pointIn, within, listIn, listRule, listAt, zoneAt, polyAt, ringIn, ringRule, ringAt, countRule, opRule, opAt, groupIn, groupRule, groupPlace, groupAt, chunkIn, chunkRule, chunkAt};
 use answer::Refusal;
 use boxes::BBox;
 use plane::I32Point;
@@ -38,7 +38,7 @@ pub struct ChunkRecord {
 }
 
 // Where a record stands.
-enum RecordPlace {
+pub enum RecordPlace {
     At(usize),
     Refused(Refusal),
 }
@@ -137,7 +137,8 @@ fn list_rule(below: u32, v: ListRecord) -> bool
     b.in_domain() & is_within(v.first, v.count, below)
 }
 
-fn list_at(s: &[u8], off: u32, count: u32, below: u32, index: usize) -> ListAt
+// A zone or a polygon: record `index` of a directory of `count` from `off` on; the directory below has `below`.
+pub fn list_at(s: &[u8], off: u32, count: u32, below: u32, index: usize) -> ListAt
     ensures { λ r. ⌜ toldList r ≡ listAt (now (s .entry)) (directory off count) below index ⌝ }
 {
     let t = record_at(s, off, count, 24, index);
@@ -258,20 +259,31 @@ pub fn group_rule(below: u32, v: GroupRecord) -> bool
         & (boxes::point_in_domain(e) & boxes::point_in_domain(x))
 }
 
-pub fn group_at(o: Opened, s: &[u8], index: usize) -> GroupAt
-    ensures { λ r. ⌜ toldGroup r ≡ groupAt o (now (s .entry)) index ⌝ }
+// Where group `index` stands, if its record keeps the rule.
+pub fn group_place(o: Opened, s: &[u8], index: usize) -> RecordPlace
+    ensures { λ r. ⌜ toldPlace r ≡ groupPlace o (now (s .entry)) index ⌝ }
 {
     let t = record_at(s, o.groups.off, o.groups.count, 44, index);
     match t {
-        RecordPlace::Refused(r) => GroupAt::Refused(r),
+        RecordPlace::Refused(r) => RecordPlace::Refused(r),
         RecordPlace::At(at) => {
             let v = group_in(s, at);
             if group_rule(o.chunks.count, v) {
-                GroupAt::At(v)
+                RecordPlace::At(at)
             } else {
-                GroupAt::Refused(answer::refuse(34))
+                RecordPlace::Refused(answer::refuse(34))
             }
         }
+    }
+}
+
+pub fn group_at(o: Opened, s: &[u8], index: usize) -> GroupAt
+    ensures { λ r. ⌜ toldGroup r ≡ groupAt o (now (s .entry)) index ⌝ }
+{
+    let t = group_place(o, s, index);
+    match t {
+        RecordPlace::Refused(r) => GroupAt::Refused(r),
+        RecordPlace::At(at) => GroupAt::At(group_in(s, at)),
     }
 }
 

@@ -1,14 +1,14 @@
--- `reader_records::group_at` meets its contract: there is none, its rule is broken, or its rule is kept.
+-- `reader_records::group_at` meets its contract: the group at its place, if it has one.
 -- Assumes nothing.
 use mathlib.Core.Path.{sym, ap, _∙_}
-use Rattle.answer.specs.Answers.{refused}
-use Rattle.reader_records.specs.Records.{toldPlace, groupAt, record-room, ruled-no, ruled-bad, ruled-ok}
+use Rattle.answer.specs.Answers.{ok}
+use Rattle.reader_records.specs.Records.{toldPlace, place-none, place-group, place-room}
 use borrow.Author.Needs.{needs}
 use Rattle.reader_records.proofs.group_at.Statement.{statement}
 use Rattle.reader_records.proofs.group_at.Tie as tie
 
-record-at-requires : tie.Need-record-at-requires
-record-at-requires c κs = search needs
+group-place-requires : tie.Need-group-place-requires
+group-place-requires c κs = search needs
 
 enum-known-t : tie.Need-enum-known-t
 enum-known-t c = search needs
@@ -17,30 +17,15 @@ enum-known-t-2 : tie.Need-enum-known-t-2
 enum-known-t-2 c = search needs
 
 group-in-requires : tie.Need-group-in-requires
-group-in-requires c κs = record-room _ _ 44 _ _ (sym (ap toldPlace (c .before .t2 .given .1)) ∙ c .before .before .before .record-at .ensures)
-
-group-rule-requires : tie.Need-group-rule-requires
-group-rule-requires c κs = search needs
-
-refuse-requires : tie.Need-refuse-requires
-refuse-requires c κs = search needs
+group-in-requires c κs = place-room _ _ _ _ (sym (ap toldPlace (c .before .t2 .given .1)) ∙ c .before .before .before .group-place .ensures)
 
 returns : tie.Need-returns
-unfolding groupAt
-returns c = ruled-no _ _ _ _ _ (sym (ap toldPlace (c .before .t .given .1)) ∙ c .before .before .before .record-at .ensures)
+returns c = place-none _ _ _ _ (sym (ap toldPlace (c .before .t .given .1)) ∙ c .before .before .before .group-place .ensures)
 
 returns-2 : tie.Need-returns-2
-unfolding groupAt
 returns-2 c =
-    let t = c .before .before .before .before in
-    ruled-ok _ _ _ _ _ _ _ (sym (ap toldPlace (t .t2 .given .1)) ∙ t .before .before .record-at .ensures) (c .before .before .group-in .ensures) (c .before .group-rule .ensures) (c .if1 .taken)
-
-returns-3 : tie.Need-returns-3
-unfolding groupAt
-returns-3 c =
-    let d = c .before .before in
-    let t = d .before .before .before in
-    ap refused (c .refuse .ensures) ∙ ruled-bad _ _ _ _ _ _ _ (sym (ap toldPlace (t .t2 .given .1)) ∙ t .before .before .record-at .ensures) (d .before .group-in .ensures) (d .group-rule .ensures) (c .before .if1 .left)
+    let t = c .before .before in
+    ap ok (c .group-in .ensures) ∙ place-group _ _ _ _ (sym (ap toldPlace (t .t2 .given .1)) ∙ t .before .before .group-place .ensures)
 
 pub group-at-spec : {M : Type 1} → statement M
-group-at-spec = tie.close (tie.spec record-at-requires enum-known-t enum-known-t-2 group-in-requires group-rule-requires refuse-requires returns returns-2 returns-3)
+group-at-spec = tie.close (tie.spec group-place-requires enum-known-t enum-known-t-2 group-in-requires returns returns-2)
