@@ -5,6 +5,7 @@ use native.Mathlib.Omega.{arith}
 use mathlib.Core.Path.{_≡_, sym, ap, ap₂, _∙_}
 use mathlib.Core.Bool.{Bool, true, false, cond}
 use mathlib.Core.List.{List}
+use lib.ListN.{length}
 use lib.Dec.{ltb}
 use borrow.Author.Tests.{lt-ltb, le-ltb}
 use Rattle.basics.specs.Parity.{⊻-idr}
@@ -21,11 +22,11 @@ use Rattle.tzb_core.specs.Scan.{past}
 use Rattle.reader_opened.specs.declared.Opened.{Opened}
 use Rattle.reader_records.specs.declared.GroupRecord.{GroupRecord}
 use Rattle.reader_records.specs.declared.RingRecord.{RingRecord}
-use Rattle.reader_records.specs.Records.{opAt, groupAt, ringAt, countRule}
+use Rattle.reader_records.specs.Records.{opAt, groupIn, groupPlace, groupAt, ringAt, countRule, place-none, place-group}
 use Rattle.reader_groups.specs.Groups.{One, groupOf}
 use Rattle.reader_rings.specs.declared.Turned.{Turned}
-use Rattle.reader_rings.specs.declared.TurnedAt.{TurnedAt}
-use Rattle.reader_rings.specs.declared.TurnedAt.the-variants as T
+use Rattle.reader_rings.specs.declared.LegAt.{LegAt}
+use Rattle.reader_rings.specs.declared.LegAt.the-variants as L
 use Rattle.reader_rings.specs.declared.Round.{Round}
 use Rattle.reader_rings.specs.declared.Rounds.{Rounds}
 use Rattle.reader_rings.specs.declared.Rounds.the-variants as R
@@ -33,10 +34,6 @@ use Rattle.reader_rings.specs.declared.Verdict.{Verdict}
 use Rattle.reader_rings.specs.declared.Verdict.the-variants as J
 
 -- ---- what the enums of the code say
-abbrev pub turned : TurnedAt → Answer Turned
-turned (T.At t) = ok t
-turned (T.Refused r) = refused r
-
 abbrev pub rounds : Rounds → Walk Round
 rounds (R.Refused r) = broken r
 rounds R.On = on
@@ -57,8 +54,18 @@ sumAfter d (R.Off b z) = z .sum
 unfoldable pub turnOf : ℕ → GroupRecord → Turned
 turnOf w g = cond (ltb w 0x8000_0000) (record { entry = g .entry; exit = g .exit; group = g }) (record { entry = g .exit; exit = g .entry; group = g })
 
+-- the group of op i
 unfoldable pub turnedAt : Opened → List ℕ → ℕ → Answer Turned
 turnedAt o s i = opAt o s i then λ w. groupAt o s (w % 0x8000_0000) then λ g. ok (turnOf w g)
+
+-- what the code says of an op by its word and its group's place, where all the group's bytes are
+abbrev pub legTold : List ℕ → LegAt → Answer Turned
+legTold s (L.At w p) = ok (turnOf w (groupIn s p))
+legTold s (L.Refused k) = refused k
+
+abbrev pub LegRoom : List ℕ → LegAt → Type 0
+LegRoom s (L.At w p) = p + 44 ≤ length s
+LegRoom s (L.Refused k) = One
 
 -- ---- the walk
 -- the segment that joins two ends, where they differ
@@ -117,13 +124,13 @@ module _ (o : Opened) (s : List ℕ) (i : ℕ) where
   turned-no r h = rw (← h)
 
   module _ (w : ℕ) (h : ok w ≡ opAt o s i) where
-    pub turned-bad : (r : Refusal) → refused r ≡ groupAt o s (w % 0x8000_0000) → refused r ≡ turnedAt o s i
+    pub turned-bad : (r : Refusal) → refused r ≡ groupPlace o s (w % 0x8000_0000) → refused r ≡ turnedAt o s i
     unfolding turnedAt
-    turned-bad r k = rw (← h, ← k)
+    turned-bad r k = rw (← h, ← place-none o s (w % 0x8000_0000) r k)
 
-    pub turned-is : (g : GroupRecord) → ok g ≡ groupAt o s (w % 0x8000_0000) → (t : Turned) → t ≡ turnOf w g → ok t ≡ turnedAt o s i
+    pub turned-is : (p : ℕ) → ok p ≡ groupPlace o s (w % 0x8000_0000) → ok (turnOf w (groupIn s p)) ≡ turnedAt o s i
     unfolding turnedAt
-    turned-is g k t e = rw (← h, ← k, e)
+    turned-is p k = rw (← h, ← place-group o s (w % 0x8000_0000) p k)
 
 module _ (p : Point) (a b : I32Point) where
   pub joint-none : same a b ≡ true → done tt ≡ jointOf p a b

@@ -6,6 +6,7 @@ use mathlib.Core.Path.{_≡_, ap}
 use mathlib.Core.Bool.{Bool, true, false, cond}
 use mathlib.Core.List.{List}
 use lib.Dec.{ltb}
+use lib.Ieee.{Float}
 use borrow.Author.Tests.{lt-ltb, le-ltb}
 use Rattle.plane.specs.declared.Point.{Point}
 use Rattle.plane.specs.declared.I32Point.{I32Point}
@@ -28,12 +29,16 @@ seek f found other (suc n) i = f i then λ b. cond b (ok found) (seek f found ot
 abbrev pub holesOut : Opened → List ℕ → Point → ℕ → ℕ → Answer Bool
 holesOut o s p n i = seek (ringContains o s p false) false true n i
 
+-- a polygon, where the point lies in its box
+abbrev pub polyInside : Opened → List ℕ → Point → ListRecord → Answer Bool
+polyInside o s p q = ringContains o s p true (q .first) then λ b. cond b (holesOut o s p (q .count - 1) (q .first + 1)) (ok false)
+
 unfoldable pub polyOf : Opened → List ℕ → Point → ℕ → Answer Bool
-polyOf o s p i =
-    polyAt o s i then λ q.
-    cond (contains (q .bbox) p)
-    (ringContains o s p true (q .first) then λ b. cond b (holesOut o s p (q .count - 1) (q .first + 1)) (ok false))
-    (ok false)
+polyOf o s p i = polyAt o s i then λ q. cond (contains (q .bbox) p) (polyInside o s p q) (ok false)
+
+-- a position by its two floats
+abbrev pub floats : Float → Float → Point
+floats x y = record { x = x; y = y }
 
 unfoldable pub zoneOf : Opened → List ℕ → Point → ℕ → Answer Bool
 zoneOf o s p i = zoneAt o s i then λ z. cond (contains (z .bbox) p) (seek (polyOf o s p) true false (z .count) (z .first)) (ok false)
@@ -64,6 +69,16 @@ module _ (f : ℕ → Answer Bool) (found other : Bool) (n i : ℕ) where
     pub seek-on : (b : Bool) → ok b ≡ f i → b ≡ false → seek f found other (n - 1) (i + 1) ≡ seek f found other n i
     seek-on b e g = rw (seek-one, ← e, g)
 
+module _ (o : Opened) (s : List ℕ) (p : Point) (q : ListRecord) (j : ℕ) (g : j ≡ q .first) where
+  pub inside-no : (r : Refusal) → refused r ≡ ringContains o s p true j → refused r ≡ polyInside o s p q
+  inside-no r k = rw (← g, ← k)
+
+  pub inside-not : (b : Bool) → ok b ≡ ringContains o s p true j → b ≡ false → ok false ≡ polyInside o s p q
+  inside-not b k z = rw (← g, ← k, z)
+
+  pub inside-is : (b : Bool) → ok b ≡ ringContains o s p true j → b ≡ true → holesOut o s p (q .count - 1) (j + 1) ≡ polyInside o s p q
+  inside-is b k z = rw (← g, ← k, z)
+
 module _ (o : Opened) (s : List ℕ) (p : Point) (i : ℕ) where
   pub poly-no : (r : Refusal) → refused r ≡ polyAt o s i → refused r ≡ polyOf o s p i
   unfolding polyOf
@@ -74,18 +89,9 @@ module _ (o : Opened) (s : List ℕ) (p : Point) (i : ℕ) where
     unfolding polyOf
     poly-out e = rw (← h, e)
 
-    module _ (e : contains (q .bbox) p ≡ true) (j : ℕ) (g : j ≡ q .first) where
-      pub poly-bad : (r : Refusal) → refused r ≡ ringContains o s p true j → refused r ≡ polyOf o s p i
-      unfolding polyOf
-      poly-bad r k = rw (← h, e, ← g, ← k)
-
-      pub poly-not : (b : Bool) → ok b ≡ ringContains o s p true j → b ≡ false → ok false ≡ polyOf o s p i
-      unfolding polyOf
-      poly-not b k z = rw (← h, e, ← g, ← k, z)
-
-      pub poly-is : (b : Bool) → ok b ≡ ringContains o s p true j → b ≡ true → holesOut o s p (q .count - 1) (j + 1) ≡ polyOf o s p i
-      unfolding polyOf
-      poly-is b k z = rw (← h, e, ← g, ← k, z)
+    pub poly-in : contains (q .bbox) p ≡ true → polyInside o s p q ≡ polyOf o s p i
+    unfolding polyOf
+    poly-in e = rw (← h, e)
 
   pub zone-no : (r : Refusal) → refused r ≡ zoneAt o s i → refused r ≡ zoneOf o s p i
   unfolding zoneOf

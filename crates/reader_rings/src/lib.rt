@@ -7,18 +7,21 @@ ghost use Rattle.tzb_core.specs.Points.{point};
 ghost use Rattle.tzb_core.specs.Ray.{rayOf};
 ghost use Rattle.tzb_core.specs.Scan.{past};
 ghost use Rattle.reader_groups.specs.Groups.{went};
-ghost use Rattle.reader_rings.specs.Rings.{turned, rounds, sumAfter, judged, turnOf, turnedAt, jointOf, groupWalk, turnWalk, opStep, opsFrom, ringEnd, ringRest, ringOf, ringContains};
-ghost use Rattle.reader_rings.specs.Zones.{seek, holesOut, polyOf, zoneOf, containsAt};
+ghost use Rattle.reader_records.specs.Records.{groupIn};
+ghost use lib.ListN.{length};
+ghost use Rattle.reader_rings.specs.Rings.{legTold, LegRoom, rounds, sumAfter, judged, turnOf, turnedAt, jointOf, groupWalk, turnWalk, opStep, opsFrom, ringEnd, ringRest, ringOf, ringContains};
+ghost use Rattle.reader_rings.specs.Zones.{seek, holesOut, polyInside, polyOf, floats, zoneOf, containsAt};
 use answer::Refusal;
 use plane::I32Point;
 use plane::Point;
 use plane::Seen;
 use reader_groups::Went;
 use reader_opened::Opened;
-use reader_records::GroupAt;
 use reader_records::GroupRecord;
 use reader_records::ListAt;
+use reader_records::ListRecord;
 use reader_records::OpAt;
+use reader_records::RecordPlace;
 use reader_records::RingAt;
 use reader_records::RingRecord;
 
@@ -29,8 +32,9 @@ pub struct Turned {
     pub group: GroupRecord,
 }
 
-pub enum TurnedAt {
-    At(Turned),
+// An op's word, and where its group stands.
+pub enum LegAt {
+    At(usize, usize),
     Refused(Refusal),
 }
 
@@ -72,21 +76,29 @@ fn turn(w: usize, g: GroupRecord) -> Turned
     }
 }
 
-// The group of op i.
-fn turned_by(o: Opened, s: &[u8], i: usize) -> TurnedAt
-    ensures { λ r. ⌜ turned r ≡ turnedAt o (now (s .entry)) i ⌝ }
+// The op with index i, and its group's place.
+fn leg_at(o: Opened, s: &[u8], i: usize) -> LegAt
+    ensures { λ r. ⌜ (legTold (now (s .entry)) r ≡ turnedAt o (now (s .entry)) i) × LegRoom (now (s .entry)) r ⌝ }
 {
     let t = reader_records::op_at(o, s, i);
     match t {
-        OpAt::Refused(k) => TurnedAt::Refused(k),
+        OpAt::Refused(k) => LegAt::Refused(k),
         OpAt::At(w) => {
-            let u = reader_records::group_at(o, s, w % 0x8000_0000);
+            let u = reader_records::group_place(o, s, w % 0x8000_0000);
             match u {
-                GroupAt::Refused(k) => TurnedAt::Refused(k),
-                GroupAt::At(g) => TurnedAt::At(turn(w, g)),
+                RecordPlace::Refused(k) => LegAt::Refused(k),
+                RecordPlace::At(at) => LegAt::At(w, at),
             }
         }
     }
+}
+
+// The group at a tested place, as the op's word has it.
+fn turned_in(s: &[u8], w: usize, at: usize) -> Turned
+    requires { ⌜ at + 44 ≤ length (now s) ⌝ }
+    ensures { λ r. ⌜ r ≡ turnOf w (groupIn (now (s .entry)) at) ⌝ }
+{
+    turn(w, reader_records::group_in(s, at))
 }
 
 // Past the segment from a to b.
@@ -150,10 +162,11 @@ fn op_step(o: Opened, s: &[u8], p: Point, i: usize, z: Round) -> Rounds
     requires { ⌜ z .sum < 0x4000_0000_0000_0000 ⌝ }
     ensures { λ r. ⌜ (rounds r ≡ opStep o (now (s .entry)) p i z) × (sumAfter (z .sum) r ≤ z .sum + 0x1_0000_0000) ⌝ }
 {
-    let u = turned_by(o, s, i);
+    let u = leg_at(o, s, i);
     match u {
-        TurnedAt::Refused(k) => Rounds::Refused(k),
-        TurnedAt::At(t) => {
+        LegAt::Refused(k) => Rounds::Refused(k),
+        LegAt::At(word, at) => {
+            let t = turned_in(s, word, at);
             let a = z.exit;
             let w = turn_walk(o, s, p, a, t);
             match w {
@@ -239,10 +252,11 @@ fn ring_rest(o: Opened, s: &[u8], p: Point, r: RingRecord, t: Turned) -> Went
 fn ring_walk(o: Opened, s: &[u8], p: Point, r: RingRecord) -> Went
     ensures { λ w. ⌜ went w ≡ ringOf o (now (s .entry)) p r ⌝ }
 {
-    let u = turned_by(o, s, reader_head::wide(r.first));
+    let u = leg_at(o, s, reader_head::wide(r.first));
     match u {
-        TurnedAt::Refused(k) => Went::Refused(k),
-        TurnedAt::At(t) => {
+        LegAt::Refused(k) => Went::Refused(k),
+        LegAt::At(word, at) => {
+            let t = turned_in(s, word, at);
             let g = t.group;
             let w = group_walk(o, s, p, g);
             match w {
@@ -308,28 +322,17 @@ fn holes_out(o: Opened, s: &[u8], p: Point, count: u16, from: usize) -> Verdict
     Verdict::Is(true)
 }
 
-// Whether polygon i contains the point: its first ring does, and no hole.
-fn poly_contains(o: Opened, s: &[u8], p: Point, i: usize) -> Verdict
-    ensures { λ r. ⌜ judged r ≡ polyOf o (now (s .entry)) p i ⌝ }
+// Whether a polygon contains the point, which lies in its box: its first ring does, and no hole.
+fn poly_inside(o: Opened, s: &[u8], p: Point, q: ListRecord) -> Verdict
+    ensures { λ r. ⌜ judged r ≡ polyInside o (now (s .entry)) p q ⌝ }
 {
-    let t = reader_records::poly_at(o, s, i);
-    match t {
-        ListAt::Refused(k) => Verdict::Refused(k),
-        ListAt::At(q) => {
-            let b = q.bbox;
-            if b.contains(p) {
-                let from = reader_head::wide(q.first);
-                let u = ring_contains(o, s, p, true, from);
-                match u {
-                    Verdict::Refused(k) => Verdict::Refused(k),
-                    Verdict::Is(y) => {
-                        if y {
-                            holes_out(o, s, p, q.count, from + 1)
-                        } else {
-                            Verdict::Is(false)
-                        }
-                    }
-                }
+    let from = reader_head::wide(q.first);
+    let u = ring_contains(o, s, p, true, from);
+    match u {
+        Verdict::Refused(k) => Verdict::Refused(k),
+        Verdict::Is(y) => {
+            if y {
+                holes_out(o, s, p, q.count, from + 1)
             } else {
                 Verdict::Is(false)
             }
@@ -337,22 +340,36 @@ fn poly_contains(o: Opened, s: &[u8], p: Point, i: usize) -> Verdict
     }
 }
 
-// Whether one of the polygons does.
+// Whether one of the polygons does. Its box is tested first, before anything is called.
 fn polys_from(o: Opened, s: &[u8], p: Point, count: u16, from: usize) -> Verdict
     requires { ⌜ from < 0x1_0000_0000 ⌝ }
     ensures { λ r. ⌜ judged r ≡ seek (polyOf o (now (s .entry)) p) true false count from ⌝ }
 {
+    let off = o.polys.off;
+    let all = o.polys.count;
+    let below = o.rings.count;
     let mut i = from;
     let mut left = count;
     while 0 < left {
-        let t = poly_contains(o, s, p, i);
+        let t = reader_records::list_at(s, off, all, below, i);
         match t {
-            Verdict::Refused(k) => {
+            ListAt::Refused(k) => {
                 return Verdict::Refused(k);
             }
-            Verdict::Is(b) => {
-                if b {
-                    return Verdict::Is(true);
+            ListAt::At(q) => {
+                let b = q.bbox;
+                if b.contains(p) {
+                    let v = poly_inside(o, s, p, q);
+                    match v {
+                        Verdict::Refused(k) => {
+                            return Verdict::Refused(k);
+                        }
+                        Verdict::Is(b) => {
+                            if b {
+                                return Verdict::Is(true);
+                            }
+                        }
+                    }
                 }
             }
         }
@@ -363,9 +380,10 @@ fn polys_from(o: Opened, s: &[u8], p: Point, count: u16, from: usize) -> Verdict
 }
 
 // Whether zone `index` contains the point.
-pub fn timezone_contains(o: Opened, s: &[u8], p: Point, index: usize) -> Verdict
-    ensures { λ r. ⌜ judged r ≡ zoneOf o (now (s .entry)) p index ⌝ }
+pub fn timezone_contains(o: Opened, s: &[u8], x: f64, y: f64, index: usize) -> Verdict
+    ensures { λ r. ⌜ judged r ≡ zoneOf o (now (s .entry)) (floats x y) index ⌝ }
 {
+    let p = Point { x, y };
     let t = reader_records::tz_at(o, s, index);
     match t {
         ListAt::Refused(k) => Verdict::Refused(k),
@@ -389,12 +407,8 @@ pub fn contains(o: Opened, s: &[u8], zone: u32, x: i32, y: i32) -> Verdict
     }
     let q = I32Point { x, y };
     if boxes::point_in_domain(q) {
-        timezone_contains(
-            o,
-            s,
-            tzb_core::raycast::to_point(q),
-            reader_head::wide(zone),
-        )
+        let p = tzb_core::raycast::to_point(q);
+        timezone_contains(o, s, p.x, p.y, reader_head::wide(zone))
     } else {
         Verdict::Is(false)
     }
