@@ -22,7 +22,7 @@ use Rattle.tzb_core.specs.Scan.{past}
 use Rattle.reader_opened.specs.declared.Opened.{Opened}
 use Rattle.reader_records.specs.declared.GroupRecord.{GroupRecord}
 use Rattle.reader_records.specs.declared.RingRecord.{RingRecord}
-use Rattle.reader_records.specs.Records.{opAt, groupIn, groupPlace, groupAt, ringAt, countRule, place-none, place-group}
+use Rattle.reader_records.specs.Records.{opAt, groupIn, groupAt, ringAt, countRule}
 use Rattle.reader_groups.specs.Groups.{One, groupOf}
 use Rattle.reader_rings.specs.declared.Turned.{Turned}
 use Rattle.reader_rings.specs.declared.LegAt.{LegAt}
@@ -124,13 +124,13 @@ module _ (o : Opened) (s : List ℕ) (i : ℕ) where
   turned-no r h = rw (← h)
 
   module _ (w : ℕ) (h : ok w ≡ opAt o s i) where
-    pub turned-bad : (r : Refusal) → refused r ≡ groupPlace o s (w % 0x8000_0000) → refused r ≡ turnedAt o s i
+    pub turned-bad : (r : Refusal) → refused r ≡ groupAt o s (w % 0x8000_0000) → refused r ≡ turnedAt o s i
     unfolding turnedAt
-    turned-bad r k = rw (← h, ← place-none o s (w % 0x8000_0000) r k)
+    turned-bad r k = rw (← h, ← k)
 
-    pub turned-is : (p : ℕ) → ok p ≡ groupPlace o s (w % 0x8000_0000) → ok (turnOf w (groupIn s p)) ≡ turnedAt o s i
+    pub turned-is : (g : GroupRecord) → ok g ≡ groupAt o s (w % 0x8000_0000) → (t : Turned) → t ≡ turnOf w g → ok t ≡ turnedAt o s i
     unfolding turnedAt
-    turned-is p k = rw (← h, ← place-group o s (w % 0x8000_0000) p k)
+    turned-is g k t e = rw (← h, ← k, e)
 
 module _ (p : Point) (a b : I32Point) where
   pub joint-none : same a b ≡ true → done tt ≡ jointOf p a b

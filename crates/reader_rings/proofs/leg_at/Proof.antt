@@ -1,8 +1,8 @@
 -- `reader_rings::leg_at` meets its contract: the op, then its group's place.
 -- Assumes nothing.
-use mathlib.Core.Path.{sym, ap, _∙_}
+use mathlib.Core.Path.{refl, sym, ap, _∙_}
 use Rattle.reader_rings.specs.Rings.{turned-no, turned-bad, turned-is}
-use Rattle.reader_records.specs.Records.{toldOp, toldPlace, place-room}
+use Rattle.reader_records.specs.Records.{toldOp, toldPlace, place-none, place-group, place-room}
 use borrow.Author.Needs.{needs}
 use Rattle.reader_rings.proofs.leg_at.Statement.{statement}
 use Rattle.reader_rings.proofs.leg_at.Tie as tie
@@ -31,13 +31,13 @@ returns c = (turned-no _ _ _ _ (sym (ap toldOp (c .before .t .given .1)) ∙ c .
 returns-2 : tie.Need-returns-2
 returns-2 c =
     let t = c .before .before .before .before .before in
-    (turned-bad _ _ _ _ (sym (ap toldOp (t .t2 .given .1)) ∙ t .before .before .op-at .ensures) _ (sym (ap toldPlace (c .before .u .given .1)) ∙ c .before .before .before .group-place .ensures), tt)
+    (turned-bad _ _ _ _ (sym (ap toldOp (t .t2 .given .1)) ∙ t .before .before .op-at .ensures) _ (place-none _ _ _ _ (sym (ap toldPlace (c .before .u .given .1)) ∙ c .before .before .before .group-place .ensures)), tt)
 
 returns-3 : tie.Need-returns-3
 returns-3 c =
     let t = c .before .before .before .before .before in
     let h = sym (ap toldPlace (c .before .u2 .given .1)) ∙ c .before .before .before .group-place .ensures in
-    (turned-is _ _ _ _ (sym (ap toldOp (t .t2 .given .1)) ∙ t .before .before .op-at .ensures) _ h, place-room _ _ _ _ h)
+    (turned-is _ _ _ _ (sym (ap toldOp (t .t2 .given .1)) ∙ t .before .before .op-at .ensures) _ (place-group _ _ _ _ h) _ refl, place-room _ _ _ _ h)
 
 pub leg-at-spec : {M : Type 1} → statement M
 leg-at-spec = tie.close (tie.spec op-at-requires enum-known-t enum-known-t-2 group-place-requires enum-known-u enum-known-u-2 returns returns-2 returns-3)
