@@ -1,18 +1,17 @@
--- The exports' answers as single numbers. Document 01, "Port order": -1000 - n for refusal n.
+-- Answers as single numbers, for the exports. Document 01, "Port order": -1000 - n for refusal n.
 -- Assumes nothing.
-use Prim.Native.Nat.{ℕ, _+_, _-_, _*_, _≤_, _<_, min}
+use Prim.Native.Nat.{ℕ, _+_, _*_, _≤_, _<_, min}
 use native.Mathlib.Omega.{arith}
-use mathlib.Core.Path.{_≡_, ap}
+use mathlib.Core.Path.{_≡_, refl, ap}
 use mathlib.Core.Bool.{Bool, true, false}
 use lib.IntN.{ℤ, pos, negsuc}
-use lib.Ieee.{Float}
 use Rattle.answer.specs.declared.Refusal.{Refusal}
+use Rattle.answer.specs.declared.Checked.{Checked}
+use Rattle.answer.specs.declared.Checked.the-variants as C
 use Rattle.answer.specs.Answers.{Answer, ok, refused}
-use Rattle.plane.specs.declared.Point.{Point}
-use Rattle.plane.specs.declared.I32Point.{I32Point}
 use Rattle.plane.specs.declared.Seen.{Seen}
 use Rattle.plane.specs.declared.Seen.the-variants.{On, Off}
-use Rattle.boxes.specs.declared.BBox.{BBox}
+use Rattle.tzb_core.specs.Decode.{outcome}
 use Rattle.reader_grid.specs.Asked.{Chosen, none, all, listed}
 use Rattle.reader_lookup.specs.Asking.{Sought, nowhere, inZone}
 use Rattle.reader_check.specs.FullCheck.{Outcome, accepted, refusedBy, brokenAt}
@@ -31,6 +30,11 @@ refusalCode r = negsuc (999 + min (r .number) 999)
 abbrev pub doneCode : {A : Type 0} → Answer A → ℤ
 doneCode (ok a) = pos 0
 doneCode (refused k) = refusalCode k
+
+-- what a check says: there is nothing to tell but that it was fine
+abbrev pub checkedTold : Checked → Answer (Unit {0})
+checkedTold C.Fine = ok tt
+checkedTold (C.Refused k) = refused k
 
 -- a count, a zone or a place
 abbrev pub numberCode : Answer ℕ → ℤ
@@ -84,26 +88,6 @@ ruleOf accepted = 0
 ruleOf (refusedBy k) = 0
 ruleOf (brokenAt k rule) = rule
 
--- ---- for comparison runs
--- a number that was read, or 0 where it is refused
-unfoldable pub numberOf : Answer (ℤ × ℕ) → ℤ
-numberOf (ok t) = t .0
-numberOf (refused r) = pos 0
-
--- how many bytes a number has that starts at p, or the refusal
-unfoldable pub lengthFrom : ℕ → Answer (ℤ × ℕ) → ℤ
-lengthFrom p (ok t) = pos (t .1 - p)
-lengthFrom p (refused r) = refusalCode r
-
-abbrev pub boxOf : ℤ → ℤ → ℤ → ℤ → BBox
-boxOf minx miny maxx maxy = record { minx = minx; miny = miny; maxx = maxx; maxy = maxy }
-
-abbrev pub pointOf : Float → Float → Point
-pointOf x y = record { x = x; y = y }
-
-abbrev pub placeOf : ℤ → ℤ → I32Point
-placeOf x y = record { x = x; y = y }
-
 -- 2 for on, 1 for counts, 0 for neither
 abbrev pub seenCode : Seen → ℤ
 seenCode On = pos 2
@@ -120,19 +104,7 @@ module _ (r : Refusal) where
   unfolding refusalCode
   code-held h = ap negsuc (omega arith)
 
-module _ (x : Answer (ℤ × ℕ)) where
-  pub number-no : (r : Refusal) → refused r ≡ x → pos 0 ≡ numberOf x
-  unfolding numberOf
-  number-no r e = rw (← e)
-
-  pub number-is : (z : ℤ) (q : ℕ) → ok (z, q) ≡ x → z ≡ numberOf x
-  unfolding numberOf
-  number-is z q e = rw (← e)
-
-  pub length-no : (p : ℕ) (r : Refusal) → refused r ≡ x → refusalCode r ≡ lengthFrom p x
-  unfolding lengthFrom
-  length-no p r e = rw (← e)
-
-  pub length-is : (p : ℕ) (z : ℤ) (q : ℕ) → ok (z, q) ≡ x → pos (q - p) ≡ lengthFrom p x
-  unfolding lengthFrom
-  length-is p z q e = rw (← e)
+-- whether an answer was given is told as the answer is
+pub done-outcome : {A : Type 0} (x : Answer A) → doneCode (checkedTold (outcome x)) ≡ doneCode x
+done-outcome (ok a) = refl
+done-outcome (refused k) = refl
