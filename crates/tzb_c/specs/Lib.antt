@@ -1,3 +1,3 @@
 -- What the exports answer.
+pub mod Exports
 pub mod Opens
-pub mod Parts

@@ -12,15 +12,19 @@ ghost use Rattle.tzb_core.specs.Points.{point};
 ghost use Rattle.tzb_core.specs.Decode.{filled};
 ghost use Rattle.tzb.specs.FullCheck.{fullCheckOf};
 ghost use Rattle.tzb_asked.specs.Asked.{foundTold, zonesAsked, nameAsked, endsAsked, endsAfter, choiceAsked, candidateAsked, containsAsked, decodeAsked, lookupAsked, listAsked, placesAfter, howMany};
-ghost use Rattle.tzb_codes.specs.Codes.{bitOf, doneCode, numberCode, startCode, endCode, kindCode, listedOf, insideCode, zoneCode, checkCode, ruleOf, seenCode};
+ghost use Rattle.tzb_codes.specs.Codes.{bitOf, doneCode, kindCode, listedOf, insideCode, zoneCode, checkCode, ruleOf, seenCode};
 ghost use Rattle.tzb_c.specs.Opens.{openInto, keptIn, lookupOnce};
-ghost use Rattle.tzb_c.specs.Parts.{numberOf, lengthFrom, boxOf, pointOf, placeOf};
+ghost use Rattle.tzb_c.specs.Exports.{numberCode, startCode, endCode, numberOf, lengthFrom, boxOf, pointOf, placeOf};
+use answer::Checked;
 use boxes::BBox;
 use plane::I32Point;
 use plane::Point;
+use reader_grid::Candidate;
 use reader_lookup::Found;
+use reader_lookup::Listing;
 use reader_names::Bounds;
 use tzb::Opening;
+use tzb_asked::Count;
 use tzb_core::varint::Place;
 use tzb_core::varint::Read;
 use tzb_record::RecordRead;
@@ -82,7 +86,11 @@ pub extern "C" fn tzb_name(record: &[u8], file: &[u8], zone: u32, ends: &mut [u6
     ensures { λ r. ⌜ r ≡ doneCode (endsAsked (now («record» .entry)) (now (file .entry)) zone (length (now (ends .entry)))) ⌝ }
     ensures memory { λ r. ⌜ now (ends .exit) ≡ endsAfter (now (ends .entry)) (endsAsked (now («record» .entry)) (now (file .entry)) zone (length (now (ends .entry)))) ⌝ }
 {
-    tzb_codes::done_code(tzb_asked::name_ends(record, file, zone, ends))
+    let a = tzb_asked::name_ends(record, file, zone, ends);
+    match a {
+        Checked::Refused(k) => tzb_codes::refusal_code(k),
+        Checked::Fine => 0,
+    }
 }
 
 // What the candidates of a position are: 0 none, 1 all zones, 2 those listed for a cell, -1000 - n for refusal n.
@@ -106,7 +114,11 @@ pub extern "C" fn tzb_listed(record: &[u8], file: &[u8], lng: f64, lat: f64) -> 
 pub extern "C" fn tzb_candidate(record: &[u8], file: &[u8], place: u32) -> i64
     ensures { λ r. ⌜ r ≡ numberCode (candidateAsked (now («record» .entry)) (now (file .entry)) place) ⌝ }
 {
-    tzb_codes::candidate_code(tzb_asked::candidate_at(record, file, place))
+    let a = tzb_asked::candidate_at(record, file, place);
+    match a {
+        Candidate::Refused(k) => tzb_codes::refusal_code64(k),
+        Candidate::Zone(z) => z as i64,
+    }
 }
 
 // Whether a zone contains a point of whole numbers, in hundred-thousandths of a degree: 1, 0, or -1000 - n for refusal n.
@@ -123,7 +135,11 @@ pub extern "C" fn tzb_decode(record: &[u8], file: &[u8], chunk: u32, out: &mut [
     ensures { λ r. ⌜ r ≡ numberCode (howMany (decodeAsked (now («record» .entry)) (now (file .entry)) chunk (now (out .entry)))) ⌝ }
     ensures memory { λ r. ⌜ now (out .exit) ≡ filled (now (out .entry)) (decodeAsked (now («record» .entry)) (now (file .entry)) chunk (now (out .entry))) ⌝ }
 {
-    tzb_codes::count_code(tzb_asked::decode(record, file, chunk, out))
+    let a = tzb_asked::decode(record, file, chunk, out);
+    match a {
+        Count::Refused(k) => tzb_codes::refusal_code64(k),
+        Count::Is(n) => n as i64,
+    }
 }
 
 fn lookup_once(file: &[u8], lng: f64, lat: f64) -> Found
@@ -169,7 +185,11 @@ pub extern "C" fn tzb_ask_all(
     ensures { λ r. ⌜ r ≡ numberCode (howMany (listAsked (now («record» .entry)) (now (file .entry)) lng lat (length (now (zones .entry))))) ⌝ }
     ensures memory { λ r. ⌜ now (zones .exit) ≡ placesAfter (now (zones .entry)) (listAsked (now («record» .entry)) (now (file .entry)) lng lat (length (now (zones .entry)))) ⌝ }
 {
-    tzb_codes::listing_code(tzb_asked::lookup_into(record, file, lng, lat, zones))
+    let a = tzb_asked::lookup_into(record, file, lng, lat, zones);
+    match a {
+        Listing::Refused(k) => tzb_codes::refusal_code64(k),
+        Listing::Zones(n) => n as i64,
+    }
 }
 
 // Checks F1 to F6 over the whole file: 0 where it is accepted; -1000 - n for opening's refusal n; -1047 where another rule is broken. Of an accepted file no question is refused but for a number that is too large, a place of the candidate list that no cell lists, or room that is too short.

@@ -6,9 +6,6 @@ use Rattle.tzb_codes.proofs.bit.Reads as bit-reads
 use Rattle.tzb_codes.proofs.refusal_code.Reads as refusal-code-reads
 use Rattle.tzb_codes.proofs.refusal_code64.Reads as refusal-code64-reads
 use Rattle.tzb_codes.proofs.done_code.Reads as done-code-reads
-use Rattle.tzb_codes.proofs.count_code.Reads as count-code-reads
-use Rattle.tzb_codes.proofs.listing_code.Reads as listing-code-reads
-use Rattle.tzb_codes.proofs.candidate_code.Reads as candidate-code-reads
 use Rattle.tzb_codes.proofs.kind_code.Reads as kind-code-reads
 use Rattle.tzb_codes.proofs.listed_of.Reads as listed-of-reads
 use Rattle.tzb_codes.proofs.inside_code.Reads as inside-code-reads
@@ -28,15 +25,6 @@ refusal-code64 κ a r r' e e' p q = p ∙ sym q
 
 pub done-code : Determined done-code-reads.Learnt
 done-code κ a r r' e e' p q = p ∙ sym q
-
-pub count-code : Determined count-code-reads.Learnt
-count-code κ a r r' e e' p q = p ∙ sym q
-
-pub listing-code : Determined listing-code-reads.Learnt
-listing-code κ a r r' e e' p q = p ∙ sym q
-
-pub candidate-code : Determined candidate-code-reads.Learnt
-candidate-code κ a r r' e e' p q = p ∙ sym q
 
 pub kind-code : Determined kind-code-reads.Learnt
 kind-code κ a r r' e e' p q = p ∙ sym q

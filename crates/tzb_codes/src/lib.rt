@@ -1,18 +1,15 @@
 // Answers as single numbers, for the exports: -1000 - n for refusal n. Each function is total.
 ghost use mathlib.Core.Path.{_≡_};
 ghost use Rattle.tzb.specs.FullCheck.{checkTold};
-ghost use Rattle.tzb_asked.specs.Asked.{choiceTold, candidateTold, verdictTold, countTold, foundTold, listingTold};
-ghost use Rattle.tzb_codes.specs.Codes.{bitOf, refusalCode, doneCode, checkedTold, numberCode, kindCode, listedOf, insideCode, zoneCode, checkCode, ruleOf, seenCode};
+ghost use Rattle.tzb_asked.specs.Asked.{choiceTold, verdictTold, foundTold};
+ghost use Rattle.tzb_codes.specs.Codes.{bitOf, refusalCode, doneCode, checkedTold, kindCode, listedOf, insideCode, zoneCode, checkCode, ruleOf, seenCode};
 use answer::Checked;
 use answer::Refusal;
 use plane::Seen;
-use reader_grid::Candidate;
 use reader_grid::Choice;
 use reader_lookup::Found;
-use reader_lookup::Listing;
 use reader_rings::Verdict;
 use tzb::FullCheck;
-use tzb_asked::Count;
 
 // 1 yes, 0 no.
 pub fn bit(b: bool) -> u32
@@ -43,36 +40,6 @@ pub fn done_code(c: Checked) -> i32
     match c {
         Checked::Refused(k) => refusal_code(k),
         Checked::Fine => 0,
-    }
-}
-
-// How many.
-pub fn count_code(c: Count) -> i64
-    ensures { λ r. ⌜ r ≡ numberCode (countTold c) ⌝ }
-{
-    match c {
-        Count::Refused(k) => refusal_code64(k),
-        Count::Is(n) => n as i64,
-    }
-}
-
-// How many zones were listed.
-pub fn listing_code(l: Listing) -> i64
-    ensures { λ r. ⌜ r ≡ numberCode (listingTold l) ⌝ }
-{
-    match l {
-        Listing::Refused(k) => refusal_code64(k),
-        Listing::Zones(n) => n as i64,
-    }
-}
-
-// The zone of a candidate.
-pub fn candidate_code(c: Candidate) -> i64
-    ensures { λ r. ⌜ r ≡ numberCode (candidateTold c) ⌝ }
-{
-    match c {
-        Candidate::Refused(k) => refusal_code64(k),
-        Candidate::Zone(z) => z as i64,
     }
 }
 

@@ -6,7 +6,7 @@ use mir.Syntax.{w64}
 use mir.ValLaws.{toZ-pos}
 use Rattle.basics.specs.Signed.{back}
 use Rattle.tzb_asked.specs.Asked.{nameTold}
-use Rattle.tzb_codes.specs.Codes.{endCode}
+use Rattle.tzb_c.specs.Exports.{endCode}
 use Rattle.tzb_c.proofs.Kept.{name-inside}
 use borrow.Author.Needs.{needs}
 use Rattle.tzb_c.proofs.tzb_name_end.Statement.{statement}

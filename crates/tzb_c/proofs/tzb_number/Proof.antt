@@ -5,7 +5,7 @@ use borrow.Author.Needs.{needs}
 use mir.Syntax.{w32}
 use Rattle.basics.specs.Signed.{back}
 use Rattle.tzb_core.specs.Varint.{told}
-use Rattle.tzb_c.specs.Parts.{number-no, number-is}
+use Rattle.tzb_c.specs.Exports.{number-no, number-is}
 use Rattle.tzb_c.proofs.tzb_number.Statement.{statement}
 use Rattle.tzb_c.proofs.tzb_number.Tie as tie
 

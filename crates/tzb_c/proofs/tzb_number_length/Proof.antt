@@ -8,7 +8,7 @@ use mir.ValLaws.{toZ-pos}
 use Rattle.tzb_core.specs.Varint.{told}
 use Rattle.basics.specs.Signed.{back}
 use Rattle.tzb_core.proofs.Places.{number-place}
-use Rattle.tzb_c.specs.Parts.{length-no, length-is}
+use Rattle.tzb_c.specs.Exports.{length-no, length-is}
 use Rattle.tzb_c.proofs.tzb_number_length.Statement.{statement}
 use Rattle.tzb_c.proofs.tzb_number_length.Tie as tie
 

@@ -7,7 +7,7 @@ use mir.ValLaws.{toZ-pos}
 use Rattle.basics.specs.Signed.{back}
 use Rattle.tzb_record.specs.Layout.{told}
 use Rattle.tzb_asked.specs.Asked.{zonesAsked, barred, asked}
-use Rattle.tzb_codes.specs.Codes.{numberCode}
+use Rattle.tzb_c.specs.Exports.{numberCode}
 use borrow.Author.Needs.{needs}
 use Rattle.tzb_c.proofs.tzb_zone_count.Statement.{statement}
 use Rattle.tzb_c.proofs.tzb_zone_count.Tie as tie
