@@ -1,37 +1,17 @@
--- The exports' answers as single numbers. Document 01, "Port order": -1000 - n for refusal n.
+-- What the exports tell beside tzb_codes: counts, zones and places. And those for comparison runs.
 -- Assumes nothing.
-use Prim.Native.Nat.{ℕ, _+_, _-_, _*_, _≤_, _<_, min}
-use native.Mathlib.Omega.{arith}
-use mathlib.Core.Path.{_≡_, ap}
-use mathlib.Core.Bool.{Bool, true, false}
-use lib.IntN.{ℤ, pos, negsuc}
+use Prim.Native.Nat.{ℕ, _-_}
+use mathlib.Core.Path.{_≡_}
+use lib.IntN.{ℤ, pos}
 use lib.Ieee.{Float}
 use Rattle.answer.specs.declared.Refusal.{Refusal}
 use Rattle.answer.specs.Answers.{Answer, ok, refused}
 use Rattle.plane.specs.declared.Point.{Point}
 use Rattle.plane.specs.declared.I32Point.{I32Point}
-use Rattle.plane.specs.declared.Seen.{Seen}
-use Rattle.plane.specs.declared.Seen.the-variants.{On, Off}
 use Rattle.boxes.specs.declared.BBox.{BBox}
-use Rattle.reader_grid.specs.Asked.{Chosen, none, all, listed}
-use Rattle.reader_lookup.specs.Asking.{Sought, nowhere, inZone}
-use Rattle.reader_check.specs.FullCheck.{Outcome, accepted, refusedBy, brokenAt}
-
--- yes is 1, no is 0
-abbrev pub bitOf : Bool → ℕ
-bitOf true = 1
-bitOf false = 0
-
--- -1000 - n. A refusal's number has at most three digits; one that had more would be told as 999.
-unfoldable pub refusalCode : Refusal → ℤ
-refusalCode r = negsuc (999 + min (r .number) 999)
+use Rattle.tzb_codes.specs.Codes.{refusalCode}
 
 -- ---- answers as numbers, -1000 - n for refusal n
--- 0 where it was done, and what is asked for stands in lent memory
-abbrev pub doneCode : {A : Type 0} → Answer A → ℤ
-doneCode (ok a) = pos 0
-doneCode (refused k) = refusalCode k
-
 -- a count, a zone or a place
 abbrev pub numberCode : Answer ℕ → ℤ
 numberCode (ok n) = pos n
@@ -45,44 +25,6 @@ startCode (refused k) = refusalCode k
 abbrev pub endCode : Answer (ℕ × ℕ) → ℤ
 endCode (ok b) = pos (b .1)
 endCode (refused k) = refusalCode k
-
--- 0 none, 1 all zones, 2 those listed for a cell
-abbrev pub kindCode : Answer Chosen → ℤ
-kindCode (ok none) = pos 0
-kindCode (ok (all n)) = pos 1
-kindCode (ok (listed n p)) = pos 2
-kindCode (refused k) = refusalCode k
-
--- how many are listed and the place of the first; the number of all zones; else 0
-abbrev pub listedOf : Answer Chosen → ℕ
-listedOf (ok none) = 0
-listedOf (ok (all n)) = n
-listedOf (ok (listed n p)) = n * 0x1_0000_0000 + p
-listedOf (refused k) = 0
-
--- 1 yes, 0 no
-abbrev pub insideCode : Answer Bool → ℤ
-insideCode (ok true) = pos 1
-insideCode (ok false) = pos 0
-insideCode (refused k) = refusalCode k
-
--- a zone, -1 for none
-abbrev pub zoneCode : Answer Sought → ℤ
-zoneCode (ok nowhere) = negsuc 0
-zoneCode (ok (inZone zone)) = pos zone
-zoneCode (refused k) = refusalCode k
-
--- the full check: 0 accepted; a refusal of opening; 47, whose rule is told apart
-abbrev pub checkCode : Outcome → ℤ
-checkCode accepted = pos 0
-checkCode (refusedBy k) = refusalCode k
-checkCode (brokenAt k rule) = refusalCode k
-
--- the rule beside 47, else 0
-abbrev pub ruleOf : Outcome → ℕ
-ruleOf accepted = 0
-ruleOf (refusedBy k) = 0
-ruleOf (brokenAt k rule) = rule
 
 -- ---- for comparison runs
 -- a number that was read, or 0 where it is refused
@@ -104,22 +46,7 @@ pointOf x y = record { x = x; y = y }
 abbrev pub placeOf : ℤ → ℤ → I32Point
 placeOf x y = record { x = x; y = y }
 
--- 2 for on, 1 for counts, 0 for neither
-abbrev pub seenCode : Seen → ℤ
-seenCode On = pos 2
-seenCode (Off true) = pos 1
-seenCode (Off false) = pos 0
-
 -- ---- laws
-module _ (r : Refusal) where
-  pub code-small : r .number < 1000 → negsuc (999 + r .number) ≡ refusalCode r
-  unfolding refusalCode
-  code-small h = ap negsuc (omega arith)
-
-  pub code-held : 1000 ≤ r .number → negsuc 1998 ≡ refusalCode r
-  unfolding refusalCode
-  code-held h = ap negsuc (omega arith)
-
 module _ (x : Answer (ℤ × ℕ)) where
   pub number-no : (r : Refusal) → refused r ≡ x → pos 0 ≡ numberOf x
   unfolding numberOf

@@ -1,12 +1,14 @@
 -- Opening into lent memory, which keeps the record as bytes; and opening to ask once.
 -- Assumes nothing.
 use Prim.Native.Nat.{ℕ}
-use mathlib.Core.Path.{_≡_, refl, sym, ap, _∙_}
+use mathlib.Core.Path.{_≡_, refl}
 use mathlib.Core.List.{List}
 use lib.Ieee.{Float}
 use Rattle.answer.specs.declared.Refusal.{Refusal}
+use Rattle.answer.specs.declared.Checked.{Checked}
 use Rattle.answer.specs.declared.Checked.the-variants as C
 use Rattle.answer.specs.Answers.{Answer, ok, refused, _then_, _before_}
+use Rattle.tzb_core.specs.Decode.{outcome}
 use Rattle.reader_opened.specs.declared.Opened.{Opened}
 use Rattle.reader_lookup.specs.Asking.{Sought, lookupOf}
 use Rattle.tzb_record.specs.Layout.{recordOf, roomFor, written, written-not}
@@ -32,16 +34,25 @@ module _ (s room : List ℕ) where
   unfolding openInto
   open-barred k e = rw (← e)
 
+  -- once it is opened: whether there is room is all that is left to say, and lent memory is what writing leaves
   module _ (o : Opened) (e : ok o ≡ openOf s) where
-    pub open-full : (k : Refusal) → C.Refused k ≡ roomFor room → refused k ≡ openInto s room
+    pub open-room : roomFor room ≡ outcome (openInto s room)
     unfolding openInto
-    open-full k f = rw (← e, ← f)
+    open-room = rw (← e) (go (roomFor room))
+      where
+        go : (c : Checked) → c ≡ outcome (c before ok o)
+        go C.Fine = refl
+        go (C.Refused k) = refl
 
-    pub open-fine : C.Fine ≡ roomFor room → ok o ≡ openInto s room
-    unfolding openInto
-    open-fine f = rw (← e, ← f)
+    pub kept-room : written o room ≡ keptIn room (openInto s room)
+    unfolding openInto keptIn
+    kept-room = rw (← e) (go (roomFor room) refl)
+      where
+        go : (c : Checked) → c ≡ roomFor room → written o room ≡ keptIn room (c before ok o)
+        go C.Fine f = refl
+        go (C.Refused k) f = written-not o room k f
 
--- and lent memory after it
+-- lent memory after it
 module _ (room : List ℕ) (x : Answer Opened) where
   pub kept-no : (k : Refusal) → refused k ≡ x → room ≡ keptIn room x
   unfolding keptIn
@@ -50,10 +61,6 @@ module _ (room : List ℕ) (x : Answer Opened) where
   pub kept-is : (o : Opened) → ok o ≡ x → written o room ≡ keptIn room x
   unfolding keptIn
   kept-is o e = rw (← e)
-
--- nothing is written where there is no room
-pub kept-full : (s room : List ℕ) (o : Opened) → ok o ≡ openOf s → (k : Refusal) → C.Refused k ≡ roomFor room → written o room ≡ keptIn room (openInto s room)
-kept-full s room o e k f = written-not o room k f ∙ kept-no room (openInto s room) k (open-full s room o e k f)
 
 -- opening to ask once
 module _ (s : List ℕ) (lng lat : Float) where

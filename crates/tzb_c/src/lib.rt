@@ -10,49 +10,24 @@ ghost use Rattle.tzb_core.specs.Ray.{rayOf, parityOf};
 ghost use Rattle.tzb_core.specs.Varint.{numberAt};
 ghost use Rattle.tzb_core.specs.Points.{point};
 ghost use Rattle.tzb_core.specs.Decode.{filled};
-ghost use Rattle.tzb.specs.FullCheck.{fullCheckOf, checkTold};
-ghost use Rattle.tzb_asked.specs.Asked.{verdictTold, foundTold, zonesAsked, nameAsked, endsAsked, endsAfter, choiceAsked, candidateAsked, containsAsked, decodeAsked, lookupAsked, listAsked, placesAfter, howMany};
+ghost use Rattle.tzb.specs.FullCheck.{fullCheckOf};
+ghost use Rattle.tzb_asked.specs.Asked.{foundTold, zonesAsked, nameAsked, endsAsked, endsAfter, choiceAsked, candidateAsked, containsAsked, decodeAsked, lookupAsked, listAsked, placesAfter, howMany};
+ghost use Rattle.tzb_codes.specs.Codes.{bitOf, doneCode, kindCode, listedOf, insideCode, zoneCode, checkCode, ruleOf, seenCode};
 ghost use Rattle.tzb_c.specs.Opens.{openInto, keptIn, lookupOnce};
-ghost use Rattle.tzb_c.specs.Exports.{bitOf, refusalCode, doneCode, numberCode, startCode, endCode, kindCode, listedOf, insideCode, zoneCode, checkCode, ruleOf, numberOf, lengthFrom, boxOf, pointOf, placeOf, seenCode};
+ghost use Rattle.tzb_c.specs.Exports.{numberCode, startCode, endCode, numberOf, lengthFrom, boxOf, pointOf, placeOf};
 use answer::Checked;
-use answer::Refusal;
 use boxes::BBox;
 use plane::I32Point;
 use plane::Point;
-use plane::Seen;
 use reader_grid::Candidate;
-use reader_grid::Choice;
 use reader_lookup::Found;
 use reader_lookup::Listing;
 use reader_names::Bounds;
-use reader_rings::Verdict;
-use tzb::FullCheck;
 use tzb::Opening;
 use tzb_asked::Count;
 use tzb_core::varint::Place;
 use tzb_core::varint::Read;
 use tzb_record::RecordRead;
-
-fn bit(b: bool) -> u32
-    ensures { λ r. ⌜ r ≡ bitOf b ⌝ }
-{
-    if b { 1 } else { 0 }
-}
-
-// -1000 - n for refusal n.
-fn refusal_code(r: Refusal) -> i32
-    ensures { λ z. ⌜ z ≡ refusalCode r ⌝ }
-{
-    let n = r.number;
-    // !x is -1 - x
-    if n < 1000 { !((999 + n) as i32) } else { !1998 }
-}
-
-fn refusal_code64(r: Refusal) -> i64
-    ensures { λ z. ⌜ z ≡ refusalCode r ⌝ }
-{
-    refusal_code(r) as i64
-}
 
 // ---- opening, and questions over the opened record
 
@@ -64,14 +39,8 @@ pub extern "C" fn tzb_open(file: &[u8], record: &mut [u8]) -> i32
 {
     let a = tzb::open(file);
     match a {
-        Opening::Refused(k) => refusal_code(k),
-        Opening::Done(o) => {
-            let b = tzb_record::write_record(o, record);
-            match b {
-                Checked::Refused(k) => refusal_code(k),
-                Checked::Fine => 0,
-            }
-        }
+        Opening::Refused(k) => tzb_codes::refusal_code(k),
+        Opening::Done(o) => tzb_codes::done_code(tzb_record::write_record(o, record)),
     }
 }
 
@@ -82,7 +51,7 @@ pub extern "C" fn tzb_zone_count(record: &[u8]) -> i64
 {
     let a = tzb_record::read_record(record);
     match a {
-        RecordRead::Refused(k) => refusal_code64(k),
+        RecordRead::Refused(k) => tzb_codes::refusal_code64(k),
         RecordRead::Is(o) => o.zones.count as i64,
     }
 }
@@ -94,7 +63,7 @@ pub extern "C" fn tzb_name_start(record: &[u8], file: &[u8], zone: u32) -> i64
 {
     let a = tzb_asked::name_bounds(record, file, zone);
     match a {
-        Bounds::Refused(k) => refusal_code64(k),
+        Bounds::Refused(k) => tzb_codes::refusal_code64(k),
         Bounds::At(from, _) => from as i64,
     }
 }
@@ -106,7 +75,7 @@ pub extern "C" fn tzb_name_end(record: &[u8], file: &[u8], zone: u32) -> i64
 {
     let a = tzb_asked::name_bounds(record, file, zone);
     match a {
-        Bounds::Refused(k) => refusal_code64(k),
+        Bounds::Refused(k) => tzb_codes::refusal_code64(k),
         Bounds::At(_, to) => to as i64,
     }
 }
@@ -119,15 +88,9 @@ pub extern "C" fn tzb_name(record: &[u8], file: &[u8], zone: u32, ends: &mut [u6
 {
     let a = tzb_asked::name_ends(record, file, zone, ends);
     match a {
-        Checked::Refused(k) => refusal_code(k),
+        Checked::Refused(k) => tzb_codes::refusal_code(k),
         Checked::Fine => 0,
     }
-}
-
-fn wide(x: u32) -> u64
-    ensures { λ r. ⌜ r ≡ x ⌝ }
-{
-    x as u64
 }
 
 // What the candidates of a position are: 0 none, 1 all zones, 2 those listed for a cell, -1000 - n for refusal n.
@@ -135,13 +98,7 @@ fn wide(x: u32) -> u64
 pub extern "C" fn tzb_choice(record: &[u8], file: &[u8], lng: f64, lat: f64) -> i32
     ensures { λ r. ⌜ r ≡ kindCode (choiceAsked (now («record» .entry)) (now (file .entry)) lng lat) ⌝ }
 {
-    let a = tzb_asked::candidates(record, file, lng, lat);
-    match a {
-        Choice::None => 0,
-        Choice::All(_) => 1,
-        Choice::Listed(_, _) => 2,
-        Choice::Refused(k) => refusal_code(k),
-    }
+    tzb_codes::kind_code(tzb_asked::candidates(record, file, lng, lat))
 }
 
 // How many are listed, times 2 ^ 32, and the place of the first; the number of all zones; else 0.
@@ -149,13 +106,7 @@ pub extern "C" fn tzb_choice(record: &[u8], file: &[u8], lng: f64, lat: f64) -> 
 pub extern "C" fn tzb_listed(record: &[u8], file: &[u8], lng: f64, lat: f64) -> u64
     ensures { λ r. ⌜ r ≡ listedOf (choiceAsked (now («record» .entry)) (now (file .entry)) lng lat) ⌝ }
 {
-    let a = tzb_asked::candidates(record, file, lng, lat);
-    match a {
-        Choice::None => 0,
-        Choice::All(n) => wide(n),
-        Choice::Listed(n, place) => wide(n) * 0x1_0000_0000 + wide(place),
-        Choice::Refused(_) => 0,
-    }
+    tzb_codes::listed_of(tzb_asked::candidates(record, file, lng, lat))
 }
 
 // The zone at a place of the candidate list, or -1000 - n for refusal n.
@@ -165,17 +116,8 @@ pub extern "C" fn tzb_candidate(record: &[u8], file: &[u8], place: u32) -> i64
 {
     let a = tzb_asked::candidate_at(record, file, place);
     match a {
-        Candidate::Refused(k) => refusal_code64(k),
+        Candidate::Refused(k) => tzb_codes::refusal_code64(k),
         Candidate::Zone(z) => z as i64,
-    }
-}
-
-fn inside_code(v: Verdict) -> i32
-    ensures { λ r. ⌜ r ≡ insideCode (verdictTold v) ⌝ }
-{
-    match v {
-        Verdict::Refused(k) => refusal_code(k),
-        Verdict::Is(inside) => { if inside { 1 } else { 0 } }
     }
 }
 
@@ -184,7 +126,7 @@ fn inside_code(v: Verdict) -> i32
 pub extern "C" fn tzb_contains(record: &[u8], file: &[u8], zone: u32, x: i32, y: i32) -> i32
     ensures { λ r. ⌜ r ≡ insideCode (containsAsked (now («record» .entry)) (now (file .entry)) zone (point x y)) ⌝ }
 {
-    inside_code(tzb_asked::contains(record, file, zone, x, y))
+    tzb_codes::inside_code(tzb_asked::contains(record, file, zone, x, y))
 }
 
 // The points of a chunk into lent numbers, two a point: how many points, or -1000 - n for refusal n, and then nothing is written.
@@ -195,7 +137,7 @@ pub extern "C" fn tzb_decode(record: &[u8], file: &[u8], chunk: u32, out: &mut [
 {
     let a = tzb_asked::decode(record, file, chunk, out);
     match a {
-        Count::Refused(k) => refusal_code64(k),
+        Count::Refused(k) => tzb_codes::refusal_code64(k),
         Count::Is(n) => n as i64,
     }
 }
@@ -219,7 +161,7 @@ pub extern "C" fn tzb_lookup(file: &[u8], lng: f64, lat: f64) -> i32
     match a {
         Found::None => -1,
         Found::Zone(zone) => zone as i32,
-        Found::Refused(k) => refusal_code(k),
+        Found::Refused(k) => tzb_codes::refusal_code(k),
     }
 }
 
@@ -228,12 +170,7 @@ pub extern "C" fn tzb_lookup(file: &[u8], lng: f64, lat: f64) -> i32
 pub extern "C" fn tzb_ask(record: &[u8], file: &[u8], lng: f64, lat: f64) -> i64
     ensures { λ r. ⌜ r ≡ zoneCode (lookupAsked (now («record» .entry)) (now (file .entry)) lng lat) ⌝ }
 {
-    let a = tzb_asked::lookup(record, file, lng, lat);
-    match a {
-        Found::None => -1,
-        Found::Zone(zone) => zone as i64,
-        Found::Refused(k) => refusal_code64(k),
-    }
+    tzb_codes::zone_code(tzb_asked::lookup(record, file, lng, lat))
 }
 
 // All zones that a position lies in, in the order of their names, into lent places: how many there are, or -1000 - n for refusal n, and then nothing is written.
@@ -250,28 +187,8 @@ pub extern "C" fn tzb_ask_all(
 {
     let a = tzb_asked::lookup_into(record, file, lng, lat, zones);
     match a {
-        Listing::Refused(k) => refusal_code64(k),
+        Listing::Refused(k) => tzb_codes::refusal_code64(k),
         Listing::Zones(n) => n as i64,
-    }
-}
-
-fn check_code(c: FullCheck) -> i32
-    ensures { λ r. ⌜ r ≡ checkCode (checkTold c) ⌝ }
-{
-    match c {
-        FullCheck::Accepted => 0,
-        FullCheck::Refused(k) => refusal_code(k),
-        FullCheck::Broken(k, _) => refusal_code(k),
-    }
-}
-
-fn rule_of(c: FullCheck) -> u32
-    ensures { λ r. ⌜ r ≡ ruleOf (checkTold c) ⌝ }
-{
-    match c {
-        FullCheck::Accepted => 0,
-        FullCheck::Refused(_) => 0,
-        FullCheck::Broken(_, rule) => rule,
     }
 }
 
@@ -280,7 +197,7 @@ fn rule_of(c: FullCheck) -> u32
 pub extern "C" fn tzb_full_check(file: &[u8]) -> i32
     ensures { λ r. ⌜ r ≡ checkCode (fullCheckOf (now (file .entry))) ⌝ }
 {
-    check_code(tzb::full_check(file))
+    tzb_codes::check_code(tzb::full_check(file))
 }
 
 // The lowest broken rule where the full check says -1047, 2 to 6; else 0.
@@ -288,7 +205,7 @@ pub extern "C" fn tzb_full_check(file: &[u8]) -> i32
 pub extern "C" fn tzb_full_check_rule(file: &[u8]) -> u32
     ensures { λ r. ⌜ r ≡ ruleOf (fullCheckOf (now (file .entry))) ⌝ }
 {
-    rule_of(tzb::full_check(file))
+    tzb_codes::rule_of(tzb::full_check(file))
 }
 
 // ---- for comparison runs
@@ -314,7 +231,7 @@ pub extern "C" fn tzb_number_length(bytes: &[u8], at: usize) -> i32
     let place = Place { at };
     let read = place.varint(bytes);
     match read {
-        Read::Refused(k) => refusal_code(k),
+        Read::Refused(k) => tzb_codes::refusal_code(k),
         Read::Number(_, next) => (next.at - at) as i32,
     }
 }
@@ -337,7 +254,7 @@ pub extern "C" fn tzb_box_contains(
         maxx,
         maxy,
     };
-    bit(b.contains(Point { x, y }))
+    tzb_codes::bit(b.contains(Point { x, y }))
 }
 
 // 1 where what lies in the box can matter to the ray from the point, 0 where not.
@@ -358,7 +275,7 @@ pub extern "C" fn tzb_box_relevant(
         maxx,
         maxy,
     };
-    bit(b.relevant(Point { x, y }))
+    tzb_codes::bit(b.relevant(Point { x, y }))
 }
 
 // The CRC-32 of the bytes.
@@ -374,16 +291,7 @@ pub extern "C" fn tzb_crc32(bytes: &[u8]) -> u32
 pub extern "C" fn tzb_utf8(bytes: &[u8]) -> u32
     ensures { λ r. ⌜ r ≡ bitOf (utf8 [] (now (bytes .entry))) ⌝ }
 {
-    bit(utf8::utf8_ok(bytes))
-}
-
-fn seen_code(s: Seen) -> i32
-    ensures { λ r. ⌜ r ≡ seenCode s ⌝ }
-{
-    match s {
-        Seen::On => 2,
-        Seen::Off(counts) => { if counts { 1 } else { 0 } }
-    }
+    tzb_codes::bit(utf8::utf8_ok(bytes))
 }
 
 // What the point sees of the segment from a to b: 2 it is on it, 1 the segment counts, 0 neither.
@@ -393,7 +301,7 @@ pub extern "C" fn tzb_ray(ax: i32, ay: i32, bx: i32, by: i32, x: f64, y: f64) ->
 {
     let a = I32Point { x: ax, y: ay };
     let b = I32Point { x: bx, y: by };
-    seen_code(tzb_core::raycast::raycast_seg(a, b, Point { x, y }))
+    tzb_codes::seen_code(tzb_core::raycast::raycast_seg(a, b, Point { x, y }))
 }
 
 // 1 where one end alone is above the point, 0 where not.
@@ -403,7 +311,7 @@ pub extern "C" fn tzb_parity(ax: i32, ay: i32, bx: i32, by: i32, x: f64, y: f64)
 {
     let a = I32Point { x: ax, y: ay };
     let b = I32Point { x: bx, y: by };
-    bit(tzb_core::raycast::endpoint_parity(a, b, Point { x, y }))
+    tzb_codes::bit(tzb_core::raycast::endpoint_parity(a, b, Point { x, y }))
 }
 
 // The next float upward.

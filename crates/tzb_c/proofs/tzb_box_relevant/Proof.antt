@@ -4,7 +4,7 @@ use mathlib.Core.Path.{ap, _∙_}
 use borrow.Author.Needs.{needs}
 use mir.Syntax.{w32}
 use mir.ValLaws.{toZ-ofZ}
-use Rattle.tzb_c.specs.Exports.{bitOf}
+use Rattle.tzb_codes.specs.Codes.{bitOf}
 use Rattle.tzb_c.proofs.tzb_box_relevant.Statement.{statement}
 use Rattle.tzb_c.proofs.tzb_box_relevant.Tie as tie
 

@@ -7,7 +7,7 @@ use mir.ValLaws.{toZ-ofZ}
 use Rattle.tzb_core.specs.Points.{point}
 use Rattle.basics.specs.Signed.{back}
 use Rattle.tzb_asked.specs.Asked.{containsAsked}
-use Rattle.tzb_c.specs.Exports.{insideCode}
+use Rattle.tzb_codes.specs.Codes.{insideCode}
 use borrow.Author.Needs.{needs}
 use Rattle.tzb_c.proofs.tzb_contains.Statement.{statement}
 use Rattle.tzb_c.proofs.tzb_contains.Tie as tie

@@ -3,7 +3,7 @@
 use mathlib.Core.Path.{ap, _∙_}
 use mir.Syntax.{w32}
 use Rattle.basics.specs.Signed.{back}
-use Rattle.tzb_c.specs.Exports.{checkCode}
+use Rattle.tzb_codes.specs.Codes.{checkCode}
 use borrow.Author.Needs.{needs}
 use Rattle.tzb_c.proofs.tzb_full_check.Statement.{statement}
 use Rattle.tzb_c.proofs.tzb_full_check.Tie as tie

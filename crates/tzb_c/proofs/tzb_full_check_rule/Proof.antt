@@ -1,7 +1,7 @@
 -- `tzb_full_check_rule` meets its contract: the rule of the check's answer.
 -- Assumes nothing.
 use mathlib.Core.Path.{ap, _∙_}
-use Rattle.tzb_c.specs.Exports.{ruleOf}
+use Rattle.tzb_codes.specs.Codes.{ruleOf}
 use borrow.Author.Needs.{needs}
 use Rattle.tzb_c.proofs.tzb_full_check_rule.Statement.{statement}
 use Rattle.tzb_c.proofs.tzb_full_check_rule.Tie as tie

@@ -6,7 +6,7 @@ use mir.Syntax.{w32}
 use mir.ValLaws.{toZ-pos}
 use Rattle.basics.specs.Signed.{back}
 use Rattle.tzb_asked.specs.Asked.{foundTold}
-use Rattle.tzb_c.specs.Exports.{zoneCode}
+use Rattle.tzb_codes.specs.Codes.{zoneCode}
 use Rattle.tzb_c.proofs.Kept.{once-small}
 use borrow.Author.Needs.{needs}
 use Rattle.tzb_c.proofs.tzb_lookup.Statement.{statement}

@@ -6,7 +6,7 @@ use mir.Syntax.{w32}
 use Rattle.tzb_core.proofs.Decoded.{outcome-no, outcome-fine}
 use Rattle.basics.specs.Signed.{back}
 use Rattle.tzb_asked.specs.Asked.{endsAsked}
-use Rattle.tzb_c.specs.Exports.{doneCode}
+use Rattle.tzb_codes.specs.Codes.{doneCode}
 use borrow.Author.Needs.{needs}
 use Rattle.tzb_c.proofs.tzb_name.Statement.{statement}
 use Rattle.tzb_c.proofs.tzb_name.Tie as tie

@@ -1,11 +1,12 @@
--- `tzb_open` meets its contract: opening's refusal, then that of the room, then the record.
+-- `tzb_open` meets its contract: opening's refusal, or what writing the record says.
 -- Assumes nothing.
 use mathlib.Core.Path.{sym, ap, _∙_}
 use mir.Syntax.{w32}
+use Rattle.answer.specs.declared.Checked.{Checked}
 use Rattle.basics.specs.Signed.{back}
 use Rattle.tzb.specs.Opening.{told}
-use Rattle.tzb_c.specs.Exports.{doneCode}
-use Rattle.tzb_c.specs.Opens.{open-barred, open-full, open-fine, kept-no, kept-full, kept-is}
+use Rattle.tzb_codes.specs.Codes.{doneCode, checkedTold, done-outcome}
+use Rattle.tzb_c.specs.Opens.{openInto, open-barred, open-room, kept-no, kept-room}
 use borrow.Author.Needs.{needs}
 use Rattle.tzb_c.proofs.tzb_open.Statement.{statement}
 use Rattle.tzb_c.proofs.tzb_open.Tie as tie
@@ -25,14 +26,8 @@ enum-known-a-2 c = search needs
 write-record-requires : tie.Need-write-record-requires
 write-record-requires c κs = search needs
 
-enum-known-b : tie.Need-enum-known-b
-enum-known-b c = search needs
-
-refusal-code-requires-2 : tie.Need-refusal-code-requires-2
-refusal-code-requires-2 c κs = search needs
-
-enum-told : tie.Need-enum-told
-enum-told c = search needs
+done-code-requires : tie.Need-done-code-requires
+done-code-requires c κs = search needs
 
 returns : tie.Need-returns
 returns c =
@@ -46,27 +41,15 @@ same-length c = search needs
 
 returns-2 : tie.Need-returns-2
 returns-2 c =
-    let w = c .before .before .before .before .before .before in
+    let w = c .before .before .before in
     let o = w .before .before .before .before .before in
-    let a = o .before .before .before .args in
-    let opened = sym (ap told (w .before .before .before .a2 .given .1)) ∙ o .«open» .ensures in
-    let full = sym (c .before .before .b .given .1) ∙ w .write-record .ensures .0 in (
-      back w32 _ (c .refusal-code2 .ok) ∙ c .refusal-code2 .ensures ∙ ap doneCode (open-full (a .file .now) (a .«record» .now) _ opened _ full),
-      w .write-record .ensures .1 ∙ kept-full (a .file .now) (a .«record» .now) _ opened _ full,
+    let s = o .before .before .before .args .file .now in
+    let room = o .before .before .before .args .«record» .now in
+    let opened = sym (ap told (w .before .before .before .a2 .given .1)) ∙ o .«open» .ensures in (
+      back w32 _ (c .done-code .ok) ∙ c .done-code .ensures
+          ∙ ap (λ (y : Checked). doneCode (checkedTold y)) (w .write-record .ensures .0 ∙ open-room s room _ opened) ∙ done-outcome (openInto s room),
+      w .write-record .ensures .1 ∙ kept-room s room _ opened,
     )
-
-same-length-2 : tie.Need-same-length-2
-same-length-2 c = search needs
-
-returns-3 : tie.Need-returns-3
-returns-3 c =
-    let w = c .before .before .before .before in
-    let o = w .before .before .before .before .before in
-    let a = o .before .before .before .args in
-    let opened = sym (ap told (w .before .before .before .a2 .given .1)) ∙ o .«open» .ensures in
-    let fine = sym (c .enum-told .given .1) ∙ w .write-record .ensures .0 in
-    let e = open-fine (a .file .now) (a .«record» .now) _ opened fine in
-    (ap doneCode e, w .write-record .ensures .1 ∙ kept-is _ _ _ e)
 
 pub tzb-open-spec : {M : Type 1} → statement M
 tzb-open-spec =
@@ -77,11 +60,7 @@ tzb-open-spec =
     refusal-code-requires
     enum-known-a-2
     write-record-requires
-    enum-known-b
-    refusal-code-requires-2
-    enum-told
+    done-code-requires
     returns
     same-length
-    returns-2
-    same-length-2
-    returns-3)
+    returns-2)

@@ -4,9 +4,9 @@ use mathlib.Core.Path.{sym, ap, _∙_}
 use mathlib.Core.Bool.{Bool}
 use borrow.Author.Needs.{needs}
 use Rattle.plane.specs.declared.Seen.the-variants.{Off}
-use Rattle.tzb_c.specs.Exports.{seenCode}
-use Rattle.tzb_c.proofs.seen_code.Statement.{statement}
-use Rattle.tzb_c.proofs.seen_code.Tie as tie
+use Rattle.tzb_codes.specs.Codes.{seenCode}
+use Rattle.tzb_codes.proofs.seen_code.Statement.{statement}
+use Rattle.tzb_codes.proofs.seen_code.Tie as tie
 
 enum-told : tie.Need-enum-told
 enum-told c = search needs

@@ -7,8 +7,8 @@ use mir.Syntax.{w32, w64}
 use mir.Val.{toZ, ofZ}
 use Rattle.basics.specs.Signed.{back}
 use borrow.Author.Needs.{needs}
-use Rattle.tzb_c.proofs.refusal_code64.Statement.{statement}
-use Rattle.tzb_c.proofs.refusal_code64.Tie as tie
+use Rattle.tzb_codes.proofs.refusal_code64.Statement.{statement}
+use Rattle.tzb_codes.proofs.refusal_code64.Tie as tie
 
 refusal-code-requires : tie.Need-refusal-code-requires
 refusal-code-requires c κs = search needs

@@ -1,0 +1,48 @@
+-- Any two answers that a promise allows are equal: stated over the contracts themselves.
+-- Assumes nothing.
+use mathlib.Core.Path.{sym, _∙_}
+use Rattle.basics.specs.Determined.{Determined}
+use Rattle.tzb_codes.proofs.bit.Reads as bit-reads
+use Rattle.tzb_codes.proofs.refusal_code.Reads as refusal-code-reads
+use Rattle.tzb_codes.proofs.refusal_code64.Reads as refusal-code64-reads
+use Rattle.tzb_codes.proofs.done_code.Reads as done-code-reads
+use Rattle.tzb_codes.proofs.kind_code.Reads as kind-code-reads
+use Rattle.tzb_codes.proofs.listed_of.Reads as listed-of-reads
+use Rattle.tzb_codes.proofs.inside_code.Reads as inside-code-reads
+use Rattle.tzb_codes.proofs.zone_code.Reads as zone-code-reads
+use Rattle.tzb_codes.proofs.check_code.Reads as check-code-reads
+use Rattle.tzb_codes.proofs.rule_of.Reads as rule-of-reads
+use Rattle.tzb_codes.proofs.seen_code.Reads as seen-code-reads
+
+pub bit : Determined bit-reads.Learnt
+bit κ a r r' e e' p q = p ∙ sym q
+
+pub refusal-code : Determined refusal-code-reads.Learnt
+refusal-code κ a r r' e e' p q = p ∙ sym q
+
+pub refusal-code64 : Determined refusal-code64-reads.Learnt
+refusal-code64 κ a r r' e e' p q = p ∙ sym q
+
+pub done-code : Determined done-code-reads.Learnt
+done-code κ a r r' e e' p q = p ∙ sym q
+
+pub kind-code : Determined kind-code-reads.Learnt
+kind-code κ a r r' e e' p q = p ∙ sym q
+
+pub listed-of : Determined listed-of-reads.Learnt
+listed-of κ a r r' e e' p q = p ∙ sym q
+
+pub inside-code : Determined inside-code-reads.Learnt
+inside-code κ a r r' e e' p q = p ∙ sym q
+
+pub zone-code : Determined zone-code-reads.Learnt
+zone-code κ a r r' e e' p q = p ∙ sym q
+
+pub check-code : Determined check-code-reads.Learnt
+check-code κ a r r' e e' p q = p ∙ sym q
+
+pub rule-of : Determined rule-of-reads.Learnt
+rule-of κ a r r' e e' p q = p ∙ sym q
+
+pub seen-code : Determined seen-code-reads.Learnt
+seen-code κ a r r' e e' p q = p ∙ sym q

@@ -1,0 +1,127 @@
+// Answers as single numbers, for the exports: -1000 - n for refusal n. Each function is total.
+ghost use mathlib.Core.Path.{_≡_};
+ghost use Rattle.tzb.specs.FullCheck.{checkTold};
+ghost use Rattle.tzb_asked.specs.Asked.{choiceTold, verdictTold, foundTold};
+ghost use Rattle.tzb_codes.specs.Codes.{bitOf, refusalCode, doneCode, checkedTold, kindCode, listedOf, insideCode, zoneCode, checkCode, ruleOf, seenCode};
+use answer::Checked;
+use answer::Refusal;
+use plane::Seen;
+use reader_grid::Choice;
+use reader_lookup::Found;
+use reader_rings::Verdict;
+use tzb::FullCheck;
+
+// 1 yes, 0 no.
+pub fn bit(b: bool) -> u32
+    ensures { λ r. ⌜ r ≡ bitOf b ⌝ }
+{
+    if b { 1 } else { 0 }
+}
+
+// -1000 - n for refusal n.
+pub fn refusal_code(r: Refusal) -> i32
+    ensures { λ z. ⌜ z ≡ refusalCode r ⌝ }
+{
+    let n = r.number;
+    // !x is -1 - x
+    if n < 1000 { !((999 + n) as i32) } else { !1998 }
+}
+
+pub fn refusal_code64(r: Refusal) -> i64
+    ensures { λ z. ⌜ z ≡ refusalCode r ⌝ }
+{
+    refusal_code(r) as i64
+}
+
+// 0 where it was done.
+pub fn done_code(c: Checked) -> i32
+    ensures { λ r. ⌜ r ≡ doneCode (checkedTold c) ⌝ }
+{
+    match c {
+        Checked::Refused(k) => refusal_code(k),
+        Checked::Fine => 0,
+    }
+}
+
+// What the candidates are: 0 none, 1 all zones, 2 those listed for a cell.
+pub fn kind_code(c: Choice) -> i32
+    ensures { λ r. ⌜ r ≡ kindCode (choiceTold c) ⌝ }
+{
+    match c {
+        Choice::None => 0,
+        Choice::All(_) => 1,
+        Choice::Listed(_, _) => 2,
+        Choice::Refused(k) => refusal_code(k),
+    }
+}
+
+fn wide(x: u32) -> u64
+    ensures { λ r. ⌜ r ≡ x ⌝ }
+{
+    x as u64
+}
+
+// How many are listed, times 2 ^ 32, and the place of the first; the number of all zones; else 0.
+pub fn listed_of(c: Choice) -> u64
+    ensures { λ r. ⌜ r ≡ listedOf (choiceTold c) ⌝ }
+{
+    match c {
+        Choice::None => 0,
+        Choice::All(n) => wide(n),
+        Choice::Listed(n, place) => wide(n) * 0x1_0000_0000 + wide(place),
+        Choice::Refused(_) => 0,
+    }
+}
+
+// 1 inside, 0 not.
+pub fn inside_code(v: Verdict) -> i32
+    ensures { λ r. ⌜ r ≡ insideCode (verdictTold v) ⌝ }
+{
+    match v {
+        Verdict::Refused(k) => refusal_code(k),
+        Verdict::Is(inside) => { if inside { 1 } else { 0 } }
+    }
+}
+
+// A zone, -1 for none.
+pub fn zone_code(f: Found) -> i64
+    ensures { λ r. ⌜ r ≡ zoneCode (foundTold f) ⌝ }
+{
+    match f {
+        Found::None => -1,
+        Found::Zone(zone) => zone as i64,
+        Found::Refused(k) => refusal_code64(k),
+    }
+}
+
+// The full check: 0 accepted, opening's refusal, or -1047.
+pub fn check_code(c: FullCheck) -> i32
+    ensures { λ r. ⌜ r ≡ checkCode (checkTold c) ⌝ }
+{
+    match c {
+        FullCheck::Accepted => 0,
+        FullCheck::Refused(k) => refusal_code(k),
+        FullCheck::Broken(k, _) => refusal_code(k),
+    }
+}
+
+// The rule beside -1047, else 0.
+pub fn rule_of(c: FullCheck) -> u32
+    ensures { λ r. ⌜ r ≡ ruleOf (checkTold c) ⌝ }
+{
+    match c {
+        FullCheck::Accepted => 0,
+        FullCheck::Refused(_) => 0,
+        FullCheck::Broken(_, rule) => rule,
+    }
+}
+
+// What a point sees of a segment: 2 it is on it, 1 the segment counts, 0 neither.
+pub fn seen_code(s: Seen) -> i32
+    ensures { λ r. ⌜ r ≡ seenCode s ⌝ }
+{
+    match s {
+        Seen::On => 2,
+        Seen::Off(counts) => { if counts { 1 } else { 0 } }
+    }
+}
