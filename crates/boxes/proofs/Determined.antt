@@ -8,6 +8,7 @@ use Rattle.boxes.proofs.BBox.contains.Reads as contains-reads
 use Rattle.boxes.proofs.BBox.relevant.Reads as relevant-reads
 use Rattle.boxes.proofs.BBox.right.Reads as right-reads
 use Rattle.boxes.proofs.point_in_domain.Reads as point-in-domain-reads
+use Rattle.boxes.proofs.in_box.Reads as in-box-reads
 use Rattle.boxes.proofs.same_point.Reads as same-point-reads
 
 pub ordered : Determined ordered-reads.Learnt
@@ -27,6 +28,9 @@ right κ a r r' e e' p q = p ∙ sym q
 
 pub point-in-domain : Determined point-in-domain-reads.Learnt
 point-in-domain κ a r r' e e' p q = p ∙ sym q
+
+pub in-box : Determined in-box-reads.Learnt
+in-box κ a r r' e e' p q = p ∙ sym q
 
 pub same-point : Determined same-point-reads.Learnt
 same-point κ a r r' e e' p q = p ∙ sym q

@@ -43,3 +43,7 @@ greatest b = record { x = b .maxx; y = b .maxy }
 -- ordered, and within ±18,000,000 and ±9,000,000
 unfoldable pub boxInDomain : BBox → Bool
 boxInDomain b = ordered b && (inDomain (least b) && inDomain (greatest b))
+
+-- the box covers the point
+unfoldable pub inBox : BBox → I32Point → Bool
+inBox b p = (leZ (b .minx) (p .x) && leZ (p .x) (b .maxx)) && (leZ (b .miny) (p .y) && leZ (p .y) (b .maxy))

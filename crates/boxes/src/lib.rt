@@ -1,8 +1,8 @@
-// A box of whole numbers, asked about a point of floats; the domain of points.
+// A box of whole numbers, asked about a point of floats or of whole numbers; the domain of points.
 ghost use mathlib.Core.Path.{_≡_};
 ghost use Rattle.plane.specs.Domain.{inDomain};
 ghost use Rattle.plane.specs.Segment.{same};
-ghost use Rattle.boxes.specs.Box.{spans, ordered, boxInDomain, contains, relevant, right};
+ghost use Rattle.boxes.specs.Box.{spans, ordered, boxInDomain, inBox, contains, relevant, right};
 use plane::I32Point;
 use plane::Point;
 
@@ -73,6 +73,13 @@ pub fn point_in_domain(q: I32Point) -> bool
     ensures { λ r. ⌜ r ≡ inDomain q ⌝ }
 {
     ((-18_000_000 <= q.x) & (q.x <= 18_000_000)) & ((-9_000_000 <= q.y) & (q.y <= 9_000_000))
+}
+
+// The box covers the point.
+pub fn in_box(b: BBox, q: I32Point) -> bool
+    ensures { λ r. ⌜ r ≡ inBox b q ⌝ }
+{
+    ((b.minx <= q.x) & (q.x <= b.maxx)) & ((b.miny <= q.y) & (q.y <= b.maxy))
 }
 
 pub fn same_point(a: I32Point, b: I32Point) -> bool

@@ -21,6 +21,7 @@ use Rattle.tzb_core.specs.Delta as Deltas
 use Rattle.tzb_core.specs.Ray.{pointOf}
 use Rattle.tzb_core.specs.Varint.{numberAt, digits}
 use Rattle.tzb_core.specs.Points as Points
+use Rattle.tzb_core.specs.Along.{along, walkOf}
 use Rattle.tzb_core.specs.Decode.{pointsOf, pointsFrom}
 use Rattle.shapes.specs.Shapes.{Zone, ringIn, polygonIn, zoneIn, inBox, covers}
 use Rattle.shapes.specs.Layout.{groupAt, legAt, ringAt, polygonAt, zoneAt}
@@ -55,7 +56,7 @@ opens = refl
 
 -- F2 to F6
 none-broken : 0 ≡ lowestBroken opened file
-unfolding file opened lowestBroken rule recordsHold chunksDecode chunkBoxesCover groupsCover boxesCover all run holds answered opGroup opPoints pointsAdd chunkCovers jointCovers jointsCover chunkUnder groupUnder ringUnder polyUnder endsFit groupCovers ringCovers polyCovers zoneCovers inBox covers same S.listAt S.ringAt S.opAt S.groupAt S.chunkAt S.ruled S.recordAt S.listIn S.listRule S.ringIn S.ringRule S.countRule S.opRule S.groupIn S.groupRule S.chunkIn S.chunkRule S.boxIn S.pointIn S.within L.inside E.le B.ordered B.boxInDomain A.inDomain chunkPoints bytesOf endOf span startOf firstIn firstAt pointsOf pointsFrom Points.firstOf Points.nextAt Points.numbersAt Points.movedBy Points.inside Deltas.addDelta Deltas.fits32 numberAt digits
+unfolding file opened lowestBroken rule recordsHold chunksDecode chunkBoxesCover groupsCover boxesCover all run holds answered opGroup opPoints pointsAdd chunkCovers jointCovers jointsCover chunkUnder groupUnder ringUnder polyUnder endsFit groupCovers ringCovers polyCovers zoneCovers inBox covers same S.listAt S.ringAt S.opAt S.groupAt S.chunkAt S.ruled S.recordAt S.listIn S.listRule S.ringIn S.ringRule S.countRule S.opRule S.groupIn S.groupRule S.chunkIn S.chunkRule S.boxIn S.pointIn S.within L.inside E.le B.ordered B.boxInDomain A.inDomain chunkPoints bytesOf endOf span startOf firstIn firstAt pointsOf pointsFrom walkOf along Points.firstOf Points.nextAt Points.numbersAt Points.movedBy Points.inside Deltas.addDelta Deltas.fits32 numberAt digits
 none-broken = refl
 
 pub accepts : fullCheckOf file ≡ accepted
@@ -63,7 +64,7 @@ accepts = sym (full-accepted file opened opens 0 none-broken refl)
 
 -- its zone is the drawn one
 pub made : zoneAt (directories opened file) 0 ≡ zone
-unfolding file opened directories zoneRecord polyRecord ringRecord opWord groupRecord chunkShape zoneAt polygonAt ringAt legAt groupAt run S.listAt S.ringAt S.opAt S.groupAt S.chunkAt S.ruled S.recordAt S.listIn S.listRule S.ringIn S.ringRule S.opRule S.groupIn S.groupRule S.chunkIn S.chunkRule S.boxIn S.pointIn S.within L.inside E.le B.ordered B.boxInDomain A.inDomain chunkPoints bytesOf endOf span startOf pointsOf pointsFrom Points.firstOf Points.nextAt Points.numbersAt Points.movedBy Points.inside Deltas.addDelta Deltas.fits32 numberAt digits
+unfolding file opened directories zoneRecord polyRecord ringRecord opWord groupRecord chunkShape zoneAt polygonAt ringAt legAt groupAt run S.listAt S.ringAt S.opAt S.groupAt S.chunkAt S.ruled S.recordAt S.listIn S.listRule S.ringIn S.ringRule S.opRule S.groupIn S.groupRule S.chunkIn S.chunkRule S.boxIn S.pointIn S.within L.inside E.le B.ordered B.boxInDomain A.inDomain chunkPoints bytesOf endOf span startOf pointsOf pointsFrom walkOf along Points.firstOf Points.nextAt Points.numbersAt Points.movedBy Points.inside Deltas.addDelta Deltas.fits32 numberAt digits
 made = refl
 
 -- demand 3 for it: at every whole-number point

@@ -16,6 +16,7 @@ use Rattle.boxes.specs.Box.{ordered, boxInDomain}
 use Rattle.tzb_core.specs.Delta.{addDelta, fits32}
 use Rattle.tzb_core.specs.Varint.{numberAt, digits}
 use Rattle.tzb_core.specs.Points as Points
+use Rattle.tzb_core.specs.Along.{along, walkOf}
 use Rattle.tzb_core.specs.Decode.{pointsOf, pointsFrom}
 use Rattle.shapes.specs.Shapes.{inBox, covers}
 use Rattle.reader_opened.specs.declared.Opened.{Opened}
@@ -148,5 +149,5 @@ rows =
     ∷ []
 
 pub judged : T (every told rows)
-unfolding lowestBroken rule recordsHold chunksDecode chunkBoxesCover groupsCover boxesCover all run holds answered opGroup opPoints pointsAdd chunkCovers jointCovers jointsCover chunkUnder groupUnder ringUnder polyUnder endsFit groupCovers ringCovers polyCovers zoneCovers inBox covers same Records.listAt Records.ringAt Records.opAt Records.groupAt Records.chunkAt Records.ruled Records.recordAt Records.listIn Records.listRule Records.ringIn Records.ringRule Records.countRule Records.opRule Records.groupIn Records.groupRule Records.chunkIn Records.chunkRule Records.boxIn Records.pointIn Records.within Loads.inside le ordered boxInDomain inDomain chunkPoints bytesOf endOf span startOf firstIn firstAt pointsOf pointsFrom Points.firstOf Points.nextAt Points.numbersAt Points.movedBy Points.inside addDelta fits32 numberAt digits
+unfolding lowestBroken rule recordsHold chunksDecode chunkBoxesCover groupsCover boxesCover all run holds answered opGroup opPoints pointsAdd chunkCovers jointCovers jointsCover chunkUnder groupUnder ringUnder polyUnder endsFit groupCovers ringCovers polyCovers zoneCovers inBox covers same Records.listAt Records.ringAt Records.opAt Records.groupAt Records.chunkAt Records.ruled Records.recordAt Records.listIn Records.listRule Records.ringIn Records.ringRule Records.countRule Records.opRule Records.groupIn Records.groupRule Records.chunkIn Records.chunkRule Records.boxIn Records.pointIn Records.within Loads.inside le ordered boxInDomain inDomain chunkPoints bytesOf endOf span startOf firstIn firstAt pointsOf pointsFrom walkOf along Points.firstOf Points.nextAt Points.numbersAt Points.movedBy Points.inside addDelta fits32 numberAt digits
 judged = tt

@@ -6,12 +6,12 @@ ghost use Rattle.reader_cover.specs.Holds.{holds, answered, all};
 ghost use Rattle.reader_cover.specs.Cover.{pointsAdd, chunkCovers, jointsCover, groupCovers, ringCovers, polyCovers, zoneCovers};
 ghost use Rattle.reader_check.specs.FullCheck.{demanded, recordsHold, chunksDecode, chunkBoxesCover, groupsCover, boxesCover, lowestBroken};
 use reader_cover::Part;
-use reader_cover::Traced;
 use reader_opened::Opened;
 use reader_records::GroupAt;
 use reader_records::ListAt;
 use reader_records::OpAt;
 use reader_records::RingAt;
+use tzb_core::chunk::Traced;
 
 // What is asked of each record of a directory.
 enum Demand {
@@ -76,7 +76,7 @@ fn ring_adds(o: Opened, s: &[u8], index: usize) -> bool
 fn chunk_decodes(o: Opened, s: &[u8], index: usize) -> bool
     ensures { λ r. ⌜ r ≡ answered (chunkPoints o (now (s .entry)) index) ⌝ }
 {
-    let t = reader_cover::trace_at(o, s, index);
+    let t = reader_chunks::trace_at(o, s, index);
     match t {
         Traced::Refused(_) => false,
         Traced::Points(_, _) => true,
@@ -86,7 +86,7 @@ fn chunk_decodes(o: Opened, s: &[u8], index: usize) -> bool
 fn chunk_covers(o: Opened, s: &[u8], index: usize) -> bool
     ensures { λ r. ⌜ r ≡ chunkCovers o (now (s .entry)) index ⌝ }
 {
-    let t = reader_cover::trace_at(o, s, index);
+    let t = reader_chunks::trace_at(o, s, index);
     match t {
         Traced::Refused(_) => false,
         Traced::Points(inside, _) => inside,

@@ -5,7 +5,7 @@ use mathlib.Core.Path.{_≡_, sym, _∙_}
 use Rattle.basics.specs.Determined.{Determined, DeterminedMemory}
 use Rattle.answer.specs.Answers.{Answer}
 use Rattle.plane.specs.declared.I32Point.{I32Point}
-use Rattle.tzb_core.proofs.DeterminedChunk.{one-scan}
+use Rattle.tzb_core.proofs.DeterminedChunk.{one-scan, one-trace}
 use Rattle.reader_chunks.specs.Chunks.{toldOffset, toldPoint}
 use Rattle.reader_chunks.specs.declared.Offset.{Offset}
 use Rattle.reader_chunks.specs.declared.Offset.the-variants as O
@@ -15,7 +15,9 @@ use Rattle.reader_chunks.proofs.start_of.Reads as start-of-reads
 use Rattle.reader_chunks.proofs.end_of.Reads as end-of-reads
 use Rattle.reader_chunks.proofs.first_in.Reads as first-in-reads
 use Rattle.reader_chunks.proofs.scan_in.Reads as scan-in-reads
+use Rattle.reader_chunks.proofs.trace_in.Reads as trace-in-reads
 use Rattle.reader_chunks.proofs.first_at.Reads as first-at-reads
+use Rattle.reader_chunks.proofs.trace_at.Reads as trace-at-reads
 use Rattle.reader_chunks.proofs.decode_chunk_points.Reads as decode-chunk-points-reads
 
 one-offset : (a b : Offset) (x : Answer ℕ) → toldOffset a ≡ x → toldOffset b ≡ x → a ≡ b
@@ -42,8 +44,14 @@ first-in κ a r r' e e' p q = one-point r r' _ p q
 pub scan-in : Determined scan-in-reads.Learnt
 scan-in κ a r r' e e' p q = one-scan r r' _ p q
 
+pub trace-in : Determined trace-in-reads.Learnt
+trace-in κ a r r' e e' p q = one-trace r r' _ p q
+
 pub first-at : Determined first-at-reads.Learnt
 first-at κ a r r' e e' p q = one-point r r' _ p q
+
+pub trace-at : Determined trace-at-reads.Learnt
+trace-at κ a r r' e e' p q = one-trace r r' _ p q
 
 pub decode-chunk-points : Determined decode-chunk-points-reads.Learnt
 decode-chunk-points κ a r r' e e' p q = p .0 ∙ sym (q .0)

@@ -2,7 +2,7 @@
 -- Assumes nothing.
 use Prim.Native.Nat.{ℕ, _+_, _*_, _≤_, _<_}
 use mathlib.Core.Path.{_≡_, refl}
-use mathlib.Core.Bool.{cond}
+use mathlib.Core.Bool.{Bool, cond}
 use mathlib.Core.List.{List}
 use lib.ListN.{length}
 use lib.Dec.{ltb, leb}
@@ -14,10 +14,12 @@ use Rattle.answer.specs.declared.Refusal.{Refusal}
 use Rattle.answer.specs.declared.Checked.{Checked}
 use Rattle.answer.specs.Answers.{Answer, ok, refused, no, _then_, need}
 use Rattle.answer.specs.Walks.{Walk, broken, _yields_}
+use Rattle.boxes.specs.declared.BBox.{BBox}
 use Rattle.fields.specs.Part.{part}
 use Rattle.tzb_core.specs.Points.{firstOf}
 use Rattle.tzb_core.specs.Scan.{scanOf}
 use Rattle.tzb_core.specs.Decode.{pointsOf, intoRoom, outcome, filled}
+use Rattle.tzb_core.specs.Trace.{traceOf}
 use Rattle.reader_opened.specs.declared.Opened.{Opened}
 use Rattle.reader_records.specs.declared.ChunkRecord.{ChunkRecord}
 use Rattle.reader_records.specs.Records.{chunkAt}
@@ -62,6 +64,10 @@ firstIn s a e = span s a e then λ b. firstOf b then λ t. ok (t .0)
 unfoldable pub scanIn : List ℕ → ℕ → Point → ℕ → ℕ → Walk I32Point
 scanIn s n p a e = span s a e yields λ b. scanOf b n p
 
+-- all n points in the bytes from a to e, against the box b
+unfoldable pub traceIn : List ℕ → ℕ → BBox → ℕ → ℕ → Answer (Bool × I32Point)
+traceIn s n b a e = span s a e then λ c. traceOf c n b
+
 -- all n points in the bytes from a to e
 unfoldable pub pointsIn : List ℕ → ℕ → ℕ → ℕ → Answer (List I32Point)
 pointsIn s n a e = span s a e then λ b. pointsOf b n
@@ -70,6 +76,10 @@ pointsIn s n a e = span s a e then λ b. pointsOf b n
 -- its first point alone
 unfoldable pub firstAt : Opened → List ℕ → ℕ → Answer I32Point
 firstAt o s i = chunkAt o s i then λ v. endOf o s i then λ e. firstIn s (startOf o v) e
+
+-- all its points, against its own box: 34, 37, 44, then as a chunk is scanned whole, 32 for a count of 0 and the rest
+unfoldable pub traceAt : Opened → List ℕ → ℕ → Answer (Bool × I32Point)
+traceAt o s i = chunkAt o s i then λ v. endOf o s i then λ e. traceIn s (v .count) (v .bbox) (startOf o v) e
 
 -- all its points: 34, 32 for a count of 0, then 37 and the rest
 unfoldable pub chunkPoints : Opened → List ℕ → ℕ → Answer (List I32Point)
@@ -146,6 +156,15 @@ module _ (s : List ℕ) (a e : ℕ) where
       unfolding scanIn
       scan-is b h = rw (← h)
 
+    module _ (b : BBox) where
+      pub trace-no : (r : Refusal) → refused r ≡ span s a e → refused r ≡ traceIn s n b a e
+      unfolding traceIn
+      trace-no r h = rw (← h)
+
+      pub trace-is : (c : List ℕ) → ok c ≡ span s a e → traceOf c n b ≡ traceIn s n b a e
+      unfolding traceIn
+      trace-is c h = rw (← h)
+
     pub points-no : (r : Refusal) → refused r ≡ span s a e → refused r ≡ pointsIn s n a e
     unfolding pointsIn
     points-no r h = rw (← h)
@@ -172,6 +191,19 @@ module _ (o : Opened) (s : List ℕ) (i : ℕ) where
     pub at-is : (e : ℕ) → ok e ≡ endOf o s i → (a : ℕ) → a ≡ startOf o v → firstIn s a e ≡ firstAt o s i
     unfolding firstAt
     at-is e k a g = rw (← h, ← k, g)
+
+  pub trace-at-no : (r : Refusal) → refused r ≡ chunkAt o s i → refused r ≡ traceAt o s i
+  unfolding traceAt
+  trace-at-no r h = rw (← h)
+
+  module _ (v : ChunkRecord) (h : ok v ≡ chunkAt o s i) where
+    pub trace-at-far : (r : Refusal) → refused r ≡ endOf o s i → refused r ≡ traceAt o s i
+    unfolding traceAt
+    trace-at-far r k = rw (← h, ← k)
+
+    pub trace-at-is : (e : ℕ) → ok e ≡ endOf o s i → (a : ℕ) → a ≡ startOf o v → traceIn s (v .count) (v .bbox) a e ≡ traceAt o s i
+    unfolding traceAt
+    trace-at-is e k a g = rw (← h, ← k, g)
 
   module _ (out : List ℤ) where
     module _ (v : ChunkRecord) where

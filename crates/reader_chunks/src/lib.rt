@@ -1,12 +1,14 @@
-// A chunk's bytes in the file: its range, its first point, the scan of its segments, and its points decoded into lent numbers.
+// A chunk's bytes in the file: its range, its first point, the scan of its segments, the trace of a box, and its points decoded into lent numbers.
 ghost use mathlib.Core.Path.{_≡_};
 ghost use Prim.Native.Nat.{_+_, _*_, _≤_, _<_};
 ghost use lib.ListN.{length};
 ghost use Rattle.tzb_core.specs.Decode.{outcome, filled};
 ghost use Rattle.tzb_core.specs.Scan.{scanned};
-ghost use Rattle.reader_chunks.specs.Chunks.{toldOffset, toldPoint, startOf, endOf, span, firstIn, scanIn, firstAt, pointsIn, decodeBy, decodeAt, decodedAt};
+ghost use Rattle.tzb_core.specs.Trace.{toldTrace};
+ghost use Rattle.reader_chunks.specs.Chunks.{toldOffset, toldPoint, startOf, endOf, span, firstIn, scanIn, traceIn, firstAt, traceAt, pointsIn, decodeBy, decodeAt, decodedAt};
 use answer::Checked;
 use answer::Refusal;
+use boxes::BBox;
 use plane::I32Point;
 use plane::Point;
 use reader_opened::Opened;
@@ -15,6 +17,7 @@ use reader_records::ChunkRecord;
 use tzb_core::chunk;
 use tzb_core::chunk::Scan;
 use tzb_core::chunk::Spotted;
+use tzb_core::chunk::Traced;
 
 // A place in the file.
 pub enum Offset {
@@ -102,6 +105,18 @@ pub fn scan_in(s: &[u8], count: u16, p: Point, a: usize, e: usize) -> Scan
     chunk::scan_chunk(b, count, p)
 }
 
+// All points in the bytes from a to e, against a box.
+pub fn trace_in(s: &[u8], count: u16, b: BBox, a: usize, e: usize) -> Traced
+    ensures { λ r. ⌜ toldTrace r ≡ traceIn (now (s .entry)) count b a e ⌝ }
+{
+    let c = check_span(s, a, e);
+    if let Checked::Refused(k) = c {
+        return Traced::Refused(k);
+    }
+    let bytes = &s[a..e];
+    chunk::trace_chunk(bytes, count, b)
+}
+
 // The first point alone, of chunk `index`.
 pub fn first_at(o: Opened, s: &[u8], index: usize) -> PointAt
     ensures { λ r. ⌜ toldPoint r ≡ firstAt o (now (s .entry)) index ⌝ }
@@ -114,6 +129,23 @@ pub fn first_at(o: Opened, s: &[u8], index: usize) -> PointAt
             match u {
                 Offset::Refused(k) => PointAt::Refused(k),
                 Offset::At(e) => first_in(s, start_of(o, v), e),
+            }
+        }
+    }
+}
+
+// All points of chunk `index`, against its own box.
+pub fn trace_at(o: Opened, s: &[u8], index: usize) -> Traced
+    ensures { λ r. ⌜ toldTrace r ≡ traceAt o (now (s .entry)) index ⌝ }
+{
+    let t = reader_records::chunk_at(o, s, index);
+    match t {
+        ChunkAt::Refused(k) => Traced::Refused(k),
+        ChunkAt::At(v) => {
+            let u = end_of(o, s, index);
+            match u {
+                Offset::Refused(k) => Traced::Refused(k),
+                Offset::At(e) => trace_in(s, v.count, v.bbox, start_of(o, v), e),
             }
         }
     }

@@ -1,31 +1,26 @@
-// What the full check asks of one record: a ring's point count, a chunk's points, a group's joints and ends, a box and those below it.
+// What the full check asks of one record: a ring's point count, a group's joints and ends, a box and those below it.
 ghost use mathlib.Core.Path.{_≡_};
 ghost use Prim.Native.Nat.{_+_, _-_, _<_};
 ghost use Rattle.plane.specs.Segment.{same};
 ghost use Rattle.plane.specs.Lines.{lastOf};
-ghost use Rattle.tzb_core.specs.Decode.{led, pointsFrom, pointsOf};
-ghost use Rattle.shapes.specs.Shapes.{inBox, covers};
+ghost use Rattle.boxes.specs.Box.{inBox};
+ghost use Rattle.shapes.specs.Shapes.{covers};
 ghost use Rattle.reader_records.specs.Records.{toldGroup};
-ghost use Rattle.reader_chunks.specs.Chunks.{pointsIn, firstAt, chunkPoints};
+ghost use Rattle.reader_chunks.specs.Chunks.{firstAt, chunkPoints};
 ghost use Rattle.reader_cover.specs.Holds.{holds, all};
-ghost use Rattle.reader_cover.specs.Cover.{opGroup, pointsAdd, jointCovers, jointsCover, chunkUnder, groupUnder, ringUnder, polyUnder, endsFit, groupCovers, partFits, toldTrace, traced, traceBy, traceAt};
-use answer::Refusal;
+ghost use Rattle.reader_cover.specs.Cover.{opGroup, pointsAdd, jointCovers, jointsCover, chunkUnder, groupUnder, ringUnder, polyUnder, endsFit, groupCovers, partFits};
 use boxes::BBox;
 use plane::I32Point;
-use reader_chunks::Offset;
 use reader_chunks::PointAt;
 use reader_opened::Opened;
 use reader_records::ChunkAt;
-use reader_records::ChunkRecord;
 use reader_records::GroupAt;
 use reader_records::GroupRecord;
 use reader_records::ListAt;
 use reader_records::OpAt;
 use reader_records::RingAt;
 use reader_records::RingRecord;
-use tzb_core::chunk;
-use tzb_core::chunk::Spotted;
-use tzb_core::varint::Place;
+use tzb_core::chunk::Traced;
 
 // What is asked of each part of something larger.
 pub enum Part {
@@ -39,19 +34,6 @@ pub enum Part {
     Polygon(BBox),
     // A chunk's box covers the next chunk's first point.
     Joint,
-}
-
-// Past a chunk's points: whether its box covers them all, and the last of them.
-pub enum Traced {
-    Points(bool, I32Point),
-    Refused(Refusal),
-}
-
-// The box covers the point.
-fn in_box(b: BBox, q: I32Point) -> bool
-    ensures { λ r. ⌜ r ≡ inBox b q ⌝ }
-{
-    ((b.minx <= q.x) & (q.x <= b.maxx)) & ((b.miny <= q.y) & (q.y <= b.maxy))
 }
 
 // The box covers the other.
@@ -93,89 +75,6 @@ pub fn points_add(o: Opened, s: &[u8], v: RingRecord) -> bool
         ops -= 1;
     }
     reader_records::count_rule(v, sum)
-}
-
-// ---- a chunk's points
-
-// The first point, and that many more.
-fn trace_from(s: &[u8], b: BBox, count: u16, first: I32Point, from: Place) -> Traced
-    ensures { λ r. ⌜ toldTrace r ≡ traced b (led first (pointsFrom (now (s .entry)) count first (from .at))) ⌝ }
-{
-    let mut q = first;
-    let mut at = from;
-    let mut inside = in_box(b, first);
-    let mut left = count;
-    while 0 < left {
-        let t = chunk::next_point(s, q, at);
-        match t {
-            Spotted::Refused(k) => {
-                return Traced::Refused(k);
-            }
-            Spotted::At(n, m) => {
-                inside = inside & in_box(b, n);
-                q = n;
-                at = m;
-            }
-        }
-        left -= 1;
-    }
-    if at.at_end(s) {
-        return Traced::Points(inside, q);
-    }
-    Traced::Refused(answer::refuse(43))
-}
-
-// All points of a chunk's own bytes.
-fn trace_chunk(s: &[u8], b: BBox, count: u16) -> Traced
-    ensures { λ r. ⌜ toldTrace r ≡ traced b (pointsOf (now (s .entry)) count) ⌝ }
-{
-    if count == 0 {
-        return Traced::Refused(answer::refuse(32));
-    }
-    let t = chunk::first_point(s);
-    match t {
-        Spotted::Refused(k) => Traced::Refused(k),
-        Spotted::At(q, n) => trace_from(s, b, count - 1, q, n),
-    }
-}
-
-// All points in the bytes from a to e.
-fn trace_in(s: &[u8], b: BBox, count: u16, a: usize, e: usize) -> Traced
-    ensures { λ r. ⌜ toldTrace r ≡ traced b (pointsIn (now (s .entry)) count a e) ⌝ }
-{
-    if e <= a {
-        return Traced::Refused(answer::refuse(37));
-    }
-    if s.len() < e {
-        return Traced::Refused(answer::refuse(44));
-    }
-    let bytes = &s[a..e];
-    trace_chunk(bytes, b, count)
-}
-
-// All points of chunk `index`, whose record is v.
-fn trace_record(o: Opened, s: &[u8], index: usize, v: ChunkRecord) -> Traced
-    ensures { λ r. ⌜ toldTrace r ≡ traceBy o (now (s .entry)) index v ⌝ }
-{
-    if v.count == 0 {
-        return Traced::Refused(answer::refuse(32));
-    }
-    let t = reader_chunks::end_of(o, s, index);
-    match t {
-        Offset::Refused(k) => Traced::Refused(k),
-        Offset::At(e) => trace_in(s, v.bbox, v.count, reader_chunks::start_of(o, v), e),
-    }
-}
-
-// All points of chunk `index`.
-pub fn trace_at(o: Opened, s: &[u8], index: usize) -> Traced
-    ensures { λ r. ⌜ toldTrace r ≡ traceAt o (now (s .entry)) index ⌝ }
-{
-    let t = reader_records::chunk_at(o, s, index);
-    match t {
-        ChunkAt::Refused(k) => Traced::Refused(k),
-        ChunkAt::At(v) => trace_record(o, s, index, v),
-    }
 }
 
 // ---- the parts of something larger
@@ -227,7 +126,7 @@ fn next_in_box(o: Opened, s: &[u8], b: BBox, next: usize) -> bool
     let t = reader_chunks::first_at(o, s, next);
     match t {
         PointAt::Refused(_) => false,
-        PointAt::At(q) => in_box(b, q),
+        PointAt::At(q) => boxes::in_box(b, q),
     }
 }
 
@@ -300,7 +199,7 @@ fn is_first(o: Opened, s: &[u8], q: I32Point, index: usize) -> bool
 fn is_last(o: Opened, s: &[u8], q: I32Point, index: usize) -> bool
     ensures { λ r. ⌜ r ≡ holds (λ l. same q (lastOf l)) (chunkPoints o (now (s .entry)) index) ⌝ }
 {
-    let t = trace_at(o, s, index);
+    let t = reader_chunks::trace_at(o, s, index);
     match t {
         Traced::Refused(_) => false,
         Traced::Points(_, last) => boxes::same_point(q, last),

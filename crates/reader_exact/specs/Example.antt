@@ -20,7 +20,8 @@ use Rattle.fields.specs.Loads as Loads
 use Rattle.boxes.specs.Box.{ordered, boxInDomain, contains, relevant, right}
 use Rattle.tzb_core.specs.Delta.{addDelta, fits32}
 use Rattle.tzb_core.specs.Ray.{rayOf, rayAt, touches, crosses, aboveOf, parityOf}
-use Rattle.tzb_core.specs.Scan.{scanOf, onward, stepAt}
+use Rattle.tzb_core.specs.Along.{along, walkOf}
+use Rattle.tzb_core.specs.Scan.{scanOf, onward}
 use Rattle.tzb_core.specs.Varint.{numberAt, digits}
 use Rattle.tzb_core.specs.Points as Points
 use Rattle.tzb_core.specs.Decode.{pointsOf, pointsFrom}
@@ -90,7 +91,7 @@ opened =
     }
 
 pub made : zoneAt (directories opened bytes) 0 ≡ zone
-unfolding directories zoneRecord polyRecord ringRecord opWord groupRecord chunkShape zoneAt polygonAt ringAt legAt groupAt run Records.listAt Records.ringAt Records.opAt Records.groupAt Records.chunkAt Records.ruled Records.recordAt Records.listIn Records.listRule Records.ringIn Records.ringRule Records.opRule Records.groupIn Records.groupRule Records.chunkIn Records.chunkRule Records.boxIn Records.pointIn Records.within Loads.inside le ordered boxInDomain inDomain chunkPoints bytesOf endOf span startOf pointsOf pointsFrom Points.firstOf Points.nextAt Points.numbersAt Points.movedBy Points.inside addDelta fits32 numberAt digits
+unfolding directories zoneRecord polyRecord ringRecord opWord groupRecord chunkShape zoneAt polygonAt ringAt legAt groupAt run Records.listAt Records.ringAt Records.opAt Records.groupAt Records.chunkAt Records.ruled Records.recordAt Records.listIn Records.listRule Records.ringIn Records.ringRule Records.opRule Records.groupIn Records.groupRule Records.chunkIn Records.chunkRule Records.boxIn Records.pointIn Records.within Loads.inside le ordered boxInDomain inDomain chunkPoints bytesOf endOf span startOf pointsOf pointsFrom walkOf along Points.firstOf Points.nextAt Points.numbersAt Points.movedBy Points.inside addDelta fits32 numberAt digits
 made = refl
 
 -- a row of the drawing is answered as drawn
@@ -99,5 +100,5 @@ said (ok b) answer = Bool·beq b answer
 said (refused r) answer = false
 
 pub walked : T (every (λ (r : Row). said (containsAt opened bytes 0 (r .p)) (r .answer)) rows)
-unfolding containsAt zoneOf seek polyOf ringContains ringOf ringRest ringEnd opsFrom opStep turnWalk groupWalk jointOf turnedAt turnOf groupOf chunksFrom lastAt lastIn passAt joinedTo scanTo skipTo nextFirst scanIn firstIn scanOf onward stepAt add Records.countRule contains relevant right rayOf rayAt touches crosses aboveOf parityOf same lt Ieee.le eq ofInt sub div Ieee.ne Ieee.toBits Ieee.ofBits nextUp Records.listAt Records.ringAt Records.opAt Records.groupAt Records.chunkAt Records.ruled Records.recordAt Records.listIn Records.listRule Records.ringIn Records.ringRule Records.opRule Records.groupIn Records.groupRule Records.chunkIn Records.chunkRule Records.boxIn Records.pointIn Records.within Loads.inside le ordered boxInDomain inDomain endOf span startOf Points.firstOf Points.nextAt Points.numbersAt Points.movedBy Points.inside addDelta fits32 numberAt digits
+unfolding containsAt zoneOf seek polyOf ringContains ringOf ringRest ringEnd opsFrom opStep turnWalk groupWalk jointOf turnedAt turnOf groupOf chunksFrom lastAt lastIn passAt joinedTo scanTo skipTo nextFirst scanIn firstIn scanOf onward walkOf along add Records.countRule contains relevant right rayOf rayAt touches crosses aboveOf parityOf same lt Ieee.le eq ofInt sub div Ieee.ne Ieee.toBits Ieee.ofBits nextUp Records.listAt Records.ringAt Records.opAt Records.groupAt Records.chunkAt Records.ruled Records.recordAt Records.listIn Records.listRule Records.ringIn Records.ringRule Records.opRule Records.groupIn Records.groupRule Records.chunkIn Records.chunkRule Records.boxIn Records.pointIn Records.within Loads.inside le ordered boxInDomain inDomain endOf span startOf Points.firstOf Points.nextAt Points.numbersAt Points.movedBy Points.inside addDelta fits32 numberAt digits
 walked = tt

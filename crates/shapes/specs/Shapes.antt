@@ -11,6 +11,7 @@ use Rattle.plane.specs.Domain.{inDomain}
 use Rattle.plane.specs.Lines.{every, some, firstOf, lastOf, ringTally}
 use Rattle.boxes.specs.declared.BBox.{BBox}
 use Rattle.boxes.specs.Box.{boxInDomain}
+pub use Rattle.boxes.specs.Box.{inBox}
 
 -- ---- the shapes
 -- a box, and at least one point
@@ -80,10 +81,6 @@ module _ (seg : I32Point → I32Point → Seen) where
   zoneIn z = some polygonIn (z .polygons)
 
 -- ---- the rules F4 to F6
--- the box covers the point
-unfoldable pub inBox : BBox → I32Point → Bool
-inBox b p = (leZ (b .minx) (p .x) && leZ (p .x) (b .maxx)) && (leZ (b .miny) (p .y) && leZ (p .y) (b .maxy))
-
 -- the box b covers the box c
 unfoldable pub covers : BBox → BBox → Bool
 covers b c = (leZ (b .minx) (c .minx) && leZ (c .maxx) (b .maxx)) && (leZ (b .miny) (c .miny) && leZ (c .maxy) (b .maxy))

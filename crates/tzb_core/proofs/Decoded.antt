@@ -15,7 +15,7 @@ use Rattle.answer.specs.Answers.{Answer, ok, refused, _then_, need, zero-one, t
 use Rattle.plane.specs.declared.I32Point.{I32Point}
 use Rattle.tzb_core.specs.Varint.{atEnd}
 use Rattle.tzb_core.specs.Points.{nextAt}
-use Rattle.tzb_core.specs.Decode.{led, pointsFrom, outcome, flat, filled, readFrom, put}
+use Rattle.tzb_core.specs.Decode.{led, pointsFrom, outcome, flat, filled, readFrom, put, points-last, points-next}
 
 -- ---- what an outcome was made of
 pub outcome-fine : {A : Type 0} (x : Answer A) → Fine ≡ outcome x → (a : A) × (ok a ≡ x)
@@ -40,12 +40,12 @@ led-no q x r e = ap (led q) (outcome-no x r e)
 -- ---- what was read
 -- where all points can be read, they are read
 pub read-all : (s : List ℕ) (n : ℕ) (q : I32Point) (k : ℕ) (l : List I32Point) → ok l ≡ pointsFrom s n q k → (readFrom s n q k ≡ l) × (length l ≡ n)
-unfolding pointsFrom readFrom
+unfolding readFrom
 read-all s zero q k l e =
-    let z : l ≡ [] = ok-inv _ _ (need-inv 43 (atEnd s k) (ok []) l e .1) in
+    let z : l ≡ [] = ok-inv _ _ (need-inv 43 (atEnd s k) (ok []) l (e ∙ points-last s q k) .1) in
     (sym z, ap length z)
 read-all s (suc n) q k l e =
-    let h = then-inv (nextAt s q k) (λ t. led (t .0) (pointsFrom s n (t .0) (t .1))) l e in
+    let h = then-inv (nextAt s q k) (λ t. led (t .0) (pointsFrom s n (t .0) (t .1))) l (e ∙ points-next s q k n) in
     let g = then-inv (pointsFrom s n (h .0 .0) (h .0 .1)) (λ m. ok (h .0 .0 ∷ m)) l (h .2) in
     let z : l ≡ h .0 .0 ∷ g .0 = ok-inv _ _ (g .2) in
     let i = read-all s n (h .0 .0) (h .0 .1) (g .0) (g .1) in

@@ -3,13 +3,14 @@
 use Prim.Native.Nat.{ℕ, zero, suc, _-_}
 use native.Mathlib.Omega.{arith}
 use mathlib.Core.Path.{_≡_, refl, sym, ap, _∙_}
-use mathlib.Core.Bool.{true}
+use mathlib.Core.Bool.{Bool, true, false}
 use mathlib.Core.List.{List, [], _∷_}
 use lib.ListN.{length}
 use lib.Dec.{ltb}
 use borrow.Author.Tests.{ltb-true}
 use Rattle.basics.specs.Truth.{and-i}
-use Rattle.answer.specs.Answers.{ok, _then_, then-inv, need-inv, ok-inv}
+use Rattle.answer.specs.declared.Refusal.{Refusal}
+use Rattle.answer.specs.Answers.{Answer, ok, refused, _then_, need, then-inv, need-inv, ok-inv}
 use Rattle.answer.specs.Walks.{Walk, add, _go_}
 use Rattle.plane.specs.declared.Point.{Point}
 use Rattle.plane.specs.declared.I32Point.{I32Point}
@@ -18,11 +19,15 @@ use Rattle.plane.specs.declared.Seen.the-variants.{On, Off}
 use Rattle.plane.specs.Tally.{_⊕_}
 use Rattle.plane.specs.Lines.{chain, lastFrom, every}
 use Rattle.plane.specs.Domain.{inDomain}
+use Rattle.boxes.specs.declared.BBox.{BBox}
+use Rattle.boxes.specs.Box.{inBox}
 use Rattle.tzb_core.specs.Ray.{rayOf}
 use Rattle.tzb_core.specs.Varint.{atEnd}
 use Rattle.tzb_core.specs.Points.{numbersAt, movedBy, inside, firstOf, nextAt}
-use Rattle.tzb_core.specs.Scan.{past, stepAt, onward, scanOf}
-use Rattle.tzb_core.specs.Decode.{led, pointsFrom, pointsOf}
+use Rattle.tzb_core.specs.Along.{Walker, follow, reach, along, walkOf, overFrom}
+use Rattle.tzb_core.specs.Scan.{past, scanner, scanOf}
+use Rattle.tzb_core.specs.Decode.{led, pointsFrom, pointsOf, points-last, points-next, points-are}
+use Rattle.tzb_core.specs.Trace.{also, tracer, traceOf, traced}
 use Rattle.tzb_core.proofs.Decoded.{read-all}
 
 -- ---- a point that was read lies in the domain
@@ -62,28 +67,58 @@ record One (s : List ℕ) (n : ℕ) (q : I32Point) (k : ℕ) (l : List I32Point)
   is : l ≡ at .0 ∷ rest
 
 one-of : (s : List ℕ) (n : ℕ) (q : I32Point) (k : ℕ) (l : List I32Point) → ok l ≡ pointsFrom s (suc n) q k → One s n q k l
-unfolding pointsFrom
 one-of s n q k l e =
-    let h = then-inv (nextAt s q k) (λ t. led (t .0) (pointsFrom s n (t .0) (t .1))) l e in
+    let h = then-inv (nextAt s q k) (λ t. led (t .0) (pointsFrom s n (t .0) (t .1))) l (e ∙ points-next s q k n) in
     let g = then-inv (pointsFrom s n (h .0 .0) (h .0 .1)) (λ m. ok (h .0 .0 ∷ m)) l (h .2) in
     record { at = h .0; rest = g .0; next = h .1; from = g .1; is = ok-inv _ _ (g .2) }
 
 none-of : (s : List ℕ) (q : I32Point) (k : ℕ) (l : List I32Point) → ok l ≡ pointsFrom s zero q k → (atEnd s k ≡ true) × (l ≡ [])
-unfolding pointsFrom
-none-of s q k l e = let h = need-inv 43 (atEnd s k) (ok []) l e in (h .0, ok-inv _ _ (h .1))
+none-of s q k l e = let h = need-inv 43 (atEnd s k) (ok []) l (e ∙ points-last s q k) in (h .0, ok-inv _ _ (h .1))
 
-onward-list : (s : List ℕ) (p : Point) (n : ℕ) (q : I32Point) (k : ℕ) (l : List I32Point) → ok l ≡ pointsFrom s n q k
-    → onward s p n q k ≡ past (chain (λ a b. rayOf a b p) q l) (lastFrom q l)
-unfolding onward stepAt
-onward-list s p zero q k l e = let h = none-of s q k l e in rw (h .0, h .1)
-onward-list s p (suc n) q k l e =
+-- the walk goes over the points, whoever walks
+along-list : {R : Type 0} (w : Walker R) (s : List ℕ) (n : ℕ) (q : I32Point) (k : ℕ) (l : List I32Point) → ok l ≡ pointsFrom s n q k → along w s n q k ≡ overFrom w q l
+unfolding along overFrom
+along-list w s zero q k l e = let h = none-of s q k l e in rw (h .0, h .1)
+along-list w s (suc n) q k l e =
     let o = one-of s n q k l e in
-    step (o .at) (o .rest) (o .next) (onward-list s p n (o .at .0) (o .at .1) (o .rest) (o .from))
-    ∙ sym (ap (λ (m : List I32Point). past (chain (λ a b. rayOf a b p) q m) (lastFrom q m)) (o .is))
+    step (o .at) (o .rest) (o .next) (along-list w s n (o .at .0) (o .at .1) (o .rest) (o .from))
+    ∙ sym (ap (overFrom w q) (o .is))
   where
-    step : (t : I32Point × ℕ) (m : List I32Point) → ok t ≡ nextAt s q k → onward s p n (t .0) (t .1) ≡ past (chain (λ a b. rayOf a b p) (t .0) m) (lastFrom (t .0) m)
-        → onward s p (suc n) q k ≡ past (chain (λ a b. rayOf a b p) q (t .0 ∷ m)) (lastFrom q (t .0 ∷ m))
-    step t m e i = rw (← e) (seg-go (rayOf q (t .0) p) t (λ w. onward s p n (w .0) (w .1)) (chain (λ a b. rayOf a b p) (t .0) m) (lastFrom (t .0) m) i)
+    step : (t : I32Point × ℕ) (m : List I32Point) → ok t ≡ nextAt s q k → along w s n (t .0) (t .1) ≡ overFrom w (t .0) m → along w s (suc n) q k ≡ overFrom w q (t .0 ∷ m)
+    step t m e i = rw (← e) (ap (reach w q (t .0)) i)
+
+-- and where nothing on the way hides a refusal, it is told by what decoding answers
+module _ {R : Type 0} (w : Walker R) (keeps : (q t : I32Point) (r : Refusal) → w .stop r ≡ reach w q t (w .stop r)) where
+  reach-points : (q t : I32Point) (x : Answer (List I32Point)) → reach w q t (follow w x (overFrom w t)) ≡ follow w (led t x) (overFrom w q)
+  unfolding overFrom
+  reach-points q t (ok l) = refl
+  reach-points q t (refused r) = sym (keeps q t r)
+
+  along-points : (s : List ℕ) (n : ℕ) (q : I32Point) (k : ℕ) → along w s n q k ≡ follow w (pointsFrom s n q k) (overFrom w q)
+  unfolding along overFrom
+  along-points s zero q k = tested (atEnd s k) ∙ ap (λ (x : Answer (List I32Point)). follow w x (overFrom w q)) (sym (points-last s q k))
+    where
+      tested : (b : Bool) → follow w (need 43 b (ok q)) (w .last) ≡ follow w (need 43 b (ok [])) (overFrom w q)
+      tested true = refl
+      tested false = refl
+  along-points s (suc n) q k = on-to (λ t. along-points s n (t .0) (t .1)) (nextAt s q k) ∙ ap (λ (x : Answer (List I32Point)). follow w x (overFrom w q)) (sym (points-next s q k n))
+    where
+      on-to : ((t : I32Point × ℕ) → along w s n (t .0) (t .1) ≡ follow w (pointsFrom s n (t .0) (t .1)) (overFrom w (t .0)))
+          → (x : Answer (I32Point × ℕ)) → follow w x (λ t. reach w q (t .0) (along w s n (t .0) (t .1))) ≡ follow w (x then λ t. led (t .0) (pointsFrom s n (t .0) (t .1))) (overFrom w q)
+      on-to i (ok t) = ap (reach w q (t .0)) (i t) ∙ reach-points q (t .0) (pointsFrom s n (t .0) (t .1))
+      on-to i (refused r) = refl
+
+-- over points, a scan is the tally of the segments between neighbours
+scan-over : (p : Point) (q : I32Point) (l : List I32Point) → overFrom (scanner p) q l ≡ past (chain (λ a b. rayOf a b p) q l) (lastFrom q l)
+unfolding overFrom
+scan-over p q [] = refl
+scan-over p q (t ∷ l) = seg-go (rayOf q t p) t (λ u. overFrom (scanner p) t l) (chain (λ a b. rayOf a b p) t l) (lastFrom t l) (scan-over p t l)
+
+-- and a trace tells whether the box covers every one, and the last
+trace-over : (b : BBox) (q : I32Point) (l : List I32Point) → overFrom (tracer b) q l ≡ ok (every (inBox b) l, lastFrom q l)
+unfolding overFrom also
+trace-over b q [] = refl
+trace-over b q (t ∷ l) = ap (also (inBox b t)) (trace-over b t l)
 
 every-from : (s : List ℕ) (n : ℕ) (q : I32Point) (k : ℕ) (l : List I32Point) → ok l ≡ pointsFrom s n q k → every inDomain l ≡ true
 every-from s zero q k l e = ap (every inDomain) (none-of s q k l e .1)
@@ -100,9 +135,8 @@ record Whole (s : List ℕ) (n : ℕ) (q : I32Point) (l : List I32Point) : Type 
   from : ok l ≡ pointsFrom s (n - 1) q at
 
 whole-of : (s : List ℕ) (n : ℕ) (q : I32Point) (l : List I32Point) → ok (q ∷ l) ≡ pointsOf s n → Whole s n q l
-unfolding pointsOf
 whole-of s n q l e =
-    let h = need-inv 32 (ltb 0 n) (firstOf s then λ t. led (t .0) (pointsFrom s (n - 1) (t .0) (t .1))) (q ∷ l) e in
+    let h = need-inv 32 (ltb 0 n) (firstOf s then λ t. led (t .0) (pointsFrom s (n - 1) (t .0) (t .1))) (q ∷ l) (e ∙ points-are s n) in
     let g = then-inv (firstOf s) (λ t. led (t .0) (pointsFrom s (n - 1) (t .0) (t .1))) (q ∷ l) (h .1) in
     let f = then-inv (pointsFrom s (n - 1) (g .0 .0) (g .0 .1)) (λ m. ok (g .0 .0 ∷ m)) (q ∷ l) (g .2) in
     same (h .0) (g .0 .0) (g .0 .1) (f .0) (ok-inv _ _ (f .2)) (g .1) (f .1)
@@ -116,10 +150,10 @@ whole-of s n q l e =
 module _ (s : List ℕ) (n : ℕ) (q : I32Point) (l : List I32Point) (e : ok (q ∷ l) ≡ pointsOf s n) where
   -- the scan is the tally of the segments between neighbours, and hands on the last point
   pub scan-list : (p : Point) → scanOf s n p ≡ past (chain (λ a b. rayOf a b p) q l) (lastFrom q l)
-  unfolding scanOf
+  unfolding scanOf walkOf
   scan-list p =
       let w = whole-of s n q l e in
-      rw (w .some, ← (w .first)) (onward-list s p (n - 1) q (w .at) l (w .from))
+      rw (w .some, ← (w .first)) (along-list (scanner p) s (n - 1) q (w .at) l (w .from) ∙ scan-over p q l)
 
   -- the first point read alone is the first
   pub first-list : (k : ℕ) × (ok (q, k) ≡ firstOf s)
@@ -139,12 +173,25 @@ module _ (s : List ℕ) (n : ℕ) (q : I32Point) (l : List I32Point) (e : ok (q 
 
 -- a chunk that decodes has a first point
 pub never-empty : (s : List ℕ) (n : ℕ) → ok [] ≡ pointsOf s n → ⊥
-unfolding pointsOf
 never-empty s n e =
-    let h = need-inv 32 (ltb 0 n) (firstOf s then λ t. led (t .0) (pointsFrom s (n - 1) (t .0) (t .1))) [] e in
+    let h = need-inv 32 (ltb 0 n) (firstOf s then λ t. led (t .0) (pointsFrom s (n - 1) (t .0) (t .1))) [] (e ∙ points-are s n) in
     let g = then-inv (firstOf s) (λ t. led (t .0) (pointsFrom s (n - 1) (t .0) (t .1))) [] (h .1) in
     let f = then-inv (pointsFrom s (n - 1) (g .0 .0) (g .0 .1)) (λ m. ok (g .0 .0 ∷ m)) [] (g .2) in
     differ (g .0 .0) (f .0) (ok-inv _ _ (f .2))
   where
     differ : (u : I32Point) (m : List I32Point) → [] ≡ u ∷ m → ⊥
     differ u m z = let c : _≡_ {A = ℕ} 0 (suc (length m)) = ap length z in omega arith
+
+-- the trace of a box is told by what decoding answers: its refusal; or whether the box covers every point, and the last
+pub trace-points : (s : List ℕ) (n : ℕ) (b : BBox) → traceOf s n b ≡ traced b (pointsOf s n)
+unfolding traceOf walkOf traced also
+trace-points s n b = tested (ltb 0 n) (firstOf s) ∙ ap (traced b) (sym (points-are s n))
+  where
+    from-first : (q : I32Point) (x : Answer (List I32Point)) → also (inBox b q) (follow (tracer b) x (overFrom (tracer b) q)) ≡ traced b (led q x)
+    from-first q (ok l) = ap (also (inBox b q)) (trace-over b q l)
+    from-first q (refused r) = refl
+
+    tested : (c : Bool) (x : Answer (I32Point × ℕ)) → follow (tracer b) (need 32 c x) (λ t. also (inBox b (t .0)) (along (tracer b) s (n - 1) (t .0) (t .1))) ≡ traced b (need 32 c (x then λ t. led (t .0) (pointsFrom s (n - 1) (t .0) (t .1))))
+    tested true (ok t) = ap (also (inBox b (t .0))) (along-points (tracer b) (λ q t r. refl) s (n - 1) (t .0) (t .1)) ∙ from-first (t .0) (pointsFrom s (n - 1) (t .0) (t .1))
+    tested true (refused r) = refl
+    tested false x = refl

@@ -9,19 +9,18 @@ use lib.IntN.{ℤ}
 use Rattle.answer.specs.declared.Refusal.{Refusal}
 use Rattle.answer.specs.declared.Checked.the-variants.{Refused}
 use Rattle.answer.specs.Checks.{claim}
-use Rattle.answer.specs.Refusals.{refusal}
 use Rattle.answer.specs.Answers.{Answer, ok, refused, _then_, need, zero-one, then-inv, need-inv, ok-inv}
-use Rattle.answer.specs.Walks.{Walk, broken, on, off, add, _go_, _yields_, done, must}
+use Rattle.answer.specs.Walks.{on, add}
 use Rattle.plane.specs.declared.Point.{Point}
 use Rattle.plane.specs.declared.I32Point.{I32Point}
-use Rattle.plane.specs.declared.Seen.{Seen}
 use Rattle.plane.specs.declared.Seen.the-variants.{On, Off}
 use Rattle.plane.specs.Domain.{inDomain}
 use Rattle.tzb_core.specs.Ray.{rayOf}
 use Rattle.tzb_core.specs.Varint.{numberAt, atEnd}
 use Rattle.tzb_core.specs.Points.{point, numbersAt, movedBy, inside, nextAt, arrive, turnTo, turnOf, numbers-first, next-no}
-use Rattle.tzb_core.specs.Scan.{past, stepAt, onward}
-use Rattle.tzb_core.specs.Decode.{led, outcome, pointsFrom, readFrom}
+use Rattle.tzb_core.specs.Along.{follow, along, alongBy, by-no, by-to}
+use Rattle.tzb_core.specs.Scan.{scanner, segment-on, segment-off}
+use Rattle.tzb_core.specs.Decode.{decoder, outcome, readFrom}
 use Rattle.tzb_core.specs.declared.chunk.Turned.{Turned}
 use Rattle.tzb_core.specs.declared.chunk.Turned.the-variants as T
 use Rattle.tzb_core.proofs.Decoded.{led-same}
@@ -115,81 +114,45 @@ pub point-less : (half : Bool) (n : ℕ) → 0 < n → 2 * (n - 1) + cond false 
 point-less false n h = omega arith
 point-less true n h = omega arith
 
--- ---- the scan, where the point that comes next is a
-unfoldable pub onwardBy : List ℕ → Point → ℕ → I32Point → ℕ → Answer (I32Point × ℕ) → Walk I32Point
-onwardBy s p zero q k a = must 43 (atEnd s k) (done q)
-onwardBy s p (suc n) q k a = (a yields λ t. past (rayOf q (t .0) p) t) go λ t. onward s p n (t .0) (t .1)
+-- ---- the scan, where the answer to what comes next is a
+module _ (s : List ℕ) (p : Point) (q : I32Point) (n k : ℕ) (a : Answer (I32Point × ℕ)) (h : 0 < n) where
+  pub by-on : (t : I32Point) (m : ℕ) → ok (t, m) ≡ a → On ≡ rayOf q t p → on ≡ alongBy (scanner p) s n q k a
+  by-on t m e f = segment-on p q t (along (scanner p) s (n - 1) t m) f ∙ by-to (scanner p) s q n k a h t m e
 
-module _ (s : List ℕ) (p : Point) (q : I32Point) (k : ℕ) where
-  pub onward-by : (n : ℕ) → onwardBy s p n q k (nextAt s q k) ≡ onward s p n q k
-  unfolding onwardBy onward stepAt
-  onward-by zero = refl
-  onward-by (suc n) = refl
+  pub by-off : (t : I32Point) (m : ℕ) → ok (t, m) ≡ a → (c : Bool) → Off c ≡ rayOf q t p → add c (along (scanner p) s (n - 1) t m) ≡ alongBy (scanner p) s n q k a
+  by-off t m e c f = segment-off p q t (along (scanner p) s (n - 1) t m) c f ∙ by-to (scanner p) s q n k a h t m e
 
-  pub by-left : (n : ℕ) (a : Answer (I32Point × ℕ)) → n ≡ 0 → atEnd s k ≡ false → broken (refusal 43) ≡ onwardBy s p n q k a
-  unfolding onwardBy
-  by-left n a z h = rw (z, h)
+-- ---- the points that are left, where the answer to what comes next is a
+module _ (s : List ℕ) (q : I32Point) (n k : ℕ) (a : Answer (I32Point × ℕ)) where
+  module _ (h : 0 < n) where
+    pub check-no : (r : Refusal) → refused r ≡ a → Refused r ≡ outcome (alongBy decoder s n q k a)
+    check-no r e = ap outcome (by-no decoder s q n k a h r e)
 
-  pub by-end : (n : ℕ) (a : Answer (I32Point × ℕ)) → n ≡ 0 → atEnd s k ≡ true → done q ≡ onwardBy s p n q k a
-  unfolding onwardBy
-  by-end n a z h = rw (z, h)
+    pub check-on : (t : I32Point) (m : ℕ) → ok (t, m) ≡ a → outcome (along decoder s (n - 1) t m) ≡ outcome (alongBy decoder s n q k a)
+    check-on t m e = led-same t (along decoder s (n - 1) t m) ∙ ap outcome (by-to decoder s q n k a h t m e)
 
-  module _ (n : ℕ) (a : Answer (I32Point × ℕ)) (h : 0 < n) where
-    by-one : onwardBy s p n q k a ≡ ((a yields λ t. past (rayOf q (t .0) p) t) go λ t. onward s p (n - 1) (t .0) (t .1))
-    unfolding onwardBy
-    by-one = let one : n ≡ suc (n - 1) = omega arith in ap (λ (j : ℕ). onwardBy s p j q k a) one
+  pub check-end : n ≡ 0 → (b : Bool) → b ≡ atEnd s k → claim 43 b ≡ outcome (alongBy decoder s n q k a)
+  unfolding alongBy claim
+  check-end z b e = rw (z, e) (told-end (atEnd s k))
+    where
+      told-end : (b : Bool) → claim 43 b ≡ outcome (follow decoder (need 43 b (ok q)) (λ t. ok []))
+      told-end true = refl
+      told-end false = refl
 
-    pub by-no : (r : Refusal) → refused r ≡ a → broken r ≡ onwardBy s p n q k a
-    by-no r e = rw (by-one, ← e)
-
-    pub by-on : (t : I32Point) (m : ℕ) → ok (t, m) ≡ a → On ≡ rayOf q t p → on ≡ onwardBy s p n q k a
-    by-on t m e f = rw (by-one, ← e, ← f)
-
-    pub by-off : (t : I32Point) (m : ℕ) → ok (t, m) ≡ a → (c : Bool) → Off c ≡ rayOf q t p → add c (onward s p (n - 1) t m) ≡ onwardBy s p n q k a
-    by-off t m e c f = rw (by-one, ← e, ← f)
-
--- the place itself does not matter while points are left
-pub by-there : (s : List ℕ) (p : Point) (q : I32Point) (k m n : ℕ) (a b : Answer (I32Point × ℕ)) → 0 < n → b ≡ a → onwardBy s p n q m b ≡ onwardBy s p n q k a
-by-there s p q k m n a b h e = by-one s p q m n b h ∙ ap (λ (c : Answer (I32Point × ℕ)). (c yields λ t. past (rayOf q (t .0) p) t) go λ t. onward s p (n - 1) (t .0) (t .1)) e ∙ sym (by-one s p q k n a h)
-
--- ---- the points that are left, and those that can be read, where the one that comes next is a
-unfoldable pub pointsBy : List ℕ → ℕ → ℕ → Answer (I32Point × ℕ) → Answer (List I32Point)
-pointsBy s zero k a = need 43 (atEnd s k) (ok [])
-pointsBy s (suc n) k a = a then λ t. led (t .0) (pointsFrom s n (t .0) (t .1))
-
+-- ---- the points that can be read, where the answer to what comes next is a
 unfoldable pub readBy : List ℕ → ℕ → Answer (I32Point × ℕ) → List I32Point
 readBy s zero a = []
 readBy s (suc n) (ok t) = t .0 ∷ readFrom s n (t .0) (t .1)
 readBy s (suc n) (refused r) = []
 
-module _ (s : List ℕ) (q : I32Point) (k : ℕ) where
-  pub points-by : (n : ℕ) → pointsBy s n k (nextAt s q k) ≡ pointsFrom s n q k
-  unfolding pointsBy pointsFrom
-  points-by zero = refl
-  points-by (suc n) = refl
-
-  pub read-by : (n : ℕ) → readBy s n (nextAt s q k) ≡ readFrom s n q k
-  unfolding readBy readFrom
-  read-by zero = refl
-  read-by (suc n) = by-case (nextAt s q k) refl
-    where
-      by-case : (a : Answer (I32Point × ℕ)) → nextAt s q k ≡ a → readBy s (suc n) a ≡ readFrom s (suc n) q k
-      by-case (ok t) e = rw e
-      by-case (refused r) e = rw e
-
-module _ (s : List ℕ) (n : ℕ) (k : ℕ) (a : Answer (I32Point × ℕ)) (h : 0 < n) where
-  points-one : pointsBy s n k a ≡ (a then λ t. led (t .0) (pointsFrom s (n - 1) (t .0) (t .1)))
-  unfolding pointsBy
-  points-one = let one : n ≡ suc (n - 1) = omega arith in ap (λ (j : ℕ). pointsBy s j k a) one
-
-  pub check-no : (r : Refusal) → refused r ≡ a → Refused r ≡ outcome (pointsBy s n k a)
-  check-no r e = rw (points-one, ← e)
-
-  pub check-on : (t : I32Point) (m : ℕ) → ok (t, m) ≡ a → outcome (pointsFrom s (n - 1) t m) ≡ outcome (pointsBy s n k a)
-  check-on t m e = led-same t (pointsFrom s (n - 1) t m) ∙ ap outcome (there ∙ sym points-one)
-    where
-      there : led t (pointsFrom s (n - 1) t m) ≡ (a then λ t. led (t .0) (pointsFrom s (n - 1) (t .0) (t .1)))
-      there = rw (← e)
+pub read-by : (s : List ℕ) (q : I32Point) (k n : ℕ) → readBy s n (nextAt s q k) ≡ readFrom s n q k
+unfolding readBy readFrom
+read-by s q k zero = refl
+read-by s q k (suc n) = by-case (nextAt s q k) refl
+  where
+    by-case : (a : Answer (I32Point × ℕ)) → nextAt s q k ≡ a → readBy s (suc n) a ≡ readFrom s (suc n) q k
+    by-case (ok t) e = rw e
+    by-case (refused r) e = rw e
 
 module _ (s : List ℕ) (n : ℕ) (a : Answer (I32Point × ℕ)) (h : 0 < n) where
   one-more : n ≡ suc (n - 1)
@@ -205,20 +168,6 @@ module _ (s : List ℕ) (n : ℕ) (a : Answer (I32Point × ℕ)) (h : 0 < n) whe
     where
       by-more : (j : ℕ) → n ≡ suc j → t ∷ readFrom s j t m ≡ readBy s n a
       by-more j z = rw (z, ← e)
-
--- the place itself does not matter while points are left
-pub check-there : (s : List ℕ) (n k m : ℕ) (a b : Answer (I32Point × ℕ)) → 0 < n → b ≡ a → outcome (pointsBy s n m b) ≡ outcome (pointsBy s n k a)
-check-there s n k m a b h e = ap outcome (points-one s n m b h ∙ ap (λ (c : Answer (I32Point × ℕ)). c then λ t. led (t .0) (pointsFrom s (n - 1) (t .0) (t .1))) e ∙ sym (points-one s n k a h))
-
--- ---- none left
-module _ (s : List ℕ) (n : ℕ) (k : ℕ) (a : Answer (I32Point × ℕ)) (z : n ≡ 0) where
-  pub check-end : (b : Bool) → b ≡ atEnd s k → claim 43 b ≡ outcome (pointsBy s n k a)
-  unfolding pointsBy claim
-  check-end b e = rw (z, e) (told-end (atEnd s k))
-    where
-      told-end : (b : Bool) → claim 43 b ≡ outcome {A = List I32Point} (need 43 b (ok []))
-      told-end true = refl
-      told-end false = refl
 
 pub read-end : (s : List ℕ) (n : ℕ) (a : Answer (I32Point × ℕ)) → n ≡ 0 → [] ≡ readBy s n a
 unfolding readBy

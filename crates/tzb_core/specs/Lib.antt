@@ -3,5 +3,7 @@ pub mod Varint
 pub mod Delta
 pub mod Ray
 pub mod Points
+pub mod Along
 pub mod Scan
 pub mod Decode
+pub mod Trace

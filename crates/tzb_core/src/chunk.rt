@@ -1,13 +1,16 @@
-// Chunk code: the points of one chunk's bytes, and the scan of its segments. The bytes s are that chunk's own.
+// Chunk code: the points of one chunk's bytes, the scan of its segments, and the trace of a box. The bytes s are that chunk's own.
 ghost use mathlib.Core.Path.{_≡_};
 ghost use mathlib.Core.Bool.{true, _||_};
 ghost use Prim.Native.Nat.{_+_, _*_, _≤_, _<_};
 ghost use mathlib.Core.List.{_∷_, _++_};
 ghost use lib.ListN.{length, set, take, drop};
 ghost use Rattle.plane.specs.Domain.{inDomain};
+ghost use Rattle.boxes.specs.Box.{inBox};
 ghost use Rattle.tzb_core.specs.Points.{spotted, moved, movedBy, numbersAt, inside, firstOf, nextAt, turnOf};
 ghost use Rattle.tzb_core.specs.Ray.{rayOf};
 ghost use Rattle.tzb_core.specs.Scan.{scanned, onward, scanOf, Around, bothBelow, bothAbove, aside};
+ghost use Rattle.tzb_core.specs.Along.{along};
+ghost use Rattle.tzb_core.specs.Trace.{toldTrace, also, tracer, traceOf};
 ghost use Rattle.tzb_core.specs.Decode.{outcome, pointsFrom, led, filled, decodeOf, decoded, put, readFrom};
 use crate::delta;
 use crate::delta::Sum;
@@ -16,6 +19,7 @@ use crate::varint::Place;
 use crate::varint::Read;
 use answer::Checked;
 use answer::Refusal;
+use boxes::BBox;
 use plane::I32Point;
 use plane::Point;
 use plane::Seen;
@@ -43,6 +47,12 @@ pub enum Scan {
     Refused(Refusal),
     On,
     Off(bool, I32Point),
+}
+
+// Past a chunk's points: whether a box covers them all, and the last of them.
+pub enum Traced {
+    Points(bool, I32Point),
+    Refused(Refusal),
 }
 
 // Heights around a point: one below lo is below the point, and one above hi is above it.
@@ -275,6 +285,48 @@ pub fn scan_chunk(s: &[u8], count: u16, p: Point) -> Scan
     match f {
         Spotted::Refused(k) => Scan::Refused(k),
         Spotted::At(q, n) => scan_from(s, p, count - 1, q, n),
+    }
+}
+
+// The first point, and that many more: whether the box covers them all, and the last.
+fn trace_from(s: &[u8], b: BBox, count: u16, first: I32Point, from: Place) -> Traced
+    ensures { λ r. ⌜ toldTrace r ≡ also (inBox b first) (along (tracer b) (now (s .entry)) count first (from .at)) ⌝ }
+{
+    let mut q = first;
+    let mut at = from;
+    let mut inside = boxes::in_box(b, first);
+    let mut left = count;
+    while 0 < left {
+        let t = next_point(s, q, at);
+        match t {
+            Spotted::Refused(k) => {
+                return Traced::Refused(k);
+            }
+            Spotted::At(n, m) => {
+                inside = inside & boxes::in_box(b, n);
+                q = n;
+                at = m;
+            }
+        }
+        left -= 1;
+    }
+    if !at.at_end(s) {
+        return Traced::Refused(answer::refuse(43));
+    }
+    Traced::Points(inside, q)
+}
+
+// All points of a chunk, as they are read: leftover bytes are tested last.
+pub fn trace_chunk(s: &[u8], count: u16, b: BBox) -> Traced
+    ensures { λ r. ⌜ toldTrace r ≡ traceOf (now (s .entry)) count b ⌝ }
+{
+    if count == 0 {
+        return Traced::Refused(answer::refuse(32));
+    }
+    let f = first_point(s);
+    match f {
+        Spotted::Refused(k) => Traced::Refused(k),
+        Spotted::At(q, n) => trace_from(s, b, count - 1, q, n),
     }
 }
 

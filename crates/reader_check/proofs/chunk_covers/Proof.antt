@@ -1,7 +1,7 @@
 -- `reader_check::chunk_covers` meets its contract: all points are read and lie in the box, or not.
 -- Assumes nothing.
 use mathlib.Core.Path.{sym, ap, _∙_}
-use Rattle.reader_cover.specs.Cover.{toldTrace}
+use Rattle.tzb_core.specs.Trace.{toldTrace}
 use Rattle.reader_cover.proofs.Traces.{covers-no, covers-ok}
 use borrow.Author.Needs.{needs}
 use Rattle.reader_check.proofs.chunk_covers.Statement.{statement}

@@ -1,7 +1,7 @@
 -- `reader_check::chunk_decodes` meets its contract: all points are read, or not.
 -- Assumes nothing.
 use mathlib.Core.Path.{sym, ap, _∙_}
-use Rattle.reader_cover.specs.Cover.{toldTrace}
+use Rattle.tzb_core.specs.Trace.{toldTrace}
 use Rattle.reader_cover.proofs.Traces.{decodes-no, decodes-ok}
 use borrow.Author.Needs.{needs}
 use Rattle.reader_check.proofs.chunk_decodes.Statement.{statement}

@@ -10,10 +10,11 @@ use mir.Syntax.{w32}
 use mir.Val.{toZ, ofZ}
 use Rattle.answer.specs.Answers.{ok}
 use Rattle.tzb_core.specs.Varint.{told, numberAt}
-use Rattle.tzb_core.specs.Decode.{outcome, pointsFrom, put, readFrom}
+use Rattle.tzb_core.specs.Along.{alongBy, along-by, by-there}
+use Rattle.tzb_core.specs.Decode.{decoder, outcome, pointsFrom, put, readFrom}
 use Rattle.basics.specs.Signed.{back}
 use Rattle.tzb_core.proofs.Decoded.{put-end, put-on}
-use Rattle.tzb_core.proofs.Turns.{nextOf, turn-none, turn-no, turn-half, turn-to, half-less, point-less, pointsBy, readBy, points-by, read-by, check-no, check-on, check-there, check-end, read-no, read-on, read-end}
+use Rattle.tzb_core.proofs.Turns.{nextOf, turn-none, turn-no, turn-half, turn-to, half-less, point-less, readBy, read-by, check-no, check-on, check-end, read-no, read-on, read-end}
 use borrow.Author.Needs.{needs}
 use Rattle.tzb_core.proofs.chunk.fill_from.Statement.{statement}
 use Rattle.tzb_core.proofs.chunk.fill_from.Tie as tie
@@ -22,7 +23,7 @@ abbrev Inv-loop : tie.InvT-loop
 Inv-loop s count out₀ q₀ at₀ rest₀ i₀ half₀ x₀ out q at rest i half x =
     (length out ≡ length out₀)
     × (i + 2 * rest ≡ 2 + 2 * count)
-    × (outcome (pointsBy s rest (at .at) (nextOf half s q (toZ w32 x) (at .at))) ≡ outcome (pointsFrom s count q₀ (at₀ .at)))
+    × (outcome (alongBy decoder s rest q (at .at) (nextOf half s q (toZ w32 x) (at .at))) ≡ outcome (pointsFrom s count q₀ (at₀ .at)))
     × (2 + 2 * count ≤ length out₀ → put out i (readBy s rest (nextOf half s q (toZ w32 x) (at .at))) ≡ put out₀ 2 (readFrom s count q₀ (at₀ .at)))
 
 abbrev μ-loop : tie.MeasureT-loop
@@ -32,8 +33,8 @@ put-point-requires : tie.Need-put-point-requires Inv-loop μ-loop
 put-point-requires c κs = search needs
 
 loop-holds : tie.Need-loop-holds Inv-loop μ-loop
-unfolding nextOf
-loop-holds c = (refl, omega arith, ap outcome (points-by _ _ _ _), λ h. ap (put _ 2) (read-by _ _ _ _))
+unfolding nextOf pointsFrom
+loop-holds c = (refl, omega arith, ap outcome (along-by _ _ _ _ _), λ h. ap (put _ 2) (read-by _ _ _ _))
 
 varint-requires : tie.Need-varint-requires Inv-loop μ-loop
 varint-requires c κs = search needs
@@ -50,7 +51,7 @@ returns c =
     let l = v .before .before in
     let p = l .before .before in
     let e = turn-none _ _ _ _ (l .loop .half) _ (sym (ap told (c .before .a .given .1)) ∙ v .varint .ensures) in (
-      check-no _ _ _ _ (v .before .loop-test .taken) _ e ∙ l .loop .inv .2,
+      check-no _ _ _ _ _ (v .before .loop-test .taken) _ e ∙ l .loop .inv .2,
       λ h. put-end _ _ _ (read-no _ _ _ (v .before .loop-test .taken) _ e)
           ∙ l .loop .inv .3 (omega (arith, h, l .before .out .given))
           ∙ put-on _ 0 _ _ _ _ refl (p .put-point .ensures (omega (arith, h))),
@@ -81,7 +82,7 @@ returns-2 c =
     let l = v .before .before in
     let p = l .before .before in
     let e = turn-no _ _ _ _ _ _ (read (t .before)) (l .loop .half) _ (sym (c .before .t .given .1) ∙ t .turn .ensures) in (
-      check-no _ _ _ _ (v .before .loop-test .taken) _ e ∙ l .loop .inv .2,
+      check-no _ _ _ _ _ (v .before .loop-test .taken) _ e ∙ l .loop .inv .2,
       λ h. put-end _ _ _ (read-no _ _ _ (v .before .loop-test .taken) _ e)
           ∙ l .loop .inv .3 (omega (arith, h, l .before .out .given))
           ∙ put-on _ 0 _ _ _ _ refl (p .put-point .ensures (omega (arith, h))),
@@ -116,7 +117,7 @@ loop-again c =
     let e = turn-half _ _ _ _ _ _ (read (t .before)) (l .loop .half) (sym (c .enum-told .given .1) ∙ t .turn .ensures) in (
       l .loop .inv .0,
       l .loop .inv .1,
-      check-there _ _ _ _ _ _ (v .before .loop-test .taken) e ∙ l .loop .inv .2,
+      ap outcome (by-there _ _ _ _ _ _ _ _ (v .before .loop-test .taken) e) ∙ l .loop .inv .2,
       λ h. ap (put (l .loop .out) (l .loop .i)) (ap (readBy (l .before .before .before .before .before .args .s .now) (l .loop .rest)) e) ∙ l .loop .inv .3 h,
     )
 
@@ -126,7 +127,7 @@ loop-less-2 c =
     point-less (v .before .before .loop .half) (v .before .before .loop .rest) (v .before .loop-test .taken)
 
 loop-again-2 : tie.Need-loop-again-2 Inv-loop μ-loop
-unfolding nextOf
+unfolding nextOf pointsFrom
 loop-again-2 c =
     let p = c .before in
     let k = p .before .before in
@@ -138,7 +139,7 @@ loop-again-2 c =
     let e = turn-to _ _ _ _ _ _ (read (t .before)) (l .half) _ (sym (k .before .t2 .given .1) ∙ t .turn .ensures) in (
       same ∙ l .inv .0,
       omega arith,
-      ap outcome (points-by _ _ _ _) ∙ check-on _ _ _ _ h₀ _ _ e ∙ l .inv .2,
+      ap outcome (along-by _ _ _ _ _) ∙ check-on _ _ _ _ _ h₀ _ _ e ∙ l .inv .2,
       λ h. ap (put _ _) (read-by _ _ _ _) ∙ put-on _ _ _ _ _ _ (read-on _ _ _ h₀ _ _ e) (p .put-point2 .ensures (omega (arith, h))) ∙ l .inv .3 h,
     )
 
@@ -155,7 +156,7 @@ returns-3 : tie.Need-returns-3 Inv-loop μ-loop
 returns-3 c =
     let l = c .before .before .before in
     let p = l .before .before in (
-      c .claim .ensures ∙ check-end _ _ _ _ (omega arith) _ (c .before .at-end .ensures) ∙ l .loop .inv .2,
+      c .claim .ensures ∙ check-end _ _ _ _ _ (omega arith) _ (c .before .at-end .ensures) ∙ l .loop .inv .2,
       λ h. put-end _ _ _ (read-end _ _ _ (omega arith))
           ∙ l .loop .inv .3 (omega (arith, h, l .before .out .given))
           ∙ put-on _ 0 _ _ _ _ refl (p .put-point .ensures (omega (arith, h))),

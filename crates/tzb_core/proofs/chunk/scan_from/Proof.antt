@@ -11,8 +11,9 @@ use Rattle.answer.specs.Answers.{ok}
 use Rattle.answer.specs.Walks.{broken, add, add-none, breaks, hits, ends, keeps}
 use Rattle.plane.specs.Domain.{inDomain}
 use Rattle.tzb_core.specs.Varint.{told, numberAt}
-use Rattle.tzb_core.specs.Scan.{onward}
-use Rattle.tzb_core.proofs.Turns.{nextOf, onwardBy, onward-by, turn-none, turn-no, turn-half, turn-to, turn-in, half-less, point-less, by-left, by-end, by-no, by-on, by-off, by-there}
+use Rattle.tzb_core.specs.Along.{alongBy, along-by, by-left, by-end, by-no, by-there}
+use Rattle.tzb_core.specs.Scan.{scanner, onward}
+use Rattle.tzb_core.proofs.Turns.{nextOf, turn-none, turn-no, turn-half, turn-to, turn-in, half-less, point-less, by-on, by-off}
 use Rattle.basics.specs.Signed.{back}
 use borrow.Author.Needs.{needs}
 use Rattle.tzb_core.proofs.chunk.scan_from.Statement.{statement}
@@ -20,7 +21,7 @@ use Rattle.tzb_core.proofs.chunk.scan_from.Tie as tie
 
 abbrev Inv-loop : tie.InvT-loop
 Inv-loop s p count b q₀ at₀ odd₀ left₀ half₀ x₀ q at odd left half x =
-    (inDomain q ≡ true) × (add odd (onwardBy s p left q (at .at) (nextOf half s q (toZ w32 x) (at .at))) ≡ onward s p count q₀ (at₀ .at))
+    (inDomain q ≡ true) × (add odd (alongBy (scanner p) s left q (at .at) (nextOf half s q (toZ w32 x) (at .at))) ≡ onward s p count q₀ (at₀ .at))
 
 abbrev μ-loop : tie.MeasureT-loop
 μ-loop s p count b q₀ at₀ odd₀ left₀ half₀ x₀ q at odd left half x = 2 * left + cond half 0 1
@@ -29,8 +30,8 @@ band-at-requires : tie.Need-band-at-requires Inv-loop μ-loop
 band-at-requires c κs = search needs
 
 loop-holds : tie.Need-loop-holds Inv-loop μ-loop
-unfolding nextOf
-loop-holds c = (c .before .before .pre, add-none _ ∙ onward-by _ _ _ _ _)
+unfolding nextOf onward
+loop-holds c = (c .before .before .pre, add-none _ ∙ along-by _ _ _ _ _)
 
 varint-requires : tie.Need-varint-requires Inv-loop μ-loop
 varint-requires c κs = search needs
@@ -120,7 +121,7 @@ loop-less-2 c =
     point-less (v .before .before .loop .half) (v .before .before .loop .left) (v .before .loop-test .taken)
 
 loop-again-2 : tie.Need-loop-again-2 Inv-loop μ-loop
-unfolding nextOf
+unfolding nextOf onward
 loop-again-2 c =
     let g = c .before .before .before .before in
     let t = g .before .before .before .before in
@@ -129,7 +130,7 @@ loop-again-2 c =
     let e = sym (g .before .before .t2 .given .1) ∙ t .turn .ensures in (
       turn-in _ (l .loop .half) _ _ _ e,
       keeps _ _ _ (l .loop .inv .1) _ _ _ (c .plus .ensures)
-          (ap (add _) (onward-by _ _ _ _ _) ∙ by-off _ _ _ _ _ _ (v .before .loop-test .taken) _ _ (turn-to _ _ _ _ _ _ (read (t .before)) (l .loop .half) _ e) _ (sym (c .before .before .e .given .1) ∙ g .segment-seen .ensures)),
+          (ap (add _) (along-by _ _ _ _ _) ∙ by-off _ _ _ _ _ _ (v .before .loop-test .taken) _ _ (turn-to _ _ _ _ _ _ (read (t .before)) (l .loop .half) _ e) _ (sym (c .before .before .e .given .1) ∙ g .segment-seen .ensures)),
     )
 
 at-end-requires : tie.Need-at-end-requires Inv-loop μ-loop

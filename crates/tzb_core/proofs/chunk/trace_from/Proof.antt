@@ -1,19 +1,20 @@
--- `reader_cover::trace_from` meets its contract: with what is known of the points behind, what is left tells as the whole does.
+-- `chunk::trace_from` meets its contract: with what is known of the points behind, what is left tells as the whole does.
 -- Assumes nothing.
 use native.Mathlib.Omega.{arith}
-use mathlib.Core.Path.{_≡_, sym, ap, _∙_}
+use mathlib.Core.Path.{_≡_, sym, ap, ap₂, _∙_}
 use mathlib.Core.Bool.{Bool, _&&_}
 use Rattle.answer.specs.Answers.{refused}
-use Rattle.tzb_core.specs.Points.{spotted}
-use Rattle.tzb_core.specs.Decode.{led, pointsFrom}
-use Rattle.reader_cover.specs.Cover.{traced}
-use Rattle.reader_cover.proofs.Traces.{tracedOn, trace-start, trace-stop, trace-on, trace-end, trace-left}
+use Rattle.boxes.specs.Box.{inBox}
+use Rattle.tzb_core.specs.Points.{spotted, nextAt}
+use Rattle.tzb_core.specs.Along.{along, alongBy, along-by, by-left, by-end, by-no, by-to}
+use Rattle.tzb_core.specs.Trace.{also, tracer, also-no, also-end, also-on}
+use borrow.Author.Tests.{not-true, not-false}
 use borrow.Author.Needs.{needs}
-use Rattle.reader_cover.proofs.trace_from.Statement.{statement}
-use Rattle.reader_cover.proofs.trace_from.Tie as tie
+use Rattle.tzb_core.proofs.chunk.trace_from.Statement.{statement}
+use Rattle.tzb_core.proofs.chunk.trace_from.Tie as tie
 
 abbrev Inv-loop : tie.InvT-loop
-Inv-loop s b count q₀ at₀ inside₀ left₀ q at inside left = tracedOn b inside q (pointsFrom s left q (at .at)) ≡ traced b (led q₀ (pointsFrom s count q₀ (at₀ .at)))
+Inv-loop s b count q₀ at₀ inside₀ left₀ q at inside left = also inside (alongBy (tracer b) s left q (at .at) (nextAt s q (at .at))) ≡ also (inBox b q₀) (along (tracer b) s count q₀ (at₀ .at))
 
 abbrev μ-loop : tie.MeasureT-loop
 μ-loop s b count q₀ at₀ inside₀ left₀ q at inside left = left
@@ -22,7 +23,7 @@ in-box-requires : tie.Need-in-box-requires Inv-loop μ-loop
 in-box-requires c κs = search needs
 
 loop-holds : tie.Need-loop-holds Inv-loop μ-loop
-loop-holds c = trace-start _ _ _ _ (c .in-box .ensures)
+loop-holds c = ap₂ also (c .in-box .ensures) (along-by _ _ _ _ _)
 
 next-point-requires : tie.Need-next-point-requires Inv-loop μ-loop
 next-point-requires c κs = search needs
@@ -33,7 +34,7 @@ enum-known-t c = search needs
 returns : tie.Need-returns Inv-loop μ-loop
 returns c =
     let n = c .before .before .before in
-    trace-stop _ _ _ _ _ _ _ (n .before .before .loop .inv) (n .before .loop-test .taken) _ (sym (ap spotted (c .before .t .given .1)) ∙ n .next-point .ensures)
+    also-no _ _ _ (n .before .before .loop .inv) _ (by-no _ _ _ _ _ _ (n .before .loop-test .taken) _ (sym (ap spotted (c .before .t .given .1)) ∙ n .next-point .ensures))
 
 enum-known-t-2 : tie.Need-enum-known-t-2 Inv-loop μ-loop
 enum-known-t-2 c = search needs
@@ -52,21 +53,22 @@ loop-again c =
     let t = c .before .before in
     let n = t .before .before in
     let l = n .before .before .loop in
-    trace-on _ _ _ _ _ _ _ (l .inv) (n .before .loop-test .taken) _ _ (sym (ap spotted (t .t2 .given .1)) ∙ n .next-point .ensures) _ (ap (λ (u : Bool). l .inside && u) (c .in-box2 .ensures))
+    also-on _ _ _ (l .inv) _ _ _ (ap (λ (u : Bool). l .inside && u) (c .in-box2 .ensures))
+    (ap (also _) (along-by _ _ _ _ _) ∙ by-to _ _ _ _ _ _ (n .before .loop-test .taken) _ _ (sym (ap spotted (t .t2 .given .1)) ∙ n .next-point .ensures))
 
 at-end-requires : tie.Need-at-end-requires Inv-loop μ-loop
 at-end-requires c κs = search needs
 
-returns-2 : tie.Need-returns-2 Inv-loop μ-loop
-returns-2 c = trace-end _ _ _ _ _ _ _ (c .before .before .before .loop .inv) (omega arith) (sym (c .before .at-end .ensures) ∙ c .if1 .taken)
-
 refuse-requires : tie.Need-refuse-requires Inv-loop μ-loop
 refuse-requires c κs = search needs
 
-returns-3 : tie.Need-returns-3 Inv-loop μ-loop
-returns-3 c =
+returns-2 : tie.Need-returns-2 Inv-loop μ-loop
+returns-2 c =
     let e = c .before .before in
-    ap refused (c .refuse .ensures) ∙ trace-left _ _ _ _ _ _ _ (e .before .before .loop .inv) (omega arith) (sym (e .at-end .ensures) ∙ c .before .if1 .left)
+    ap refused (c .refuse .ensures) ∙ also-no _ _ _ (e .before .before .loop .inv) _ (by-left _ _ _ _ _ _ (omega arith) (sym (e .at-end .ensures) ∙ not-true _ (c .before .if1 .taken)))
+
+returns-3 : tie.Need-returns-3 Inv-loop μ-loop
+returns-3 c = also-end _ _ _ (c .before .before .before .loop .inv) _ (by-end _ _ _ _ _ _ (omega arith) (sym (c .before .at-end .ensures) ∙ not-false _ (c .if1 .left)))
 
 pub trace-from-spec : {M : Type 1} → statement M
 trace-from-spec =
@@ -85,6 +87,6 @@ trace-from-spec =
     loop-less
     loop-again
     at-end-requires
-    returns-2
     refuse-requires
+    returns-2
     returns-3)

@@ -1,0 +1,100 @@
+-- Document 01, "Chunk bytes": the one walk along a chunk's points, whatever is done on the way. A count of 0 is 32; then the first point, and the others one by one; bytes left over are 43, tested last.
+-- Scanning (specs/Scan), decoding (Decode) and the trace by which the full check goes (Trace) are this walk, each with a walker of its own.
+-- Assumes nothing.
+use Prim.Native.Nat.{ℕ, zero, suc, _-_, _<_}
+use native.Mathlib.Omega.{arith}
+use mathlib.Core.Path.{_≡_, refl, sym, ap, _∙_}
+use mathlib.Core.Bool.{true, false}
+use mathlib.Core.List.{List, [], _∷_}
+use lib.Dec.{ltb}
+use borrow.Author.Tests.{lt-ltb}
+use Rattle.answer.specs.declared.Refusal.{Refusal}
+use Rattle.answer.specs.Refusals.{refusal}
+use Rattle.answer.specs.Answers.{Answer, ok, refused, need}
+use Rattle.plane.specs.declared.I32Point.{I32Point}
+use Rattle.tzb_core.specs.Varint.{atEnd}
+use Rattle.tzb_core.specs.Points.{firstOf, nextAt}
+
+-- who walks: what a refusal comes to, and what the end at the last point; and what a point, and the segment from one point to the next, make of what comes after them
+pub record Walker (R : Type 0) : Type 0 where
+  pub stop : Refusal → R
+  pub last : I32Point → R
+  pub point : I32Point → R → R
+  pub segment : I32Point → I32Point → R → R
+
+-- an answer, and the way on from it; a refusal ends the walk
+abbrev pub follow : {A R : Type 0} → Walker R → Answer A → (A → R) → R
+follow w (ok a) f = f a
+follow w (refused r) f = w .stop r
+
+-- past the segment from q to t, and past t
+abbrev pub reach : {R : Type 0} → Walker R → I32Point → I32Point → R → R
+reach w q t x = w .segment q t (w .point t x)
+
+-- from q on, over n points more, whose bytes stand at k
+unfoldable pub along : {R : Type 0} → Walker R → List ℕ → ℕ → I32Point → ℕ → R
+along w s zero q k = follow w (need 43 (atEnd s k) (ok q)) (w .last)
+along w s (suc n) q k = follow w (nextAt s q k) (λ t. reach w q (t .0) (along w s n (t .0) (t .1)))
+
+-- a chunk of n points
+unfoldable pub walkOf : {R : Type 0} → Walker R → List ℕ → ℕ → R
+walkOf w s n = follow w (need 32 (ltb 0 n) (firstOf s)) (λ t. w .point (t .0) (along w s (n - 1) (t .0) (t .1)))
+
+-- the same over points that are known
+unfoldable pub overFrom : {R : Type 0} → Walker R → I32Point → List I32Point → R
+overFrom w q [] = w .last q
+overFrom w q (t ∷ l) = reach w q t (overFrom w t l)
+
+-- ---- laws: the cases of the code
+module _ {R : Type 0} (w : Walker R) (s : List ℕ) (n : ℕ) where
+  pub walk-none : n ≡ 0 → w .stop (refusal 32) ≡ walkOf w s n
+  unfolding walkOf
+  walk-none z = rw z
+
+  module _ (h : 0 < n) where
+    pub walk-no : (r : Refusal) → refused r ≡ firstOf s → w .stop r ≡ walkOf w s n
+    unfolding walkOf
+    walk-no r e = rw (lt-ltb 0 n h, ← e)
+
+    pub walk-from : (q : I32Point) (k : ℕ) → ok (q, k) ≡ firstOf s → w .point q (along w s (n - 1) q k) ≡ walkOf w s n
+    unfolding walkOf
+    walk-from q k e = rw (lt-ltb 0 n h, ← e)
+
+-- ---- what the code's steps answer
+-- from q on, where the answer to what comes next is a
+unfoldable pub alongBy : {R : Type 0} → Walker R → List ℕ → ℕ → I32Point → ℕ → Answer (I32Point × ℕ) → R
+alongBy w s zero q k a = follow w (need 43 (atEnd s k) (ok q)) (w .last)
+alongBy w s (suc n) q k a = follow w a (λ t. reach w q (t .0) (along w s n (t .0) (t .1)))
+
+module _ {R : Type 0} (w : Walker R) (s : List ℕ) (q : I32Point) where
+  pub along-by : (n k : ℕ) → alongBy w s n q k (nextAt s q k) ≡ along w s n q k
+  unfolding alongBy along
+  along-by zero k = refl
+  along-by (suc n) k = refl
+
+  module _ (n k : ℕ) (a : Answer (I32Point × ℕ)) where
+    pub by-left : n ≡ 0 → atEnd s k ≡ false → w .stop (refusal 43) ≡ alongBy w s n q k a
+    unfolding alongBy
+    by-left z h = rw (z, h)
+
+    pub by-end : n ≡ 0 → atEnd s k ≡ true → w .last q ≡ alongBy w s n q k a
+    unfolding alongBy
+    by-end z h = rw (z, h)
+
+    module _ (h : 0 < n) where
+      by-one : alongBy w s n q k a ≡ follow w a (λ t. reach w q (t .0) (along w s (n - 1) (t .0) (t .1)))
+      unfolding alongBy
+      by-one = let one : n ≡ suc (n - 1) = omega arith in ap (λ (j : ℕ). alongBy w s j q k a) one
+
+      pub by-no : (r : Refusal) → refused r ≡ a → w .stop r ≡ alongBy w s n q k a
+      by-no r e = rw (by-one, ← e)
+
+      pub by-to : (t : I32Point) (m : ℕ) → ok (t, m) ≡ a → reach w q t (along w s (n - 1) t m) ≡ alongBy w s n q k a
+      by-to t m e = rw (by-one, ← e)
+
+  -- the place itself does not matter while points are left
+  pub by-there : (n k m : ℕ) (a b : Answer (I32Point × ℕ)) → 0 < n → b ≡ a → alongBy w s n q m b ≡ alongBy w s n q k a
+  by-there n k m a b h e =
+      by-one n m b h
+      ∙ ap (λ (c : Answer (I32Point × ℕ)). follow w c (λ t. reach w q (t .0) (along w s (n - 1) (t .0) (t .1)))) e
+      ∙ sym (by-one n k a h)
