@@ -11,7 +11,7 @@ use Rattle.plane.specs.Domain.{inDomain}
 use Rattle.plane.specs.Lines.{every, some, firstOf, lastOf, ringTally}
 use Rattle.boxes.specs.declared.BBox.{BBox}
 use Rattle.boxes.specs.Box.{boxInDomain}
-pub use Rattle.boxes.specs.Box.{inBox}
+unfoldable pub use Rattle.boxes.specs.Box.{inBox}
 
 -- ---- the shapes
 -- a box, and at least one point
