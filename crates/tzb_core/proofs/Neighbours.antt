@@ -1,4 +1,4 @@
--- A chunk whose points are known: its scan is the tally of the ray test over neighbouring points, its first point read alone is the first of them, there are as many as were asked for, and all lie in the domain.
+-- A chunk whose points are known: its scan is the tally of the ray test over neighbouring points, its first point read alone is the first of them, there are as many as were asked for, and all lie in the domain. The trace of a box is told by what decoding answers.
 -- Assumes nothing.
 use Prim.Native.Nat.{ℕ, zero, suc, _-_}
 use native.Mathlib.Omega.{arith}
@@ -76,7 +76,7 @@ none-of : (s : List ℕ) (q : I32Point) (k : ℕ) (l : List I32Point) → ok l �
 none-of s q k l e = let h = need-inv 43 (atEnd s k) (ok []) l (e ∙ points-last s q k) in (h .0, ok-inv _ _ (h .1))
 
 -- the walk goes over the points, whoever walks
-along-list : {R : Type 0} (w : Walker R) (s : List ℕ) (n : ℕ) (q : I32Point) (k : ℕ) (l : List I32Point) → ok l ≡ pointsFrom s n q k → along w s n q k ≡ overFrom w q l
+pub along-list : {R : Type 0} (w : Walker R) (s : List ℕ) (n : ℕ) (q : I32Point) (k : ℕ) (l : List I32Point) → ok l ≡ pointsFrom s n q k → along w s n q k ≡ overFrom w q l
 unfolding along overFrom
 along-list w s zero q k l e = let h = none-of s q k l e in rw (h .0, h .1)
 along-list w s (suc n) q k l e =
@@ -94,7 +94,7 @@ module _ {R : Type 0} (w : Walker R) (keeps : (q t : I32Point) (r : Refusal) →
   reach-points q t (ok l) = refl
   reach-points q t (refused r) = sym (keeps q t r)
 
-  along-points : (s : List ℕ) (n : ℕ) (q : I32Point) (k : ℕ) → along w s n q k ≡ follow w (pointsFrom s n q k) (overFrom w q)
+  pub along-points : (s : List ℕ) (n : ℕ) (q : I32Point) (k : ℕ) → along w s n q k ≡ follow w (pointsFrom s n q k) (overFrom w q)
   unfolding along overFrom
   along-points s zero q k = tested (atEnd s k) ∙ ap (λ (x : Answer (List I32Point)). follow w x (overFrom w q)) (sym (points-last s q k))
     where

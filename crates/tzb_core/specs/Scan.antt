@@ -2,7 +2,7 @@
 -- Assumes nothing.
 use Prim.Native.Nat.{ℕ, _-_, _≤_, _<_}
 use mathlib.Core.Path.{_≡_}
-use mathlib.Core.Bool.{Bool, true, false, _&&_, _||_}
+use mathlib.Core.Bool.{Bool, true, _&&_, _||_}
 use mathlib.Core.List.{List}
 use lib.IntN.{ℤ, natAbs}
 use lib.Signed.{ltZ}
@@ -37,7 +37,7 @@ scanner p = record {
   segment = λ q t w. past (rayOf q t p) t go λ u. w;
 }
 
--- from q on, over n points more, to the last point
+-- from q on, over n points more
 unfoldable pub onward : List ℕ → Point → ℕ → I32Point → ℕ → Walk I32Point
 onward s p n q k = along (scanner p) s n q k
 
@@ -65,7 +65,7 @@ module _ (s : List ℕ) (n : ℕ) (p : Point) where
   unfolding scanOf onward
   scan-from h q k e = walk-from (scanner p) s n h q k e
 
--- past a segment of which e is seen
+-- past a segment, by what is seen of it
 module _ (p : Point) (q t : I32Point) (x : Walk I32Point) where
   pub segment-on : On ≡ rayOf q t p → on ≡ reach (scanner p) q t x
   segment-on e = rw (← e)

@@ -1,7 +1,7 @@
 -- Document 01, "What the full check demands", of one chunk's points: that they decode (F3), whether a box covers them all (F4), and which is the last (F5).
 -- Assumes nothing.
 use Prim.Native.Nat.{ℕ}
-use mathlib.Core.Path.{_≡_, refl, sym, ap, _∙_}
+use mathlib.Core.Path.{_≡_, refl, ap, _∙_}
 use mathlib.Core.Bool.{Bool, true, false, _&&_}
 use mathlib.Core.List.{List}
 use Rattle.answer.specs.declared.Refusal.{Refusal}
