@@ -6,8 +6,7 @@ use Rattle.basics.specs.Parity.{_⊻_}
 use Rattle.rounding.specs.Upward.{nextUp}
 use Rattle.plane.specs.declared.Point.{Point}
 use Rattle.plane.specs.declared.I32Point.{I32Point}
-use Rattle.plane.specs.declared.Seen.{Seen}
-use Rattle.plane.specs.declared.Seen.the-variants.{On, Off}
+use Rattle.plane.specs.Sight.{Sight, On, Off}
 
 -- ---- quick y-range rejection: y is above or below both ends
 abbrev pub outside : Float → Float → Float → Bool
@@ -67,7 +66,7 @@ crosses ax ay bx by x y =
     cond (missed ay by y) false (cond (lt bx ax) (shortcut bx ax x (steep ax ay bx by x y)) (shortcut ax bx x (steep ax ay bx by x y)))
 
 -- ---- the whole
-unfoldable pub rayAt : Float → Float → Float → Float → Float → Float → Seen
+unfoldable pub rayAt : Float → Float → Float → Float → Float → Float → Sight
 rayAt ax ay bx by x y =
     cond (away ay by y) (Off false)
     (cond (degenerate ax ay bx by) (cond (eq x ax && eq y ay) On (Off false))
@@ -80,7 +79,7 @@ abbrev pub pointOf : I32Point → Point
 pointOf q = record { x = ofInt binary64 (q .x); y = ofInt binary64 (q .y) }
 
 -- what p sees of the segment from a to b: it is on it, or else whether the segment counts
-unfoldable pub rayOf : I32Point → I32Point → Point → Seen
+unfoldable pub rayOf : I32Point → I32Point → Point → Sight
 rayOf a b p = rayAt (ofInt binary64 (a .x)) (ofInt binary64 (a .y)) (ofInt binary64 (b .x)) (ofInt binary64 (b .y)) (p .x) (p .y)
 
 -- q is above p

@@ -16,8 +16,7 @@ use Rattle.answer.specs.Answers.{ok, refused}
 use Rattle.answer.specs.Walks.{Walk, broken, on, off, add, _go_, _yields_, done, must}
 use Rattle.plane.specs.declared.Point.{Point}
 use Rattle.plane.specs.declared.I32Point.{I32Point}
-use Rattle.plane.specs.declared.Seen.{Seen}
-use Rattle.plane.specs.declared.Seen.the-variants.{On, Off}
+use Rattle.plane.specs.Sight.{Sight, On, Off}
 use Rattle.boxes.specs.Box.{float}
 use Rattle.tzb_core.specs.Ray.{rayOf}
 use Rattle.tzb_core.specs.Varint.{atEnd}
@@ -27,7 +26,7 @@ use Rattle.tzb_core.specs.declared.chunk.Scan.{Scan}
 use Rattle.tzb_core.specs.declared.chunk.Scan.the-variants as S
 
 -- what is seen of a segment, as a walk that hands on a
-abbrev pub past : {A : Type 0} → Seen → A → Walk A
+abbrev pub past : {A : Type 0} → Sight → A → Walk A
 past On a = on
 past (Off b) a = off b a
 
@@ -56,7 +55,7 @@ module _ (s : List ℕ) (p : Point) (q : I32Point) (k : ℕ) where
   unfolding stepAt
   step-no r e = rw (← e)
 
-  pub step-at : (t : I32Point) (m : ℕ) → ok (t, m) ≡ nextAt s q k → (e : Seen) → e ≡ rayOf q t p → past e (t, m) ≡ stepAt s p q k
+  pub step-at : (t : I32Point) (m : ℕ) → ok (t, m) ≡ nextAt s q k → (e : Sight) → e ≡ rayOf q t p → past e (t, m) ≡ stepAt s p q k
   unfolding stepAt
   step-at t m e y f = rw (← e, f)
 
