@@ -1,4 +1,4 @@
--- Document 01, "Asking": the ray test takes i32 ends and any f64 point, one rounding per operation, next float upward from the bits. This is raycast.rs in its order; `sub` and `div` are the exact difference and quotient, rounded once, `lt`, `le`, `eq` are the comparisons of IEEE 754, false where a NaN stands. `nextUp` stands in rounding/specs/Upward, the types in plane/src/lib.rt.
+-- Document 01, "Asking": the ray test takes i32 ends and any f64 point, one rounding per operation, next float upward from the bits. This is raycast.rs in its order; `sub` and `div` are the exact difference and quotient, rounded once, `lt`, `le`, `eq` are the comparisons of IEEE 754, false where a NaN stands. `nextUp` stands in rounding/specs/Upward, the points in plane/src/lib.rt, what is seen in plane/specs/Sight.
 -- Assumes nothing.
 use mathlib.Core.Bool.{Bool, true, false, _&&_, _||_, cond}
 use lib.Ieee.{Float, binary64, lt, le, eq, sub, div, ofInt}
