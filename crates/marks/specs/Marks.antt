@@ -8,8 +8,8 @@ use lib.Dec.{eqb}
 use lib.IntN.{ℤ, pos, negsuc}
 use lib.ListN.{length}
 use Rattle.plane.specs.declared.I32Point.{I32Point}
-use Rattle.plane.specs.declared.Seen.{Seen}
-use Rattle.plane.specs.declared.Seen.the-variants as S
+use Rattle.plane.specs.Sight.{Sight}
+use Rattle.plane.specs.Sight as S
 use Rattle.plane.specs.Segment.{cross, amidZ, onZ, countsZ, seg}
 use Rattle.answer.specs.declared.Refusal.{Refusal}
 use Rattle.answer.specs.declared.Checked.{Checked}
@@ -81,7 +81,7 @@ numberOf s (ok a) = onlyIf (eqb (a .1) (length s)) (a .0)
     onlyIf false z = neither
 numberOf s (refused r) = refusedBy (r .number)
 
-seenOf : Seen → Expected
+seenOf : Sight → Expected
 seenOf S.On = on
 seenOf (S.Off true) = counts
 seenOf (S.Off false) = neither

@@ -6,7 +6,7 @@ use lib.IntN.{pos}
 use Rattle.basics.specs.Truth.{and-i, and-l, and-r}
 use Rattle.basics.specs.Parity.{_⊻_, ⊻-self, ⊻-mid}
 use Rattle.plane.specs.declared.I32Point.{I32Point}
-use Rattle.plane.specs.declared.Seen.{Seen}
+use Rattle.plane.specs.Sight.{Sight}
 use Rattle.plane.specs.Tally.{Off, _⊕_, none, ⊕-idl, ⊕-idr, ⊕-assoc, ⊕-swap}
 use Rattle.plane.specs.Segment.{same}
 use Rattle.plane.specs.Turns.{same-true}
@@ -88,32 +88,32 @@ every-last P a (b ∷ r) p q = every-last P b r (and-l (P b) (every P r) q) (and
 pub record Stretch : Type 0 where
   pub from : I32Point
   pub to : I32Point
-  pub tally : Seen
+  pub tally : Sight
 
-pub stretch-is : {a b c d : I32Point} {u v : Seen} → a ≡ b → c ≡ d → u ≡ v → _≡_ {A = Stretch} (record { from = a; to = c; tally = u }) (record { from = b; to = d; tally = v })
-stretch-is {a} {b} {c} {d} {u} {v} p q r = ap₂ (λ (x : I32Point) (y : I32Point). record { from = x; to = y; tally = u }) p q ∙ ap (λ (t : Seen). record { from = b; to = d; tally = t }) r
+pub stretch-is : {a b c d : I32Point} {u v : Sight} → a ≡ b → c ≡ d → u ≡ v → _≡_ {A = Stretch} (record { from = a; to = c; tally = u }) (record { from = b; to = d; tally = v })
+stretch-is {a} {b} {c} {d} {u} {v} p q r = ap₂ (λ (x : I32Point) (y : I32Point). record { from = x; to = y; tally = u }) p q ∙ ap (λ (t : Sight). record { from = b; to = d; tally = t }) r
 
-module _ (seg : I32Point → I32Point → Seen) where
+module _ (seg : I32Point → I32Point → Sight) where
   -- the segments from a on through the points of a list
-  abbrev pub chain : I32Point → List I32Point → Seen
+  abbrev pub chain : I32Point → List I32Point → Sight
   chain a [] = none
   chain a (b ∷ r) = seg a b ⊕ chain b r
 
   -- the segments between neighbouring points
-  abbrev pub line : List I32Point → Seen
+  abbrev pub line : List I32Point → Sight
   line [] = none
   line (a ∷ r) = chain a r
 
   -- from the end of one stretch to the start of the next: a segment, wherever the two differ
-  abbrev pub link : I32Point → I32Point → Seen
+  abbrev pub link : I32Point → I32Point → Sight
   link a b = cond (same a b) none (seg a b)
 
-  abbrev pub onward : I32Point → I32Point → List Stretch → Seen
+  abbrev pub onward : I32Point → I32Point → List Stretch → Sight
   onward first last [] = link last first
   onward first last (s ∷ ss) = link last (s .from) ⊕ (s .tally ⊕ onward first (s .to) ss)
 
   -- all stretches, with the links between them and round to the start
-  abbrev pub around : List Stretch → Seen
+  abbrev pub around : List Stretch → Sight
   around [] = none
   around (s ∷ ss) = s .tally ⊕ onward (s .from) (s .to) ss
 
@@ -121,7 +121,7 @@ module _ (seg : I32Point → I32Point → Seen) where
   stretch l = record { from = firstOf l; to = lastOf l; tally = line l }
 
   -- a ring of lines
-  abbrev pub ringTally : List (List I32Point) → Seen
+  abbrev pub ringTally : List (List I32Point) → Sight
   ringTally ls = around (map stretch ls)
 
   -- ---- a line may be cut at any of its points

@@ -9,17 +9,17 @@ use lib.Dec.{eqb}
 use borrow.Author.Tests.{eqb-true, eqb-false}
 use Rattle.basics.specs.Truth.{and-i, and-l, and-r}
 use Rattle.basics.specs.Parity.{_⊻_}
-use Rattle.plane.specs.declared.Seen.{Seen}
+use Rattle.plane.specs.Sight.{Sight}
 use Rattle.plane.specs.Tally.{On, Off, _⊕_, ⊕-assoc}
 use Rattle.plane.specs.Lines.{every, some}
 
 -- ---- a tally that a loop adds up: `acc` so far, then s, then the rest
-pub add-off : (acc q : Bool) (s rest all : Seen) → s ≡ Off q → Off acc ⊕ (s ⊕ rest) ≡ all → Off (acc ⊻ q) ⊕ rest ≡ all
-add-off acc q s rest all e h = ⊕-assoc (Off acc) (Off q) rest ∙ ap (λ (t : Seen). Off acc ⊕ (t ⊕ rest)) (sym e) ∙ h
+pub add-off : (acc q : Bool) (s rest all : Sight) → s ≡ Off q → Off acc ⊕ (s ⊕ rest) ≡ all → Off (acc ⊻ q) ⊕ rest ≡ all
+add-off acc q s rest all e h = ⊕-assoc (Off acc) (Off q) rest ∙ ap (λ (t : Sight). Off acc ⊕ (t ⊕ rest)) (sym e) ∙ h
 
 -- On ends the walk
-pub add-on : (acc : Bool) (s rest all : Seen) → s ≡ On → Off acc ⊕ (s ⊕ rest) ≡ all → On ≡ all
-add-on acc s rest all e h = ap (λ (t : Seen). Off acc ⊕ (t ⊕ rest)) (sym e) ∙ h
+pub add-on : (acc : Bool) (s rest all : Sight) → s ≡ On → Off acc ⊕ (s ⊕ rest) ≡ all → On ≡ all
+add-on acc s rest all e h = ap (λ (t : Sight). Off acc ⊕ (t ⊕ rest)) (sym e) ∙ h
 
 module _ {A : Type 0} where
   -- what stands at the n places from i on

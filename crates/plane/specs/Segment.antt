@@ -5,7 +5,7 @@ use lib.IntN.{ℤ, pos, _-ℤ_, _*ℤ_}
 use lib.Signed.{ltZ, leZ}
 use Rattle.basics.specs.Whole.{isZero, eqZ}
 use Rattle.plane.specs.declared.I32Point.{I32Point}
-use Rattle.plane.specs.declared.Seen.{Seen}
+use Rattle.plane.specs.Sight.{Sight}
 use Rattle.plane.specs.Tally.{On, Off}
 
 -- (b - a) × (p - a): above 0 where p is to the left of the way from a to b
@@ -27,7 +27,7 @@ countsZ ax ay bx by px py =
     || ((leZ by py && ltZ py ay) && ltZ (cross ax ay bx by px py) (pos 0))
 
 -- what p sees of the segment from a to b
-unfoldable pub seg : I32Point → I32Point → I32Point → Seen
+unfoldable pub seg : I32Point → I32Point → I32Point → Sight
 seg p a b = cond (onZ (a .x) (a .y) (b .x) (b .y) (p .x) (p .y)) On (Off (countsZ (a .x) (a .y) (b .x) (b .y) (p .x) (p .y)))
 
 -- a is above p

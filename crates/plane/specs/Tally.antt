@@ -3,48 +3,48 @@
 use mathlib.Core.Path.{_≡_, refl, sym, ap, _∙_}
 use mathlib.Core.Bool.{Bool, true, false}
 use Rattle.basics.specs.Parity.{_⊻_, ⊻-idr, ⊻-comm, ⊻-assoc}
-use Rattle.plane.specs.declared.Seen.{Seen}
-pub use Rattle.plane.specs.declared.Seen.the-variants.{On, Off}
+use Rattle.plane.specs.Sight.{Sight}
+pub use Rattle.plane.specs.Sight.{On, Off}
 
 -- as a walk adds up: once On, the rest is not looked at
 infixl 35 _⊕_
-abbrev pub _⊕_ : Seen → Seen → Seen
+abbrev pub _⊕_ : Sight → Sight → Sight
 On ⊕ t = On
 Off p ⊕ On = On
 Off p ⊕ Off q = Off (p ⊻ q)
 
 -- nothing seen
-abbrev pub none : Seen
+abbrev pub none : Sight
 none = Off false
 
-pub ⊕-idl : (t : Seen) → none ⊕ t ≡ t
+pub ⊕-idl : (t : Sight) → none ⊕ t ≡ t
 ⊕-idl On = refl
 ⊕-idl (Off p) = refl
 
-pub ⊕-idr : (t : Seen) → t ⊕ none ≡ t
+pub ⊕-idr : (t : Sight) → t ⊕ none ≡ t
 ⊕-idr On = refl
 ⊕-idr (Off p) = ap Off (⊻-idr p)
 
-pub ⊕-on : (t : Seen) → t ⊕ On ≡ On
+pub ⊕-on : (t : Sight) → t ⊕ On ≡ On
 ⊕-on On = refl
 ⊕-on (Off p) = refl
 
-pub ⊕-comm : (s t : Seen) → s ⊕ t ≡ t ⊕ s
+pub ⊕-comm : (s t : Sight) → s ⊕ t ≡ t ⊕ s
 ⊕-comm On t = sym (⊕-on t)
 ⊕-comm (Off p) On = refl
 ⊕-comm (Off p) (Off q) = ap Off (⊻-comm p q)
 
-pub ⊕-assoc : (s t u : Seen) → s ⊕ t ⊕ u ≡ s ⊕ (t ⊕ u)
+pub ⊕-assoc : (s t u : Sight) → s ⊕ t ⊕ u ≡ s ⊕ (t ⊕ u)
 ⊕-assoc On t u = refl
 ⊕-assoc (Off p) On u = refl
 ⊕-assoc (Off p) (Off q) On = refl
 ⊕-assoc (Off p) (Off q) (Off r) = ap Off (⊻-assoc p q r)
 
 -- the second summand first
-pub ⊕-swap : (s t u : Seen) → s ⊕ (t ⊕ u) ≡ t ⊕ (s ⊕ u)
+pub ⊕-swap : (s t u : Sight) → s ⊕ (t ⊕ u) ≡ t ⊕ (s ⊕ u)
 ⊕-swap s t u = sym (⊕-assoc s t u) ∙ ap (λ x. x ⊕ u) (⊕-comm s t) ∙ ⊕-assoc t s u
 
 -- the answer, where a point on a segment gets `edge`
-abbrev pub verdict : Bool → Seen → Bool
+abbrev pub verdict : Bool → Sight → Bool
 verdict edge On = edge
 verdict edge (Off p) = p

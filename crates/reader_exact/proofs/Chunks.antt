@@ -8,7 +8,7 @@ use lib.Dec.{ltb}
 use Rattle.basics.specs.Truth.{and-i}
 use Rattle.plane.specs.declared.Point.{Point}
 use Rattle.plane.specs.declared.I32Point.{I32Point}
-use Rattle.plane.specs.declared.Seen.{Seen}
+use Rattle.plane.specs.Sight.{Sight}
 use Rattle.plane.specs.Tally.{none}
 use Rattle.plane.specs.Lines.{every, lastFrom, chain}
 use Rattle.plane.specs.Domain.{inDomain}
@@ -76,7 +76,7 @@ holds o s i g =
         }
 
 -- the segments between the points of a chunk, and its last point
-abbrev through : Point → Chunk → Seen
+abbrev through : Point → Chunk → Sight
 through p c = chain (λ a b. rayOf a b p) (c .first) (c .rest)
 
 abbrev last : Chunk → I32Point

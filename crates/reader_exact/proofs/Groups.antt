@@ -7,7 +7,7 @@ use mathlib.Core.Bool.{Bool, true, false}
 use mathlib.Core.List.{List, [], _∷_}
 use Rattle.plane.specs.declared.Point.{Point}
 use Rattle.plane.specs.declared.I32Point.{I32Point}
-use Rattle.plane.specs.declared.Seen.{Seen}
+use Rattle.plane.specs.Sight.{Sight}
 use Rattle.plane.specs.Tally.{⊕-idr}
 use Rattle.plane.specs.Runs.{run}
 use Rattle.boxes.specs.Box.{relevant, right}
@@ -45,7 +45,7 @@ module _ (o : Opened) (s : List ℕ) (p : Point) where
     unfolding chunksFrom chunksWalk run
     chunks-walk exit zero i j h =
         last-walk o s i h p exit
-        ∙ ap (λ (u : Seen). past u tt) (sym (⊕-idr (chunkWalk (floatTests p) exit (chunkShape o s i) [])))
+        ∙ ap (λ (u : Sight). past u tt) (sym (⊕-idr (chunkWalk (floatTests p) exit (chunkShape o s i) [])))
     chunks-walk exit (suc n) i j h =
         let g = held (i + 1) (omega arith) in
         let ds = run (chunkShape o s) n (i + 1 + 1) in

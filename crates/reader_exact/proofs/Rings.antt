@@ -8,7 +8,7 @@ use mathlib.Core.List.{List, _∷_, map}
 use lib.Dec.{ltb}
 use Rattle.plane.specs.declared.Point.{Point}
 use Rattle.plane.specs.declared.I32Point.{I32Point}
-use Rattle.plane.specs.declared.Seen.{Seen}
+use Rattle.plane.specs.Sight.{Sight}
 use Rattle.plane.specs.Tally as Tally
 use Rattle.plane.specs.Tally.{_⊕_, none, ⊕-assoc}
 use Rattle.plane.specs.Segment.{same}
@@ -55,7 +55,7 @@ joint-link p a b = either (same a b)
     either false = refl
 
 module _ (o : Opened) (s : List ℕ) (k : Sound o s) (p : Point) where
-  abbrev seg : I32Point → I32Point → Seen
+  abbrev seg : I32Point → I32Point → Sight
   seg a b = rayOf a b p
 
   -- op i, as a stretch of its ring
@@ -103,7 +103,7 @@ module _ (o : Opened) (s : List ℕ) (k : Sound o s) (p : Point) where
       go-assoc (opStep o s p i z) (λ w. opsFrom o s p n (i + 1) w) (λ w. ringEnd p r start w)
       ∙ rw (step-walk i (omega arith) z)
       (past-go (link seg (z .exit) (leg i .from) ⊕ leg i .tally) next (λ w. opsFrom o s p n (i + 1) w go λ y. ringEnd p r start y) later tt (ops-walk r start n (i + 1) (omega arith) next (ap (countRule r) one ∙ e))
-      ∙ ap (λ (u : Seen). past u tt) (⊕-assoc (link seg (z .exit) (leg i .from)) (leg i .tally) later))
+      ∙ ap (λ (u : Sight). past u tt) (⊕-assoc (link seg (z .exit) (leg i .from)) (leg i .tally) later))
 
   -- ---- a ring
   module _ (i : ℕ) (h : i < o .rings .count) where
@@ -137,7 +137,7 @@ module _ (o : Opened) (s : List ℕ) (k : Sound o s) (p : Point) where
   unfolding ringContains ringWalk Layout.ringAt directories
   ring-walk edge i h = rw (← ring-is o s k i h) (either (contains (ringRecord o s i .bbox) p))
     where
-      legs : Seen
+      legs : Sight
       legs = around seg (map (legWalk (floatTests p)) (run (legAt (directories o s)) (ringRecord o s i .count) (ringRecord o s i .first)))
 
       either : (b : Bool) → cond b (verdict edge (ringOf o s p (ringRecord o s i))) (ok false) ≡ ok (b && Tally.verdict edge legs)

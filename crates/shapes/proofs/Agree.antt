@@ -6,8 +6,7 @@ use mathlib.Core.List.{List, [], _∷_, map}
 use Rattle.basics.specs.Truth.{and-l, and-r, and4}
 use Rattle.basics.specs.Parity.{_⊻_}
 use Rattle.plane.specs.declared.I32Point.{I32Point}
-use Rattle.plane.specs.declared.Seen.{Seen}
-use Rattle.plane.specs.declared.Seen.the-variants.{Off}
+use Rattle.plane.specs.Sight.{Sight, Off}
 use Rattle.plane.specs.Tally.{_⊕_, none, verdict}
 use Rattle.plane.specs.Segment.{same}
 use Rattle.plane.specs.Domain.{inDomain}
@@ -122,20 +121,20 @@ module _ (t u : Tests) (k : Agree t u) where
   onward-agree first last [] i j h = link-agree last first j i
   onward-agree first last (l ∷ ls) i j h =
       let here = and-l (legInDomain l) (every legInDomain ls) h in
-      ap₂ (λ (x y : Seen). x ⊕ (legWalk t l .tally ⊕ y)) (link-agree last (legWalk t l .from) j (from-in l here)) (onward-agree first (legWalk t l .to) ls i (to-in l here) (and-r (legInDomain l) (every legInDomain ls) h))
+      ap₂ (λ (x y : Sight). x ⊕ (legWalk t l .tally ⊕ y)) (link-agree last (legWalk t l .from) j (from-in l here)) (onward-agree first (legWalk t l .to) ls i (to-in l here) (and-r (legInDomain l) (every legInDomain ls) h))
 
   around-agree : (ls : List Leg) → every legInDomain ls ≡ true → around (t .seg) (map (legWalk t) ls) ≡ around (u .seg) (map (legWalk u) ls)
   around-agree [] h = refl
   around-agree (l ∷ ls) h =
       let here = and-l (legInDomain l) (every legInDomain ls) h in
-      ap (λ (x : Seen). legWalk t l .tally ⊕ x) (onward-agree (legWalk t l .from) (legWalk t l .to) ls (from-in l here) (to-in l here) (and-r (legInDomain l) (every legInDomain ls) h))
+      ap (λ (x : Sight). legWalk t l .tally ⊕ x) (onward-agree (legWalk t l .from) (legWalk t l .to) ls (from-in l here) (to-in l here) (and-r (legInDomain l) (every legInDomain ls) h))
       ∙ ap (around (u .seg)) (legs-agree (l ∷ ls) h)
 
   -- ---- rings, polygons, zones
   ring-agree : (edge : Bool) (r : Ring) → ringInDomain r ≡ true → ringWalk t edge r ≡ ringWalk u edge r
   unfolding ringWalk ringInDomain
   ring-agree edge r h =
-      ap₂ (λ (x : Bool) (y : Seen). x && verdict edge y)
+      ap₂ (λ (x : Bool) (y : Sight). x && verdict edge y)
       (k .contains (r .box) (and-l (boxInDomain (r .box)) (every legInDomain (r .legs)) h))
       (around-agree (r .legs) (and-r (boxInDomain (r .box)) (every legInDomain (r .legs)) h))
 

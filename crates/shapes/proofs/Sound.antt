@@ -8,7 +8,7 @@ use Rattle.basics.specs.Truth.{and-i, and-l, and-r, and3}
 use Rattle.basics.specs.Parity.{_⊻_, ⊻-comm}
 use Rattle.basics.specs.Whole.{le-le}
 use Rattle.plane.specs.declared.I32Point.{I32Point}
-use Rattle.plane.specs.declared.Seen.the-variants.{Off}
+use Rattle.plane.specs.Sight.{Off}
 use Rattle.plane.specs.Tally.{_⊕_, none, ⊕-idr, verdict}
 use Rattle.plane.specs.Segment.{same}
 use Rattle.plane.specs.Turns.{same-true}

@@ -6,7 +6,7 @@ use lib.Signed.{ltZ, leZ}
 use Rattle.basics.specs.Parity.{_⊻_}
 use Rattle.basics.specs.Whole.{le-not-lt, lt-le, le-lt, not-le-lt}
 use Rattle.plane.specs.declared.I32Point.{I32Point}
-use Rattle.plane.specs.declared.Seen.the-variants.{Off}
+use Rattle.plane.specs.Sight.{Off}
 use Rattle.plane.specs.Tally.{none}
 use Rattle.plane.specs.Segment.{seg, above}
 use Rattle.plane.specs.Turns.{seg-swap, seg-left, seg-right, seg-under, seg-over}

@@ -5,27 +5,26 @@ use mathlib.Core.Path.{_≡_, refl, sym, ap, ap₂, _∙_}
 use mathlib.Core.Bool.{Bool, true, false, _||_, cond}
 use mathlib.Core.List.{List, [], _∷_, _++_, map}
 use Rattle.plane.specs.declared.I32Point.{I32Point}
-use Rattle.plane.specs.declared.Seen.{Seen}
-use Rattle.plane.specs.declared.Seen.the-variants.{On, Off}
+use Rattle.plane.specs.Sight.{Sight, On, Off}
 use Rattle.plane.specs.Tally.{_⊕_, none, ⊕-idl, ⊕-idr, ⊕-assoc, verdict}
 use Rattle.plane.specs.Segment.{same}
 use Rattle.plane.specs.Lines.{firstOf, lastOf, chain, line, link, onward, stretch, ringTally}
 use Rattle.shapes.specs.Shapes.{Ring, legPoints, ringIn}
 use Rattle.shapes.specs.Words.{Side, sidesFrom, neighbours, joining, roundTo, sidesOf, ringSides, isOn, countsIn, odd, onAny, counted}
 
-module _ (seg : I32Point → I32Point → Seen) where
+module _ (seg : I32Point → I32Point → Sight) where
   -- ---- the tally of a list of segments
-  abbrev tally : List Side → Seen
+  abbrev tally : List Side → Sight
   tally [] = none
   tally (e ∷ l) = seg (e .from) (e .to) ⊕ tally l
 
   tally-append : (l m : List Side) → tally (l ++ m) ≡ tally l ⊕ tally m
   tally-append [] m = sym (⊕-idl (tally m))
-  tally-append (e ∷ l) m = ap (λ (t : Seen). seg (e .from) (e .to) ⊕ t) (tally-append l m) ∙ sym (⊕-assoc (seg (e .from) (e .to)) (tally l) (tally m))
+  tally-append (e ∷ l) m = ap (λ (t : Sight). seg (e .from) (e .to) ⊕ t) (tally-append l m) ∙ sym (⊕-assoc (seg (e .from) (e .to)) (tally l) (tally m))
 
   chain-tally : (a : I32Point) (r : List I32Point) → chain seg a r ≡ tally (sidesFrom a r)
   chain-tally a [] = refl
-  chain-tally a (b ∷ r) = ap (λ (t : Seen). seg a b ⊕ t) (chain-tally b r)
+  chain-tally a (b ∷ r) = ap (λ (t : Sight). seg a b ⊕ t) (chain-tally b r)
 
   line-tally : (l : List I32Point) → line seg l ≡ tally (neighbours l)
   line-tally [] = refl
@@ -51,10 +50,10 @@ module _ (seg : I32Point → I32Point → Seen) where
       ∙ sym (tally-append (neighbours l) (roundTo (firstOf l) (lastOf l) ls))
 
   -- ---- and what it tells
-  abbrev said : Seen → Bool → ℕ → Seen
+  abbrev said : Sight → Bool → ℕ → Sight
   said s any n = cond (isOn s || any) On (Off (odd (countsIn s n)))
 
-  one-more : (s : Seen) (any : Bool) (n : ℕ) → s ⊕ cond any On (Off (odd n)) ≡ said s any n
+  one-more : (s : Sight) (any : Bool) (n : ℕ) → s ⊕ cond any On (Off (odd n)) ≡ said s any n
   one-more On any n = refl
   one-more (Off b) true n = refl
   one-more (Off true) false n = refl
@@ -63,7 +62,7 @@ module _ (seg : I32Point → I32Point → Seen) where
   tally-says : (l : List Side) → tally l ≡ cond (onAny seg l) On (Off (odd (counted seg l)))
   unfolding onAny counted
   tally-says [] = refl
-  tally-says (e ∷ l) = ap (λ (t : Seen). seg (e .from) (e .to) ⊕ t) (tally-says l) ∙ one-more (seg (e .from) (e .to)) (onAny seg l) (counted seg l)
+  tally-says (e ∷ l) = ap (λ (t : Sight). seg (e .from) (e .to) ⊕ t) (tally-says l) ∙ one-more (seg (e .from) (e .to)) (onAny seg l) (counted seg l)
 
   pub ring-in-words : (edge : Bool) (r : Ring) → ringIn seg edge r ≡ cond (onAny seg (ringSides r)) edge (odd (counted seg (ringSides r)))
   unfolding ringIn ringSides

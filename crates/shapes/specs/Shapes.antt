@@ -4,7 +4,7 @@ use mathlib.Core.Bool.{Bool, true, false, not, _&&_, cond}
 use mathlib.Core.List.{List, [], _∷_, _++_, map, reverse}
 use lib.Signed.{leZ}
 use Rattle.plane.specs.declared.I32Point.{I32Point}
-use Rattle.plane.specs.declared.Seen.{Seen}
+use Rattle.plane.specs.Sight.{Sight}
 use Rattle.plane.specs.Tally.{verdict}
 use Rattle.plane.specs.Segment.{same}
 use Rattle.plane.specs.Domain.{inDomain}
@@ -66,7 +66,7 @@ abbrev pub legPoints : Leg → List I32Point
 legPoints l = cond (l .turned) (reverse (groupPoints (l .group))) (groupPoints (l .group))
 
 -- for a test of segments, as `seg p` of plane/specs/Segment for the point p
-module _ (seg : I32Point → I32Point → Seen) where
+module _ (seg : I32Point → I32Point → Sight) where
   -- "A ring's segments: those between neighbouring points of each group, and one from each exit to the next entry, round to the start, wherever the two differ": `ringTally`, in plane/specs/Lines.
   -- "Not on any segment and an odd number counted: inside." On a segment: `edge`.
   unfoldable pub ringIn : Bool → Ring → Bool

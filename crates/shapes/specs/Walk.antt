@@ -6,8 +6,7 @@ use lib.Signed.{ltZ, leZ}
 use Rattle.basics.specs.Parity.{_⊻_}
 use Rattle.plane.specs.declared.Point.{Point}
 use Rattle.plane.specs.declared.I32Point.{I32Point}
-use Rattle.plane.specs.declared.Seen.{Seen}
-use Rattle.plane.specs.declared.Seen.the-variants.{Off}
+use Rattle.plane.specs.Sight.{Sight, Off}
 use Rattle.plane.specs.Tally.{_⊕_, none, verdict}
 use Rattle.plane.specs.Segment.{seg, above}
 use Rattle.plane.specs.Lines.{some, lastFrom, chain, Stretch, around}
@@ -27,7 +26,7 @@ pub record Tests : Type 0 where
   -- an end is above the point
   pub above : I32Point → Bool
   -- what the point sees of a segment
-  pub seg : I32Point → I32Point → Seen
+  pub seg : I32Point → I32Point → Sight
 
 -- in floats, at any point: those of tzb_core
 abbrev pub floatTests : Point → Tests
@@ -58,27 +57,27 @@ goal exit (c ∷ cs) = c .first
 
 module _ (t : Tests) where
   -- by two ends alone: whether one is above and the other is not
-  abbrev pub parity : I32Point → I32Point → Seen
+  abbrev pub parity : I32Point → I32Point → Sight
   parity a b = Off (t .above a ⊻ t .above b)
 
   -- from a chunk's last point to the next chunk's first
-  abbrev pub joint : I32Point → List Chunk → Seen
+  abbrev pub joint : I32Point → List Chunk → Sight
   joint a [] = none
   joint a (c ∷ cs) = t .seg a (c .first)
 
   -- a chunk: nothing, by its ends alone, or through its segments and the joint
-  unfoldable pub chunkWalk : I32Point → Chunk → List Chunk → Seen
+  unfoldable pub chunkWalk : I32Point → Chunk → List Chunk → Sight
   chunkWalk exit c cs =
       cond (t .relevant (c .box))
       (cond (t .right (c .box)) (parity (c .first) (goal exit cs)) (chain (t .seg) (c .first) (c .rest) ⊕ joint (lastFrom (c .first) (c .rest)) cs))
       none
 
-  unfoldable pub chunksWalk : I32Point → List Chunk → Seen
+  unfoldable pub chunksWalk : I32Point → List Chunk → Sight
   chunksWalk exit [] = none
   chunksWalk exit (c ∷ cs) = chunkWalk exit c cs ⊕ chunksWalk exit cs
 
   -- a group: nothing, by its ends alone, or through its chunks
-  unfoldable pub groupWalk : Group → Seen
+  unfoldable pub groupWalk : Group → Sight
   groupWalk g =
       cond (t .relevant (g .box))
       (cond (t .right (g .box)) (parity (g .entry) (g .exit)) (chunksWalk (g .exit) (groupChunks g)))

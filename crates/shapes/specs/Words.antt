@@ -4,8 +4,7 @@ use Prim.Native.Nat.{ℕ, zero, suc}
 use mathlib.Core.Bool.{Bool, true, false, not, cond}
 use mathlib.Core.List.{List, [], _∷_, _++_, map}
 use Rattle.plane.specs.declared.I32Point.{I32Point}
-use Rattle.plane.specs.declared.Seen.{Seen}
-use Rattle.plane.specs.declared.Seen.the-variants.{On, Off}
+use Rattle.plane.specs.Sight.{Sight, On, Off}
 use Rattle.plane.specs.Segment.{same}
 use Rattle.plane.specs.Lines.{some, firstOf, lastOf}
 use Rattle.shapes.specs.Shapes.{Ring, legPoints}
@@ -42,11 +41,11 @@ unfoldable pub ringSides : Ring → List Side
 ringSides r = sidesOf (map legPoints (r .legs))
 
 -- ---- "Not on any segment and an odd number counted: inside."
-abbrev pub isOn : Seen → Bool
+abbrev pub isOn : Sight → Bool
 isOn On = true
 isOn (Off b) = false
 
-abbrev pub countsIn : Seen → ℕ → ℕ
+abbrev pub countsIn : Sight → ℕ → ℕ
 countsIn On n = n
 countsIn (Off true) n = suc n
 countsIn (Off false) n = n
@@ -55,7 +54,7 @@ abbrev pub odd : ℕ → Bool
 odd zero = false
 odd (suc n) = not (odd n)
 
-module _ (seg : I32Point → I32Point → Seen) where
+module _ (seg : I32Point → I32Point → Sight) where
   unfoldable pub onAny : List Side → Bool
   onAny l = some (λ e. isOn (seg (e .from) (e .to))) l
 

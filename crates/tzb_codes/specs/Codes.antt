@@ -9,8 +9,7 @@ use Rattle.answer.specs.declared.Refusal.{Refusal}
 use Rattle.answer.specs.declared.Checked.{Checked}
 use Rattle.answer.specs.declared.Checked.the-variants as C
 use Rattle.answer.specs.Answers.{Answer, ok, refused}
-use Rattle.plane.specs.declared.Seen.{Seen}
-use Rattle.plane.specs.declared.Seen.the-variants.{On, Off}
+use Rattle.plane.specs.Sight.{Sight, On, Off}
 use Rattle.tzb_core.specs.Decode.{outcome}
 use Rattle.reader_grid.specs.Asked.{Chosen, none, all, listed}
 use Rattle.reader_lookup.specs.Asking.{Sought, nowhere, inZone}
@@ -75,7 +74,7 @@ ruleOf (refusedBy k) = 0
 ruleOf (brokenAt k rule) = rule
 
 -- 2 for on, 1 for counts, 0 for neither
-abbrev pub seenCode : Seen → ℤ
+abbrev pub seenCode : Sight → ℤ
 seenCode On = pos 2
 seenCode (Off true) = pos 1
 seenCode (Off false) = pos 0

@@ -1,5 +1,6 @@
 // Answers as single numbers, for the exports: -1000 - n for refusal n. Each function is total.
 ghost use mathlib.Core.Path.{_≡_};
+ghost use Rattle.plane.specs.Sight.{seenTold};
 ghost use Rattle.tzb.specs.FullCheck.{checkTold};
 ghost use Rattle.tzb_asked.specs.Asked.{choiceTold, verdictTold, foundTold};
 ghost use Rattle.tzb_codes.specs.Codes.{bitOf, refusalCode, doneCode, checkedTold, kindCode, listedOf, insideCode, zoneCode, checkCode, ruleOf, seenCode};
@@ -118,7 +119,7 @@ pub fn rule_of(c: FullCheck) -> u32
 
 // What a point sees of a segment: 2 it is on it, 1 the segment counts, 0 neither.
 pub fn seen_code(s: Seen) -> i32
-    ensures { λ r. ⌜ r ≡ seenCode s ⌝ }
+    ensures { λ r. ⌜ r ≡ seenCode (seenTold s) ⌝ }
 {
     match s {
         Seen::On => 2,

@@ -2,6 +2,7 @@
 -- Assumes nothing.
 use mathlib.Core.Path.{sym, _∙_}
 use Rattle.basics.specs.Determined.{Determined}
+use Rattle.plane.specs.Sight.{one-seen}
 use Rattle.tzb_core.proofs.raycast.next_up.Reads as next-up-reads
 use Rattle.tzb_core.proofs.raycast.raycast_seg.Reads as raycast-seg-reads
 use Rattle.tzb_core.proofs.raycast.endpoint_parity.Reads as endpoint-parity-reads
@@ -11,7 +12,7 @@ pub next-up : Determined next-up-reads.Learnt
 next-up κ a r r' e e' p q = p ∙ sym q
 
 pub raycast-seg : Determined raycast-seg-reads.Learnt
-raycast-seg κ a r r' e e' p q = p .0 ∙ sym (q .0)
+raycast-seg κ a r r' e e' p q = one-seen r r' _ (p .0) (q .0)
 
 pub endpoint-parity : Determined endpoint-parity-reads.Learnt
 endpoint-parity κ a r r' e e' p q = p ∙ sym q

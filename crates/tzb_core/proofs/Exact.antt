@@ -10,7 +10,7 @@ use lib.IntN.{ℤ, pos, negsuc, natAbs}
 use lib.Ieee.{Float, binary64, ofInt}
 use Rattle.rounding.specs.Ints.{dist}
 use Rattle.plane.specs.declared.I32Point.{I32Point}
-use Rattle.plane.specs.declared.Seen.the-variants.{On, Off}
+use Rattle.plane.specs.Sight.{On, Off}
 use Rattle.plane.specs.Segment.{seg}
 use Rattle.plane.specs.Domain.{inDomain, domain-x, domain-y}
 use Rattle.tzb_core.specs.Ray.{rayAt, rayOf, pointOf}

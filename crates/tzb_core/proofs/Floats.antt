@@ -16,8 +16,7 @@ use Rattle.rounding.specs.Quotients.{Short, sub-diff, quot-eq, quot-le, quot-fi
 use Rattle.rounding.specs.Upward.{nextUp}
 use Rattle.rounding.specs.Next.{Bump, next-bump}
 use Rattle.rounding.specs.Nudge.{bump-lt, lt-bump, bump-steep}
-use Rattle.plane.specs.declared.Seen.{Seen}
-use Rattle.plane.specs.declared.Seen.the-variants.{On, Off}
+use Rattle.plane.specs.Sight.{Sight, On, Off}
 use Rattle.plane.specs.Turns.{plus, less}
 use Rattle.tzb_core.specs.Ray.{outside, away, degenerate, between, level, ratio, touches, nudged, missed, slope, steep, shortcut, crosses, rayAt}
 use Rattle.tzb_core.proofs.Sides.{amid, onN, countsN, or-split, falsum, verum, amid-view, amid-make, right-all, left-all, no-turn-amid, at-foot, swap-plus, swap-less}
@@ -81,10 +80,10 @@ abbrev over : Float → Float → Float → Float → Float → Float → Bool
 over ax ay bx by x y = le (slope ax ay bx by) (slope ax ay x y)
 
 -- both ends in one place
-abbrev pointAt : Float → Float → Float → Float → Seen
+abbrev pointAt : Float → Float → Float → Float → Sight
 pointAt ax ay x y = cond (eq x ax && eq y ay) On (Off false)
 
-abbrev castAt : Float → Float → Float → Float → Float → Float → Seen
+abbrev castAt : Float → Float → Float → Float → Float → Float → Sight
 castAt ax ay bx by x y = cond (touches ax ay bx by x y) On (Off (crosses ax ay bx by x (nudged ay by y)))
 
 -- ---- the choice of a side
@@ -436,7 +435,7 @@ module _ (ax ay bx by px py : ℕ) (iax : In ax) (iay : In ay) (ibx : In bx) (ib
       ∙ ap (λ (u : Bool). (u && L) || (ltb py ay && R)) (and-false (leb ay py))
 
   -- what exact geometry says
-  abbrev pub exactAt : Seen
+  abbrev pub exactAt : Sight
   exactAt = cond (onN ax ay bx by px py) On (Off (countsN ax ay bx by px py))
 
   off-exact : (min ay by ≤ py → py ≤ max ay by → ⊥) → Off false ≡ exactAt

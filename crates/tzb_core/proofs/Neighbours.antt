@@ -14,8 +14,7 @@ use Rattle.answer.specs.Answers.{Answer, ok, refused, _then_, need, then-inv, n
 use Rattle.answer.specs.Walks.{Walk, add, _go_}
 use Rattle.plane.specs.declared.Point.{Point}
 use Rattle.plane.specs.declared.I32Point.{I32Point}
-use Rattle.plane.specs.declared.Seen.{Seen}
-use Rattle.plane.specs.declared.Seen.the-variants.{On, Off}
+use Rattle.plane.specs.Sight.{Sight, On, Off}
 use Rattle.plane.specs.Tally.{_⊕_}
 use Rattle.plane.specs.Lines.{chain, lastFrom, every}
 use Rattle.plane.specs.Domain.{inDomain}
@@ -52,7 +51,7 @@ next-in s q k t e =
 
 -- ---- from a point on
 -- a segment, then what its tally is added to
-seg-go : {A B : Type 0} (r : Seen) (x : A) (f : A → Walk B) (t : Seen) (y : B) → f x ≡ past t y → (past r x go f) ≡ past (r ⊕ t) y
+seg-go : {A B : Type 0} (r : Sight) (x : A) (f : A → Walk B) (t : Sight) (y : B) → f x ≡ past t y → (past r x go f) ≡ past (r ⊕ t) y
 unfolding add
 seg-go On x f t y e = refl
 seg-go (Off a) x f On y e = rw e

@@ -17,7 +17,7 @@ use Rattle.basics.specs.Whole.{Is, is-move, is-neg, shift-is, lt-is}
 use Rattle.rounding.specs.Free.{frac-of, frac-lt, lt-frac}
 use Rattle.plane.specs.declared.Point.{Point}
 use Rattle.plane.specs.declared.I32Point.{I32Point}
-use Rattle.plane.specs.declared.Seen.the-variants.{Off}
+use Rattle.plane.specs.Sight.{Off}
 use Rattle.plane.specs.Domain.{inDomain, within, domain-y}
 use Rattle.boxes.specs.Box.{float}
 use Rattle.tzb_core.specs.Ray.{rayAt, rayOf}

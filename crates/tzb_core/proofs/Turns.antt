@@ -13,7 +13,7 @@ use Rattle.answer.specs.Answers.{Answer, ok, refused, _then_, need, zero-one, t
 use Rattle.answer.specs.Walks.{on, add}
 use Rattle.plane.specs.declared.Point.{Point}
 use Rattle.plane.specs.declared.I32Point.{I32Point}
-use Rattle.plane.specs.declared.Seen.the-variants.{On, Off}
+use Rattle.plane.specs.Sight.{On, Off}
 use Rattle.plane.specs.Domain.{inDomain}
 use Rattle.tzb_core.specs.Ray.{rayOf}
 use Rattle.tzb_core.specs.Varint.{numberAt, atEnd}

@@ -1,4 +1,4 @@
--- Document 01, "Asking": the ray test takes i32 ends and any f64 point, one rounding per operation, next float upward from the bits. This is raycast.rs in its order; `sub` and `div` are the exact difference and quotient, rounded once, `lt`, `le`, `eq` are the comparisons of IEEE 754, false where a NaN stands. `nextUp` stands in rounding/specs/Upward, the types in plane/src/lib.rt.
+-- Document 01, "Asking": the ray test takes i32 ends and any f64 point, one rounding per operation, next float upward from the bits. This is raycast.rs in its order; `sub` and `div` are the exact difference and quotient, rounded once, `lt`, `le`, `eq` are the comparisons of IEEE 754, false where a NaN stands. `nextUp` stands in rounding/specs/Upward, the points in plane/src/lib.rt, what is seen in plane/specs/Sight.
 -- Assumes nothing.
 use mathlib.Core.Bool.{Bool, true, false, _&&_, _||_, cond}
 use lib.Ieee.{Float, binary64, lt, le, eq, sub, div, ofInt}
@@ -6,8 +6,7 @@ use Rattle.basics.specs.Parity.{_⊻_}
 use Rattle.rounding.specs.Upward.{nextUp}
 use Rattle.plane.specs.declared.Point.{Point}
 use Rattle.plane.specs.declared.I32Point.{I32Point}
-use Rattle.plane.specs.declared.Seen.{Seen}
-use Rattle.plane.specs.declared.Seen.the-variants.{On, Off}
+use Rattle.plane.specs.Sight.{Sight, On, Off}
 
 -- ---- quick y-range rejection: y is above or below both ends
 abbrev pub outside : Float → Float → Float → Bool
@@ -67,7 +66,7 @@ crosses ax ay bx by x y =
     cond (missed ay by y) false (cond (lt bx ax) (shortcut bx ax x (steep ax ay bx by x y)) (shortcut ax bx x (steep ax ay bx by x y)))
 
 -- ---- the whole
-unfoldable pub rayAt : Float → Float → Float → Float → Float → Float → Seen
+unfoldable pub rayAt : Float → Float → Float → Float → Float → Float → Sight
 rayAt ax ay bx by x y =
     cond (away ay by y) (Off false)
     (cond (degenerate ax ay bx by) (cond (eq x ax && eq y ay) On (Off false))
@@ -80,7 +79,7 @@ abbrev pub pointOf : I32Point → Point
 pointOf q = record { x = ofInt binary64 (q .x); y = ofInt binary64 (q .y) }
 
 -- what p sees of the segment from a to b: it is on it, or else whether the segment counts
-unfoldable pub rayOf : I32Point → I32Point → Point → Seen
+unfoldable pub rayOf : I32Point → I32Point → Point → Sight
 rayOf a b p = rayAt (ofInt binary64 (a .x)) (ofInt binary64 (a .y)) (ofInt binary64 (b .x)) (ofInt binary64 (b .y)) (p .x) (p .y)
 
 -- q is above p

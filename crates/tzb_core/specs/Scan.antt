@@ -13,8 +13,7 @@ use Rattle.answer.specs.Answers.{ok, refused}
 use Rattle.answer.specs.Walks.{Walk, broken, on, off, add, _go_, done}
 use Rattle.plane.specs.declared.Point.{Point}
 use Rattle.plane.specs.declared.I32Point.{I32Point}
-use Rattle.plane.specs.declared.Seen.{Seen}
-use Rattle.plane.specs.declared.Seen.the-variants.{On, Off}
+use Rattle.plane.specs.Sight.{Sight, On, Off}
 use Rattle.boxes.specs.Box.{float}
 use Rattle.tzb_core.specs.Ray.{rayOf}
 use Rattle.tzb_core.specs.Points.{firstOf}
@@ -24,7 +23,7 @@ use Rattle.tzb_core.specs.declared.chunk.Scan.{Scan}
 use Rattle.tzb_core.specs.declared.chunk.Scan.the-variants as S
 
 -- what is seen of a segment, as a walk that hands on a
-abbrev pub past : {A : Type 0} → Seen → A → Walk A
+abbrev pub past : {A : Type 0} → Sight → A → Walk A
 past On a = on
 past (Off b) a = off b a
 

@@ -4,6 +4,7 @@ ghost use mathlib.Core.Bool.{true, _||_};
 ghost use Prim.Native.Nat.{_+_, _*_, _≤_, _<_};
 ghost use mathlib.Core.List.{_∷_, _++_};
 ghost use lib.ListN.{length, set, take, drop};
+ghost use Rattle.plane.specs.Sight.{seenTold};
 ghost use Rattle.plane.specs.Domain.{inDomain};
 ghost use Rattle.boxes.specs.Box.{inBox};
 ghost use Rattle.tzb_core.specs.Points.{spotted, moved, movedBy, numbersAt, inside, firstOf, nextAt, turnOf};
@@ -213,7 +214,7 @@ fn segment_seen(b: Band, u: I32Point, v: I32Point, p: Point) -> Seen
     requires { ⌜ Around b (p .y) ⌝ }
     requires { ⌜ inDomain u ≡ true ⌝ }
     requires { ⌜ inDomain v ≡ true ⌝ }
-    ensures { λ r. ⌜ r ≡ rayOf u v p ⌝ }
+    ensures { λ r. ⌜ seenTold r ≡ rayOf u v p ⌝ }
 {
     if is_aside(b, u, v) {
         return Seen::Off(false);

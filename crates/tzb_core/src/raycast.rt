@@ -5,6 +5,7 @@ use plane::Seen;
 ghost use mathlib.Core.Path.{_≡_};
 ghost use mathlib.Core.Bool.{true};
 ghost use Rattle.rounding.specs.Upward.{stepOf, nextUp};
+ghost use Rattle.plane.specs.Sight.{seenTold};
 ghost use Rattle.plane.specs.Segment.{seg};
 ghost use Rattle.plane.specs.Domain.{inDomain};
 ghost use Rattle.tzb_core.specs.Ray.{away, between, level, touches, nudged, missed, steep, crosses, rayAt, pointOf, rayOf, aboveOf, parityOf};
@@ -142,7 +143,7 @@ fn is_crossing(ax: f64, ay: f64, bx: f64, by: f64, x: f64, y: f64) -> bool
 
 // What the point sees of the segment.
 fn ray_at(ax: f64, ay: f64, bx: f64, by: f64, x: f64, y: f64) -> Seen
-    ensures { λ r. ⌜ r ≡ rayAt ax ay bx by x y ⌝ }
+    ensures { λ r. ⌜ seenTold r ≡ rayAt ax ay bx by x y ⌝ }
 {
     if is_away(ay, by, y) {
         return Seen::Off(false);
@@ -161,8 +162,8 @@ fn ray_at(ax: f64, ay: f64, bx: f64, by: f64, x: f64, y: f64) -> Seen
 
 // What p sees of the segment from a to b. At a point of whole numbers in the domain it is what exact geometry says.
 pub fn raycast_seg(a: I32Point, b: I32Point, p: Point) -> Seen
-    ensures { λ r. ⌜ r ≡ rayOf a b p ⌝ }
-    ensures exact { λ r. ⌜ ((q : I32Point) → p ≡ pointOf q → inDomain a ≡ true → inDomain b ≡ true → inDomain q ≡ true → r ≡ seg q a b) ⌝ }
+    ensures { λ r. ⌜ seenTold r ≡ rayOf a b p ⌝ }
+    ensures exact { λ r. ⌜ ((q : I32Point) → p ≡ pointOf q → inDomain a ≡ true → inDomain b ≡ true → inDomain q ≡ true → seenTold r ≡ seg q a b) ⌝ }
 {
     let s = to_point(a);
     let t = to_point(b);

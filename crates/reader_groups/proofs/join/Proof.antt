@@ -1,7 +1,7 @@
 -- `reader_groups::join` meets its contract: what the ray test sees, after a stretch.
 -- Assumes nothing.
 use mathlib.Core.Path.{refl, sym, ap, _∙_}
-use Rattle.plane.specs.declared.Seen.{Seen}
+use Rattle.plane.specs.Sight.{Sight, seenTold}
 use Rattle.answer.specs.Walks.{add-on, add-off}
 use Rattle.tzb_core.specs.Scan.{past}
 use borrow.Author.Needs.{needs}
@@ -21,10 +21,10 @@ plus-requires : tie.Need-plus-requires
 plus-requires c κs = search needs
 
 returns : tie.Need-returns
-returns c = (add-on _ _ (ap (λ (e : Seen). past e tt) (sym (c .enum-told .given .1) ∙ c .before .before .raycast-seg .ensures .0)), tt)
+returns c = (add-on _ _ (ap (λ (e : Sight). past e tt) (sym (ap seenTold (c .enum-told .given .1)) ∙ c .before .before .raycast-seg .ensures .0)), tt)
 
 returns-2 : tie.Need-returns-2
-returns-2 c = (add-off _ _ _ _ _ (c .plus .ensures) (ap (λ (e : Seen). past e tt) (sym (c .before .before .e .given .1) ∙ c .before .before .before .before .raycast-seg .ensures .0)), refl)
+returns-2 c = (add-off _ _ _ _ _ (c .plus .ensures) (ap (λ (e : Sight). past e tt) (sym (ap seenTold (c .before .before .e .given .1)) ∙ c .before .before .before .before .raycast-seg .ensures .0)), refl)
 
 pub join-spec : {M : Type 1} → statement M
 join-spec =

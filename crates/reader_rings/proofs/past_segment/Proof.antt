@@ -1,7 +1,7 @@
 -- `reader_rings::past_segment` meets its contract: what the ray test sees, as a walk.
 -- Assumes nothing.
 use mathlib.Core.Path.{sym, ap, _∙_}
-use Rattle.plane.specs.declared.Seen.{Seen}
+use Rattle.plane.specs.Sight.{Sight, seenTold}
 use Rattle.tzb_core.specs.Scan.{past}
 use borrow.Author.Needs.{needs}
 use Rattle.reader_rings.proofs.past_segment.Statement.{statement}
@@ -17,10 +17,10 @@ enum-known-e : tie.Need-enum-known-e
 enum-known-e c = search needs
 
 returns : tie.Need-returns
-returns c = ap (λ (e : Seen). past e tt) (sym (c .enum-told .given .1) ∙ c .before .before .raycast-seg .ensures .0)
+returns c = ap (λ (e : Sight). past e tt) (sym (ap seenTold (c .enum-told .given .1)) ∙ c .before .before .raycast-seg .ensures .0)
 
 returns-2 : tie.Need-returns-2
-returns-2 c = ap (λ (e : Seen). past e tt) (sym (c .before .e .given .1) ∙ c .before .before .before .raycast-seg .ensures .0)
+returns-2 c = ap (λ (e : Sight). past e tt) (sym (ap seenTold (c .before .e .given .1)) ∙ c .before .before .before .raycast-seg .ensures .0)
 
 pub past-segment-spec : {M : Type 1} → statement M
 past-segment-spec =

@@ -9,6 +9,7 @@ use mir.Val.{toZ, ofZ}
 use lib.IntN.{ℤ}
 use Rattle.answer.specs.Answers.{ok}
 use Rattle.answer.specs.Walks.{broken, add, add-none, breaks, hits, ends, keeps}
+use Rattle.plane.specs.Sight.{seenTold}
 use Rattle.plane.specs.Domain.{inDomain}
 use Rattle.tzb_core.specs.Varint.{told, numberAt}
 use Rattle.tzb_core.specs.Along.{alongBy, along-by, by-left, by-end, by-no, by-there}
@@ -88,7 +89,7 @@ returns-3 c =
     let t = g .before .before .before .before in
     let v = t .before .before .before .before in
     let l = v .before .before in
-    hits _ _ _ (l .loop .inv .1) (by-on _ _ _ _ _ _ (v .before .loop-test .taken) _ _ (turn-to _ _ _ _ _ _ (read (t .before)) (l .loop .half) _ (sym (g .before .before .t2 .given .1) ∙ t .turn .ensures)) (sym (c .enum-told2 .given .1) ∙ g .segment-seen .ensures))
+    hits _ _ _ (l .loop .inv .1) (by-on _ _ _ _ _ _ (v .before .loop-test .taken) _ _ (turn-to _ _ _ _ _ _ (read (t .before)) (l .loop .half) _ (sym (g .before .before .t2 .given .1) ∙ t .turn .ensures)) (sym (ap seenTold (c .enum-told2 .given .1)) ∙ g .segment-seen .ensures))
 
 enum-known-e : tie.Need-enum-known-e Inv-loop μ-loop
 enum-known-e c = search needs
@@ -130,7 +131,7 @@ loop-again-2 c =
     let e = sym (g .before .before .t2 .given .1) ∙ t .turn .ensures in (
       turn-in _ (l .loop .half) _ _ _ e,
       keeps _ _ _ (l .loop .inv .1) _ _ _ (c .plus .ensures)
-          (ap (add _) (along-by _ _ _ _ _) ∙ by-off _ _ _ _ _ _ (v .before .loop-test .taken) _ _ (turn-to _ _ _ _ _ _ (read (t .before)) (l .loop .half) _ e) _ (sym (c .before .before .e .given .1) ∙ g .segment-seen .ensures)),
+          (ap (add _) (along-by _ _ _ _ _) ∙ by-off _ _ _ _ _ _ (v .before .loop-test .taken) _ _ (turn-to _ _ _ _ _ _ (read (t .before)) (l .loop .half) _ e) _ (sym (ap seenTold (c .before .before .e .given .1)) ∙ g .segment-seen .ensures)),
     )
 
 at-end-requires : tie.Need-at-end-requires Inv-loop μ-loop
