@@ -379,10 +379,11 @@ fn polys_from(o: Opened, s: &[u8], p: Point, count: u16, from: usize) -> Verdict
     Verdict::Is(false)
 }
 
-// Whether zone `index` contains the point.
+// Whether zone `index` contains the point. Its two numbers are read one by one, so that they are handed over in registers: stored one by one and read as one, they would be waited for.
 pub fn timezone_contains(o: Opened, s: &[u8], p: Point, index: usize) -> Verdict
     ensures { λ r. ⌜ judged r ≡ zoneOf o (now (s .entry)) p index ⌝ }
 {
+    let p = Point { x: p.x, y: p.y };
     let t = reader_records::tz_at(o, s, index);
     match t {
         ListAt::Refused(k) => Verdict::Refused(k),
@@ -406,7 +407,8 @@ pub fn contains(o: Opened, s: &[u8], zone: u32, x: i32, y: i32) -> Verdict
     }
     let q = I32Point { x, y };
     if boxes::point_in_domain(q) {
-        timezone_contains(o, s, tzb_core::raycast::to_point(q), reader_head::wide(zone))
+        let p = tzb_core::raycast::to_point(q);
+        timezone_contains(o, s, p, reader_head::wide(zone))
     } else {
         Verdict::Is(false)
     }
