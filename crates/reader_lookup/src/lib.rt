@@ -71,7 +71,7 @@ fn hit_at(o: Opened, s: &[u8], p: Point, grid: bool, place: u32) -> Found
     match c {
         Candidate::Refused(k) => Found::Refused(k),
         Candidate::Zone(zone) => {
-            let v = reader_rings::timezone_contains(o, s, p.x, p.y, reader_head::wide(zone));
+            let v = reader_rings::timezone_contains(o, s, p, reader_head::wide(zone));
             match v {
                 Verdict::Refused(k) => Found::Refused(k),
                 Verdict::Is(b) => { if b { Found::Zone(zone) } else { Found::None } }

@@ -6,7 +6,6 @@ use mathlib.Core.Path.{_≡_, ap}
 use mathlib.Core.Bool.{Bool, true, false, cond}
 use mathlib.Core.List.{List}
 use lib.Dec.{ltb}
-use lib.Ieee.{Float}
 use borrow.Author.Tests.{lt-ltb, le-ltb}
 use Rattle.plane.specs.declared.Point.{Point}
 use Rattle.plane.specs.declared.I32Point.{I32Point}
@@ -35,10 +34,6 @@ polyInside o s p q = ringContains o s p true (q .first) then λ b. cond b (holes
 
 unfoldable pub polyOf : Opened → List ℕ → Point → ℕ → Answer Bool
 polyOf o s p i = polyAt o s i then λ q. cond (contains (q .bbox) p) (polyInside o s p q) (ok false)
-
--- a position by its two floats
-abbrev pub floats : Float → Float → Point
-floats x y = record { x = x; y = y }
 
 unfoldable pub zoneOf : Opened → List ℕ → Point → ℕ → Answer Bool
 zoneOf o s p i = zoneAt o s i then λ z. cond (contains (z .bbox) p) (seek (polyOf o s p) true false (z .count) (z .first)) (ok false)

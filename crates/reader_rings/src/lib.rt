@@ -10,7 +10,7 @@ ghost use Rattle.reader_groups.specs.Groups.{went};
 ghost use Rattle.reader_records.specs.Records.{groupIn};
 ghost use lib.ListN.{length};
 ghost use Rattle.reader_rings.specs.Rings.{legTold, LegRoom, rounds, sumAfter, judged, turnOf, turnedAt, jointOf, groupWalk, turnWalk, opStep, opsFrom, ringEnd, ringRest, ringOf, ringContains};
-ghost use Rattle.reader_rings.specs.Zones.{seek, holesOut, polyInside, polyOf, floats, zoneOf, containsAt};
+ghost use Rattle.reader_rings.specs.Zones.{seek, holesOut, polyInside, polyOf, zoneOf, containsAt};
 use answer::Refusal;
 use plane::I32Point;
 use plane::Point;
@@ -379,11 +379,11 @@ fn polys_from(o: Opened, s: &[u8], p: Point, count: u16, from: usize) -> Verdict
     Verdict::Is(false)
 }
 
-// Whether zone `index` contains the point.
-pub fn timezone_contains(o: Opened, s: &[u8], x: f64, y: f64, index: usize) -> Verdict
-    ensures { λ r. ⌜ judged r ≡ zoneOf o (now (s .entry)) (floats x y) index ⌝ }
+// Whether zone `index` contains the point. Its two numbers are read one by one, so that they are handed over in registers: stored one by one and read as one, they would be waited for.
+pub fn timezone_contains(o: Opened, s: &[u8], p: Point, index: usize) -> Verdict
+    ensures { λ r. ⌜ judged r ≡ zoneOf o (now (s .entry)) p index ⌝ }
 {
-    let p = Point { x, y };
+    let p = Point { x: p.x, y: p.y };
     let t = reader_records::tz_at(o, s, index);
     match t {
         ListAt::Refused(k) => Verdict::Refused(k),
@@ -408,7 +408,7 @@ pub fn contains(o: Opened, s: &[u8], zone: u32, x: i32, y: i32) -> Verdict
     let q = I32Point { x, y };
     if boxes::point_in_domain(q) {
         let p = tzb_core::raycast::to_point(q);
-        timezone_contains(o, s, p.x, p.y, reader_head::wide(zone))
+        timezone_contains(o, s, p, reader_head::wide(zone))
     } else {
         Verdict::Is(false)
     }
