@@ -21,7 +21,7 @@ fail() {
 sources() { sh scripts/sources.sh sum; }
 
 # Whether the archive in a folder is the one that its sum is of.
-whole() { [ -f "$1/$name" ] && (cd "$1" && sha256sum -c --status $name.sha256) 2>/dev/null; }
+whole() { [ -f "$1/$name" ] && [ "$(cat "$1/$name.sha256" 2>/dev/null)" = "$(cd "$1" && sha256sum $name)" ]; }
 
 # Whether it is whole, and of sources with this sum.
 made_of() { whole "$1" && [ -n "$2" ] && [ "$(sed -n 's/^sources //p' "$1/$name.origin" 2>/dev/null)" = "$2" ]; }
@@ -73,6 +73,7 @@ record() {
 
 to_link() {
   if [ -n "$TZB_LIB" ]; then
+    [ -e "$TZB_LIB/$name" ] || fail 2 "TZB_LIB is $TZB_LIB, and there is no $name in it."
     echo "$TZB_LIB"
     return
   fi

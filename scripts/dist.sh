@@ -42,12 +42,12 @@ compare_functions() {
     diff "$room/dist.lines" "$room/fresh.lines" | head -n 20 >&2
     fail "dist/$name does not do what the code just proved does, in the functions named above. 'sh scripts/dist.sh write' writes it anew."
   fi
-  echo "dist/$name, written on $writer: every function of $(wc -l <"$room/dist") is what was just proved"
+  echo "dist/$name, written on $writer: each of its $(wc -l <"$room/dist") functions does what was just proved"
 }
 
 check() {
   sh scripts/archive.sh of $fresh || fail "$fresh/$name is not of the present sources: 'sh scripts/archive.sh' proves them."
-  (cd dist && sha256sum -c --status $name.sha256) || fail "The SHA-256 of dist/$name is not that of dist/$name.sha256."
+  [ "$(cat dist/$name.sha256)" = "$(cd dist && sha256sum $name)" ] || fail "The SHA-256 of dist/$name is not that of dist/$name.sha256."
   sh scripts/archive.sh of dist || fail "dist/$name is of other sources than those just proved. 'sh scripts/dist.sh write' writes it anew."
   writer=$(sed -n 's/^host //p' dist/$name.origin)
   if [ "$host" = "$writer" ]; then

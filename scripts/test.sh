@@ -162,8 +162,8 @@ linking() {
   held 'rt itself, run on the same sources, changes nothing'
   echo other >"$staticlib/$name" && links dist
   held 'an archive that is not the recorded one is not linked'
-  TZB_LIB=elsewhere links elsewhere
-  held 'TZB_LIB goes before all'
+  mkdir "$repo/elsewhere" && ! TZB_LIB=elsewhere links elsewhere && : >"$repo/elsewhere/$name" && TZB_LIB=elsewhere links elsewhere
+  held 'TZB_LIB goes before all, and has to have the archive'
   rm -rf "$repo/target" && echo other >"$repo/dist/$name" && ! links dist && says 'SHA-256'
   held 'dist with another sum is not linked'
 }
@@ -277,7 +277,7 @@ disassembling() {
   cp "$root/dist/$name" "$room/whole.a"
   RT_WRITES=$room/whole.a archive anew >/dev/null 2>&1 && ends 1 dist check
   cp "$staticlib/$name" "$staticlib/$name.sha256" "$staticlib/$name.origin" "$repo/dist/"
-  against 0 "$room/whole.a" && says 'every function of'
+  against 0 "$room/whole.a" && says 'functions does what'
   held 'another kind of host, the same bytes'
 
   "${prefix}ar" p "$room/whole.a" tzb_c.o >"$room/whole.o"
