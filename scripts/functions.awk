@@ -56,6 +56,7 @@ function place(m, s, at, name, depth,    f, n) {
 
 function data(m, s, at, depth,    unit, from, end, i, said) {
   told[m, s] = 1
+  if (at < 0 || at >= extent[m, s]) return s "+" at
   if (match(s, /\.cst[0-9]+/)) {
     unit = substr(s, RSTART + 4, RLENGTH - 4) + 0
     from = at - at % unit
