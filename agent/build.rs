@@ -1,10 +1,9 @@
-//! Finds the proved archive `libtzb_c.a`, or has it built, and names it to the linker.
+//! Finds the proved archive `libtzb_c.a` and names it to the linker.
 //!
-//! `TZB_LIB` is the folder that holds it; a relative one counts from the repository's root. Without it the archive is
-//! `target/staticlib/libtzb_c.a` there. Where that is missing, `rt staticlib tzb_c` proves the code and writes it.
+//! `TZB_LIB` is the folder that holds it; a relative one counts from the repository's root. Without it `scripts/archive.sh`
+//! says which one it is: `target/staticlib`, where that was written from the present sources, else `dist`. Nothing is proved here.
 
 use std::env;
-use std::io::ErrorKind;
 use std::path::{Path, PathBuf};
 use std::process::{Command, exit};
 
@@ -12,6 +11,8 @@ const ARCHIVE: &str = "libtzb_c.a";
 
 fn main() {
     println!("cargo::rerun-if-env-changed=TZB_LIB");
+    // set by './tzb', which tells by content whether a part of the command has changed
+    println!("cargo::rerun-if-env-changed=TZB_MADE_OF");
     println!("cargo::rerun-if-changed=build.rs");
     let target = [set("CARGO_CFG_TARGET_ARCH"), set("CARGO_CFG_TARGET_OS")];
     if target != ["x86_64", "linux"] {
@@ -22,7 +23,6 @@ fn main() {
         ));
     }
     let folder = archive_folder();
-    println!("cargo::rerun-if-changed={}", folder.join(ARCHIVE).display());
     println!("cargo::rustc-link-search=native={}", folder.display());
     println!("cargo::rustc-link-lib=static=tzb_c");
 }
@@ -31,42 +31,44 @@ fn main() {
 fn archive_folder() -> PathBuf {
     let here = PathBuf::from(set("CARGO_MANIFEST_DIR"));
     let root = here.parent().unwrap_or(&here);
-    if let Some(named) = env::var_os("TZB_LIB") {
-        let folder = root.join(named);
-        if !folder.join(ARCHIVE).exists() {
-            stop(&format!("TZB_LIB is {}, and there is no {ARCHIVE} in it.", folder.display()));
-        }
-        return folder;
-    }
-    let folder = root.join("target/staticlib");
+    let folder = match env::var_os("TZB_LIB") {
+        Some(named) => root.join(named),
+        None => return root.join(kept(root)),
+    };
+    watch(&folder.join(ARCHIVE));
     if !folder.join(ARCHIVE).exists() {
-        prove(root);
-    }
-    if !folder.join(ARCHIVE).exists() {
-        stop(&format!("'rt staticlib tzb_c' wrote no {}.", folder.join(ARCHIVE).display()));
+        stop(&format!("TZB_LIB is {}, and there is no {ARCHIVE} in it.", folder.display()));
     }
     folder
 }
 
-/// Has the archive proved and written.
-fn prove(root: &Path) {
-    let done = Command::new("rt").args(["staticlib", "tzb_c"]).current_dir(root).output();
-    match done {
-        Ok(output) if output.status.success() => {}
-        Ok(output) => stop(&format!(
-            "'rt staticlib tzb_c' in {} ended with {}:\n{}{}",
-            root.display(),
-            output.status,
-            String::from_utf8_lossy(&output.stdout),
-            String::from_utf8_lossy(&output.stderr),
-        )),
-        Err(error) if error.kind() == ErrorKind::NotFound => stop(&format!(
-            "{} is not there, and Rattle's kit ('rt') that writes it is not on the path.\n\
-             Put the kit on the path, or name the folder that holds {ARCHIVE} by TZB_LIB.",
-            root.join("target/staticlib").join(ARCHIVE).display()
-        )),
-        Err(error) => stop(&format!("'rt' could not be run: {error}")),
+/// The folder of the archive that was proved here, or that the repository keeps. What the script has to say is a warning.
+fn kept(root: &Path) -> String {
+    let script = root.join("scripts/archive.sh");
+    let said = match Command::new("sh").arg(&script).arg("folder").output() {
+        Ok(said) => said,
+        Err(error) => stop(&format!("'sh' could not be run: {error}")),
+    };
+    let notes = String::from_utf8_lossy(&said.stderr);
+    if !said.status.success() {
+        stop(&format!("{} ended with {}:\n{notes}", script.display(), said.status));
     }
+    for note in notes.lines() {
+        println!("cargo::warning={note}");
+    }
+    for part in ["crates.txt", "crates", "dist", "scripts/archive.sh"] {
+        watch(&root.join(part));
+    }
+    // Written where the archive is proved anew. While it is not there cargo runs this at every build, so only where that matters.
+    let origin = root.join("target/staticlib").join(ARCHIVE).with_extension("a.origin");
+    if origin.exists() || !notes.is_empty() {
+        watch(&origin);
+    }
+    String::from_utf8_lossy(&said.stdout).trim_end().to_string()
+}
+
+fn watch(path: &Path) {
+    println!("cargo::rerun-if-changed={}", path.display());
 }
 
 /// A variable that cargo sets for every build script.

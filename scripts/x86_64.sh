@@ -19,12 +19,15 @@ fail() {
   exit 2
 }
 
+# What is installed where the machine is not x86-64: Rust and its library, a linker, and the emulator.
+packages() {
+  here cargo || printf 'cargo-web '
+  echo rustc-web libstd-rust-web-dev:amd64 gcc-x86-64-linux-gnu libc6-dev-amd64-cross qemu-user libc6:amd64 libgcc-s1:amd64
+}
+
 setup() {
-  wanted=
-  here cargo || wanted=cargo-web
-  dpkg --add-architecture amd64 && apt-get update -qq &&
-    apt-get install -y --no-install-recommends $wanted rustc-web libstd-rust-web-dev:amd64 \
-      gcc-x86-64-linux-gnu libc6-dev-amd64-cross qemu-user libc6:amd64 libgcc-s1:amd64
+  # shellcheck disable=SC2046
+  dpkg --add-architecture amd64 && apt-get update -qq && apt-get install -y --no-install-recommends $(packages)
 }
 
 # Whether a program can be built for x86-64 and run.
@@ -46,7 +49,7 @@ ready() {
   native && fail 'Rust is needed: cargo and a C linker (cc). See https://rustup.rs, or install your system'\''s packages.'
   here apt-get && here dpkg || fail 'This machine is not x86-64. The x86-64 Rust and the emulator (qemu) can be installed by this script on Debian alone.'
   [ "$(id -u)" = 0 ] || fail 'This machine is not x86-64, and the x86-64 Rust and the emulator (qemu) are not installed. Run this once as root: sh scripts/x86_64.sh setup'
-  echo 'Installing the x86-64 Rust and the emulator (once for each machine) ...' >&2
+  echo "The reader's code is x86-64, and this machine is $(uname -m). Installing what builds and runs it, once for each machine: $(packages) ..." >&2
   log=$(mktemp)
   if ! setup >"$log" 2>&1; then
     cat "$log" >&2
