@@ -36,7 +36,7 @@ low : (b : ℕ) → b < 256 → bitAnd b 128 ≡ 0 → b < 128
 low b h e = passed b (between test 0 256 tt b (omega arith) (omega arith)) e
 
 -- one of them; one stretch, and the next
-pub one : (s : List ℕ) (i : ℕ) → getD s i 0 < 128 → Plain s i (i + 1)
+one : (s : List ℕ) (i : ℕ) → getD s i 0 < 128 → Plain s i (i + 1)
 one s i h k a b = let e : i ≡ k = omega arith in subst (λ (j : ℕ). getD s j 0 < 128) e h
 
 pub join : (s : List ℕ) (i m j : ℕ) → Plain s i m → Plain s m j → Plain s i j

@@ -119,19 +119,18 @@ fn second_of_four(first: u8, b: u8) -> bool
     }
 }
 
-// How many bytes the character at i has, where it has more than one; 0 where none stands there.
+// How many bytes the character at i has; 0 where none stands there.
 fn size(s: &[u8], i: usize) -> usize
     requires { ⌜ i < length (now s) ⌝ }
-    requires { ⌜ 0x80 ≤ getD (now s) i 0 ⌝ }
     ensures { λ r. ⌜ utf8 [] (drop i (now (s .entry))) ≡ (not (eqb r 0) && utf8 [] (drop (i + r) (now (s .entry)))) ⌝ }
     ensures { λ r. ⌜ i + r ≤ length (now (s .entry)) ⌝ }
 {
     let first = s[i];
-    let next = byte(s, i, 1);
     match first {
-        0xc2..=0xdf => two(tail(next)),
-        0xe0..=0xef => three(s, i, second_of_three(first, next)),
-        0xf0..=0xf4 => four(s, i, second_of_four(first, next)),
+        0x00..=0x7f => 1,
+        0xc2..=0xdf => two(tail(byte(s, i, 1))),
+        0xe0..=0xef => three(s, i, second_of_three(first, byte(s, i, 1))),
+        0xf0..=0xf4 => four(s, i, second_of_four(first, byte(s, i, 1))),
         _ => 0,
     }
 }
@@ -149,16 +148,6 @@ fn sixteen(s: &[u8], i: usize) -> bool
     ensures { λ r. ⌜ (r ≡ true → Plain (now (s .entry)) i (i + 16)) ⌝ }
 {
     eight(s, i) & eight(s, i + 8)
-}
-
-// The last eight bytes are characters.
-fn last_eight(s: &[u8]) -> bool
-    ensures { λ r. ⌜ (r ≡ true → Plain (now (s .entry)) (length (now (s .entry)) - 8) (length (now (s .entry)))) ⌝ }
-{
-    if s.len() < 8 {
-        return false;
-    }
-    eight(s, s.len() - 8)
 }
 
 // The place after the blocks of 32 ASCII bytes that stand at i.
@@ -180,39 +169,41 @@ fn blocks_from(s: &[u8], i: usize) -> usize
     at
 }
 
-// The place after some ASCII bytes that stand at i: after one of them, where no more are seen at once.
+// The place after the ASCII bytes that stand at i: eight and blocks of 32, or what is left where the last eight bytes are ASCII. Where there are none of these it is i itself.
 fn ascii_from(s: &[u8], i: usize) -> usize
-    requires { ⌜ i < length (now s) ⌝ }
-    requires { ⌜ getD (now s) i 0 < 128 ⌝ }
+    requires { ⌜ i ≤ length (now s) ⌝ }
     ensures { λ r. ⌜ Plain (now (s .entry)) i r ⌝ }
-    ensures { λ r. ⌜ (i < r) × (r ≤ length (now (s .entry))) ⌝ }
+    ensures { λ r. ⌜ (i ≤ r) × (r ≤ length (now (s .entry))) ⌝ }
 {
+    if s.len() < 8 {
+        return i;
+    }
     if 8 <= s.len() - i {
         if eight(s, i) {
             return blocks_from(s, i + 8);
         }
-        return i + 1;
+        return i;
     }
-    if last_eight(s) {
+    if eight(s, s.len() - 8) {
         return s.len();
     }
-    i + 1
+    i
 }
 
+// The match of `size` judges each character. Before the first, and after each of one byte, a run of ASCII is passed over.
 pub fn utf8_ok(s: &[u8]) -> bool
     ensures { λ r. ⌜ r ≡ utf8 [] (now (s .entry)) ⌝ }
 {
-    let mut i = 0;
+    let mut i = ascii_from(s, 0);
     while i < s.len() {
-        if s[i] < 0x80 {
-            i = ascii_from(s, i);
-            continue;
-        }
         let n = size(s, i);
         if n == 0 {
             return false;
         }
         i += n;
+        if n == 1 {
+            i = ascii_from(s, i);
+        }
     }
     true
 }

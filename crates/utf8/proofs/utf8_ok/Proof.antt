@@ -20,24 +20,13 @@ Inv-loop s i₀ i = (i ≤ length s) × (utf8 [] s ≡ utf8 [] (drop i s))
 abbrev μ-loop : tie.MeasureT-loop
 μ-loop s i₀ i = length s - i
 
-loop-holds : tie.Need-loop-holds Inv-loop μ-loop
-loop-holds c = (omega arith, refl)
-
-shared-slice-read-if1 : tie.Need-shared-slice-read-if1 Inv-loop μ-loop
-shared-slice-read-if1 c = search needs
-
 ascii-from-requires : tie.Need-ascii-from-requires Inv-loop μ-loop
 ascii-from-requires c κs = search needs
 
-loop-less : tie.Need-loop-less Inv-loop μ-loop
-loop-less c = search needs
-
-loop-again : tie.Need-loop-again Inv-loop μ-loop
-loop-again c =
-    let a = c .before .before .before .before in
-    let g = a .before .before .args in
+loop-holds : tie.Need-loop-holds Inv-loop μ-loop
+loop-holds c =
     let e = c .ascii-from .ensures in
-    (omega arith, a .loop .inv .1 ∙ past-plain (g .s .now) (a .loop .i) (c .ascii-from .result) (omega arith) (omega arith) (e .0))
+    (omega arith, past-plain (c .before .before .args .s .now) 0 (c .ascii-from .result) (omega arith) (omega arith) (e .0))
 
 size-requires : tie.Need-size-requires Inv-loop μ-loop
 size-requires c κs = search needs
@@ -45,33 +34,51 @@ size-requires c κs = search needs
 returns : tie.Need-returns Inv-loop μ-loop
 returns c =
     let z = c .before in
-    let a = z .before .before .before .before in
-    let g = a .before .before .args in
+    let a = z .before .before in
+    let g = a .before .before .before .args in
     sym (a .loop .inv .1 ∙ z .size .ensures .0
-    ∙ ap (λ (t : Bool). not t && utf8 [] (drop (a .loop .i + z .size .result) (g .s .now))) (eq-eqb _ _ (c .if2 .taken)))
+    ∙ ap (λ (t : Bool). not t && utf8 [] (drop (a .loop .i + z .size .result) (g .s .now))) (eq-eqb _ _ (c .if1 .taken)))
 
 add-i : tie.Need-add-i Inv-loop μ-loop
 add-i c = omega arith
 
+ascii-from-requires-2 : tie.Need-ascii-from-requires-2 Inv-loop μ-loop
+ascii-from-requires-2 c κs = search needs
+
+loop-less : tie.Need-loop-less Inv-loop μ-loop
+loop-less c = search needs
+
+loop-again : tie.Need-loop-again Inv-loop μ-loop
+loop-again c =
+    let z = c .before .before .before in
+    let a = z .before .before in
+    let g = a .before .before .before .args in
+    let e = c .ascii-from2 .ensures in (
+      omega arith,
+      a .loop .inv .1 ∙ z .size .ensures .0
+          ∙ ap (λ (t : Bool). not t && utf8 [] (drop (a .loop .i + z .size .result) (g .s .now))) (ne-eqb _ _ (c .before .before .if1 .left))
+          ∙ past-plain (g .s .now) (a .loop .i + z .size .result) (c .ascii-from2 .result) (omega arith) (omega arith) (e .0),
+    )
+
 loop-less-2 : tie.Need-loop-less-2 Inv-loop μ-loop
 loop-less-2 c =
-    let f = c .if2 .left in
+    let f = c .before .if1 .left in
     omega arith
 
 loop-again-2 : tie.Need-loop-again-2 Inv-loop μ-loop
 loop-again-2 c =
-    let z = c .before in
-    let a = z .before .before .before .before in
-    let g = a .before .before .args in (
+    let z = c .before .before in
+    let a = z .before .before in
+    let g = a .before .before .before .args in (
       omega arith,
       a .loop .inv .1 ∙ z .size .ensures .0
-          ∙ ap (λ (t : Bool). not t && utf8 [] (drop (a .loop .i + z .size .result) (g .s .now))) (ne-eqb _ _ (c .if2 .left)),
+          ∙ ap (λ (t : Bool). not t && utf8 [] (drop (a .loop .i + z .size .result) (g .s .now))) (ne-eqb _ _ (c .before .if1 .left)),
     )
 
 returns-2 : tie.Need-returns-2 Inv-loop μ-loop
 returns-2 c =
     let a = c .before in
-    let g = a .before .before .args in
+    let g = a .before .before .before .args in
     sym (a .loop .inv .1 ∙ ap (utf8 []) (past (g .s .now) (a .loop .i) (omega arith)))
 
 pub utf8-ok-spec : {M : Type 1} → statement M
@@ -80,14 +87,14 @@ utf8-ok-spec =
     (tie.spec
     Inv-loop
     μ-loop
-    loop-holds
-    shared-slice-read-if1
     ascii-from-requires
-    loop-less
-    loop-again
+    loop-holds
     size-requires
     returns
     add-i
+    ascii-from-requires-2
+    loop-less
+    loop-again
     loop-less-2
     loop-again-2
     returns-2)
