@@ -7,7 +7,6 @@ use mathlib.Core.Bool.{Bool, true, false, cond}
 use mathlib.Core.List.{List, [], _∷_}
 use lib.IntN.{ℤ}
 use Rattle.answer.specs.declared.Refusal.{Refusal}
-use Rattle.answer.specs.declared.Checked.the-variants.{Refused}
 use Rattle.answer.specs.Checks.{claim}
 use Rattle.answer.specs.Refusals.{refusal}
 use Rattle.answer.specs.Answers.{Answer, ok, refused, _then_, need, zero-one, then-inv, need-inv, ok-inv}
@@ -182,7 +181,7 @@ module _ (s : List ℕ) (n : ℕ) (k : ℕ) (a : Answer (I32Point × ℕ)) (h : 
   unfolding pointsBy
   points-one = let one : n ≡ suc (n - 1) = omega arith in ap (λ (j : ℕ). pointsBy s j k a) one
 
-  pub check-no : (r : Refusal) → refused r ≡ a → Refused r ≡ outcome (pointsBy s n k a)
+  pub check-no : (r : Refusal) → refused r ≡ a → refused r ≡ outcome (pointsBy s n k a)
   check-no r e = rw (points-one, ← e)
 
   pub check-on : (t : I32Point) (m : ℕ) → ok (t, m) ≡ a → outcome (pointsFrom s (n - 1) t m) ≡ outcome (pointsBy s n k a)
