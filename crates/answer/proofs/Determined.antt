@@ -2,6 +2,7 @@
 -- Assumes nothing.
 use mathlib.Core.Path.{sym, _∙_}
 use Rattle.basics.specs.Determined.{Determined}
+use Rattle.answer.specs.Answers.{checked-one}
 use Rattle.answer.proofs.refuse.Reads as refuse-reads
 use Rattle.answer.proofs.fail.Reads as fail-reads
 use Rattle.answer.proofs.claim.Reads as claim-reads
@@ -11,10 +12,10 @@ pub refuse : Determined refuse-reads.Learnt
 refuse κ a r r' e e' p q = p ∙ sym q
 
 pub fail : Determined fail-reads.Learnt
-fail κ a r r' e e' p q = p ∙ sym q
+fail κ a r r' e e' p q = checked-one r r' (p ∙ sym q)
 
 pub claim : Determined claim-reads.Learnt
-claim κ a r r' e e' p q = p ∙ sym q
+claim κ a r r' e e' p q = checked-one r r' (p ∙ sym q)
 
 pub plus : Determined plus-reads.Learnt
 plus κ a r r' e e' p q = p ∙ sym q

@@ -27,11 +27,23 @@ abbrev pub need : {A : Type 0} → ℕ → Bool → Answer A → Answer A
 need n true x = x
 need n false x = no n
 
+-- what a check answers: fine, with nothing to tell, or a refusal
+abbrev pub Check : Type 0
+Check = Answer (Unit {0})
+
+abbrev pub fine : Check
+fine = ok tt
+
+-- the same for each case of the code's enum
+abbrev pub checkedTold : Checked → Check
+checkedTold Fine = fine
+checkedTold (Refused k) = refused k
+
 -- an answer that is given only after a check was fine
 infixl 20 _before_
-abbrev pub _before_ : {A : Type 0} → Checked → Answer A → Answer A
-Fine before x = x
-Refused k before x = refused k
+abbrev pub _before_ : {A : Type 0} → Check → Answer A → Answer A
+ok u before x = x
+refused k before x = refused k
 
 -- ---- laws
 pub then-ok : {A B : Type 0} (x : Answer A) (k : A → Answer B) (a : A) → ok a ≡ x → k a ≡ (x then k)
@@ -60,3 +72,15 @@ need-inv n false x a e = let z : _≡_ {A = ℕ} 0 1 = cc in absurd (zero-one z)
 
 pub ok-inv : {A : Type 0} (a b : A) → ok a ≡ ok b → a ≡ b
 ok-inv a b e = cc
+
+-- no two answers of a check are told alike
+pub checked-one : (r r' : Checked) → checkedTold r ≡ checkedTold r' → r ≡ r'
+checked-one r r' e = sym (back r) ∙ ap again e ∙ back r'
+  where
+    again : Check → Checked
+    again (ok u) = Fine
+    again (refused k) = Refused k
+
+    back : (r : Checked) → again (checkedTold r) ≡ r
+    back Fine = refl
+    back (Refused k) = refl

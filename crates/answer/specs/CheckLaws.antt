@@ -8,11 +8,10 @@ use lib.Dec.{eqb, leb, ltb}
 use mathlib.Core.List.{List, [], _∷_}
 use mathlib.Core.Path.{_≡_, refl, sym, _∙_}
 use Rattle.answer.specs.declared.Refusal.{Refusal}
-use Rattle.answer.specs.declared.Checked.{Checked}
-use Rattle.answer.specs.declared.Checked.the-variants.{Fine, Refused}
+use Rattle.answer.specs.Answers.{ok, refused, Check, fine}
 use Rattle.answer.specs.Checks.{failed, claim, deny, andThen, first, each, seek, pick, atMost, below, same, both, either}
 
-pub yes : (n : ℕ) (b : Bool) → b ≡ true → claim n b ≡ Fine
+pub yes : (n : ℕ) (b : Bool) → b ≡ true → claim n b ≡ fine
 unfolding claim
 yes n b e = rw e
 
@@ -21,72 +20,72 @@ unfolding claim
 nay n b e = rw e
 
 -- past a check that is fine
-pub past : (a : Checked) (l : List Checked) → a ≡ Fine → first (a ∷ l) ≡ first l
+pub past : (a : Check) (l : List Check) → a ≡ fine → first (a ∷ l) ≡ first l
 unfolding first andThen
 past a l e = rw e
 
-pub stop : (a : Checked) (l : List Checked) (k : Refusal) → a ≡ Refused k → first (a ∷ l) ≡ Refused k
+pub stop : (a : Check) (l : List Check) (k : Refusal) → a ≡ refused k → first (a ∷ l) ≡ refused k
 unfolding first andThen
 stop a l k e = rw e
 
 -- the end
-pub done : first [] ≡ Fine
+pub done : first [] ≡ fine
 unfolding first
 done = refl
 
-pub last : (a : Checked) → first (a ∷ []) ≡ a
+pub last : (a : Check) → first (a ∷ []) ≡ a
 unfolding first andThen
-last Fine = refl
-last (Refused k) = refl
+last (ok u) = refl
+last (refused k) = refl
 
 -- the same for a claim
-pub past-claim : (n : ℕ) (b : Bool) (l : List Checked) → b ≡ true → first (claim n b ∷ l) ≡ first l
+pub past-claim : (n : ℕ) (b : Bool) (l : List Check) → b ≡ true → first (claim n b ∷ l) ≡ first l
 past-claim n b l e = past _ _ (yes n b e)
 
-pub stop-claim : (n : ℕ) (b : Bool) (l : List Checked) → b ≡ false → first (claim n b ∷ l) ≡ failed n
+pub stop-claim : (n : ℕ) (b : Bool) (l : List Check) → b ≡ false → first (claim n b ∷ l) ≡ failed n
 stop-claim n b l e = stop _ _ _ (nay n b e)
 
 -- what a chain that is fine tells
-pub fine-one : (a : Checked) (l : List Checked) → first (a ∷ l) ≡ Fine → a ≡ Fine
+pub fine-one : (a : Check) (l : List Check) → first (a ∷ l) ≡ fine → a ≡ fine
 unfolding first andThen
-fine-one Fine l e = refl
-fine-one (Refused k) l e = e
+fine-one (ok u) l e = refl
+fine-one (refused k) l e = e
 
-pub fine-rest : (a : Checked) (l : List Checked) → first (a ∷ l) ≡ Fine → first l ≡ Fine
+pub fine-rest : (a : Check) (l : List Check) → first (a ∷ l) ≡ fine → first l ≡ fine
 unfolding first andThen
-fine-rest Fine l e = e
-fine-rest (Refused k) l e = let z : _≡_ {A = ℕ} 0 1 = cc in absurd (omega arith)
+fine-rest (ok u) l e = e
+fine-rest (refused k) l e = let z : _≡_ {A = ℕ} 0 1 = cc in absurd (omega arith)
 
-pub fine-claim : (n : ℕ) (b : Bool) → claim n b ≡ Fine → b ≡ true
+pub fine-claim : (n : ℕ) (b : Bool) → claim n b ≡ fine → b ≡ true
 unfolding claim
 fine-claim n true e = refl
 fine-claim n false e = let z : _≡_ {A = ℕ} 0 1 = cc in absurd (omega arith)
 
 -- A loop over `each`: what is left from i on answers as the whole did, m
-pub each-start : (f : ℕ → Checked) (n : ℕ) → each f (n - 0) 0 ≡ each f n 0
+pub each-start : (f : ℕ → Check) (n : ℕ) → each f (n - 0) 0 ≡ each f n 0
 each-start f n =
     let e : n - 0 ≡ n = omega arith in
     rw e
 
-pub each-from : (f : ℕ → Checked) (n m : ℕ) → n ≡ m → each f (n - 0) 0 ≡ each f m 0
+pub each-from : (f : ℕ → Check) (n m : ℕ) → n ≡ m → each f (n - 0) 0 ≡ each f m 0
 each-from f n m h =
     let e : n - 0 ≡ m = omega arith in
     rw e
 
-pub each-end : (f : ℕ → Checked) (n i : ℕ) (m : Checked) → each f (n - i) i ≡ m → n ≤ i → Fine ≡ m
+pub each-end : (f : ℕ → Check) (n i : ℕ) (m : Check) → each f (n - i) i ≡ m → n ≤ i → fine ≡ m
 unfolding each
 each-end f n i m v h =
     let e : n - i ≡ 0 = omega arith in
     rw e at v
 
-module _ (f : ℕ → Checked) (n i : ℕ) (m : Checked) (v : each f (n - i) i ≡ m) (h : i < n) where
-  pub each-fine : f i ≡ Fine → each f (n - (i + 1)) (i + 1) ≡ m
+module _ (f : ℕ → Check) (n i : ℕ) (m : Check) (v : each f (n - i) i ≡ m) (h : i < n) where
+  pub each-fine : f i ≡ fine → each f (n - (i + 1)) (i + 1) ≡ m
   unfolding each andThen
   each-fine e =
       let g : n - i ≡ suc (n - (i + 1)) = omega arith in
       rw (g, e) at v
 
-  pub each-stop : (k : Refusal) → f i ≡ Refused k → Refused k ≡ m
+  pub each-stop : (k : Refusal) → f i ≡ refused k → refused k ≡ m
   unfolding each andThen
   each-stop k e =
       let g : n - i ≡ suc (n - (i + 1)) = omega arith in
@@ -118,30 +117,30 @@ module _ (p : ℕ → Bool) (n i m : ℕ) (v : seek p (n - i) i ≡ m) (h : i < 
       rw (g, e) at v
 
 -- the chain, backwards, as `search` takes it
-pub met : (n : ℕ) (b : Bool) (l : List Checked) (x : Checked) → b ≡ true → x ≡ first l → x ≡ first (claim n b ∷ l)
+pub met : (n : ℕ) (b : Bool) (l : List Check) (x : Check) → b ≡ true → x ≡ first l → x ≡ first (claim n b ∷ l)
 met n b l x e f = f ∙ sym (past-claim n b l e)
 
-pub unmet : (n : ℕ) (b : Bool) (l : List Checked) → b ≡ false → failed n ≡ first (claim n b ∷ l)
+pub unmet : (n : ℕ) (b : Bool) (l : List Check) → b ≡ false → failed n ≡ first (claim n b ∷ l)
 unmet n b l e = sym (stop-claim n b l e)
 
-pub clear : (n : ℕ) (b : Bool) (l : List Checked) (x : Checked) → b ≡ false → x ≡ first l → x ≡ first (deny n b ∷ l)
+pub clear : (n : ℕ) (b : Bool) (l : List Check) (x : Check) → b ≡ false → x ≡ first l → x ≡ first (deny n b ∷ l)
 unfolding deny
 clear n b l x e f = met n (not b) l x (rw e) f
 
-pub barred : (n : ℕ) (b : Bool) (l : List Checked) → b ≡ true → failed n ≡ first (deny n b ∷ l)
+pub barred : (n : ℕ) (b : Bool) (l : List Check) → b ≡ true → failed n ≡ first (deny n b ∷ l)
 unfolding deny
 barred n b l e = unmet n (not b) l (rw e)
 
-pub met-by : (a : Checked) (l : List Checked) (x : Checked) → a ≡ Fine → x ≡ first l → x ≡ first (a ∷ l)
+pub met-by : (a : Check) (l : List Check) (x : Check) → a ≡ fine → x ≡ first l → x ≡ first (a ∷ l)
 met-by a l x e f = f ∙ sym (past a l e)
 
-pub unmet-by : (a : Checked) (l : List Checked) (k : Refusal) → a ≡ Refused k → Refused k ≡ first (a ∷ l)
+pub unmet-by : (a : Check) (l : List Check) (k : Refusal) → a ≡ refused k → refused k ≡ first (a ∷ l)
 unmet-by a l k e = sym (stop a l k e)
 
-pub end : Fine ≡ first []
+pub end : fine ≡ first []
 end = sym done
 
-pub none-left : (a : Checked) → a ≡ first (a ∷ [])
+pub none-left : (a : Check) → a ≡ first (a ∷ [])
 none-left a = sym (last a)
 
 -- tests from facts

@@ -4,35 +4,33 @@ use Prim.Native.Nat.{ℕ, zero, suc, _+_}
 use mathlib.Core.Bool.{Bool, true, false, _&&_, _||_, not}
 use lib.Dec.{leb, ltb, eqb}
 use mathlib.Core.List.{List, [], _∷_}
-use Rattle.answer.specs.declared.Checked.{Checked}
-use Rattle.answer.specs.declared.Checked.the-variants.{Fine, Refused}
-use Rattle.answer.specs.Refusals.{refusal}
+use Rattle.answer.specs.Answers.{ok, refused, no, Check, fine}
 
-abbrev pub failed : ℕ → Checked
-failed n = Refused (refusal n)
+abbrev pub failed : ℕ → Check
+failed n = no n
 
 -- what must hold, and the number that is given where it does not
-unfoldable pub claim : ℕ → Bool → Checked
-claim n true = Fine
+unfoldable pub claim : ℕ → Bool → Check
+claim n true = fine
 claim n false = failed n
 
 -- what must not hold
-unfoldable pub deny : ℕ → Bool → Checked
+unfoldable pub deny : ℕ → Bool → Check
 deny n b = claim n (not b)
 
 -- a check that is made only after another was fine
-unfoldable pub andThen : Checked → Checked → Checked
-andThen Fine b = b
-andThen (Refused k) b = Refused k
+unfoldable pub andThen : Check → Check → Check
+andThen (ok u) b = b
+andThen (refused k) b = refused k
 
 -- the first refusal of a list
-unfoldable pub first : List Checked → Checked
-first [] = Fine
+unfoldable pub first : List Check → Check
+first [] = fine
 first (a ∷ l) = andThen a (first l)
 
 -- the first refusal of n checks in a row, from the i-th on
-unfoldable pub each : (ℕ → Checked) → ℕ → ℕ → Checked
-each f zero i = Fine
+unfoldable pub each : (ℕ → Check) → ℕ → ℕ → Check
+each f zero i = fine
 each f (suc n) i = andThen (f i) (each f n (i + 1))
 
 -- the first of n places from i on at which p holds; i + n where there is none

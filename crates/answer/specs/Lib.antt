@@ -1,6 +1,6 @@
 -- The one vocabulary of answers: refusals, checks in order, values, walks.
 pub mod Refusals
+pub mod Answers
 pub mod Checks
 pub mod CheckLaws
-pub mod Answers
 pub mod Walks

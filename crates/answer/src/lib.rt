@@ -2,6 +2,7 @@
 ghost use mathlib.Core.Path.{_≡_};
 ghost use Rattle.basics.specs.Parity.{_⊻_};
 ghost use Rattle.answer.specs.Refusals.{refusal};
+ghost use Rattle.answer.specs.Answers.{checkedTold};
 ghost use Rattle.answer.specs.Checks.{failed, claim};
 
 // Why there is no answer: its number in document 01.
@@ -23,14 +24,14 @@ pub fn refuse(number: u32) -> Refusal
 
 // A check that found something wrong.
 pub fn fail(number: u32) -> Checked
-    ensures { λ r. ⌜ r ≡ failed number ⌝ }
+    ensures { λ r. ⌜ checkedTold r ≡ failed number ⌝ }
 {
     Checked::Refused(refuse(number))
 }
 
 // Fine where it holds, and else the refusal with that number.
 pub fn claim(number: u32, holds: bool) -> Checked
-    ensures { λ r. ⌜ r ≡ claim number holds ⌝ }
+    ensures { λ r. ⌜ checkedTold r ≡ claim number holds ⌝ }
 {
     if holds {
         return Checked::Fine;

@@ -12,10 +12,8 @@ use Rattle.plane.specs.Sight.{Sight}
 use Rattle.plane.specs.Sight as S
 use Rattle.plane.specs.Segment.{cross, amidZ, onZ, countsZ, seg}
 use Rattle.answer.specs.declared.Refusal.{Refusal}
-use Rattle.answer.specs.declared.Checked.{Checked}
-use Rattle.answer.specs.declared.Checked.the-variants as C
 use Rattle.answer.specs.Checks.{claim, atMost}
-use Rattle.answer.specs.Answers.{Answer, ok, refused}
+use Rattle.answer.specs.Answers.{Answer, ok, refused, Check}
 use Rattle.tzb_core.specs.Varint.{numberAt, digits}
 use Rattle.reader_grid.specs.Word.{rangeCheck}
 
@@ -86,9 +84,9 @@ seenOf S.On = on
 seenOf (S.Off true) = counts
 seenOf (S.Off false) = neither
 
-checkedOf : Checked → Expected
-checkedOf C.Fine = accepted
-checkedOf (C.Refused r) = refusedBy (r .number)
+checkedOf : Check → Expected
+checkedOf (ok u) = accepted
+checkedOf (refused r) = refusedBy (r .number)
 
 -- what the definitions answer
 pub answerOf : Question → Expected

@@ -10,8 +10,7 @@ use lib.Dec.{ltb, leb}
 use lib.IntN.{ℤ}
 use borrow.Author.Tests.{le-leb, lt-leb}
 use Rattle.plane.specs.declared.I32Point.{I32Point}
-use Rattle.answer.specs.declared.Checked.the-variants.{Fine}
-use Rattle.answer.specs.Answers.{ok, no, _then_, need, then-inv, need-inv}
+use Rattle.answer.specs.Answers.{ok, no, _then_, need, then-inv, need-inv, fine}
 use Rattle.tzb_core.specs.Decode.{pointsOf, flat, filled}
 use Rattle.tzb_core.proofs.Decoded.{outcome-fine}
 use Rattle.tzb_core.proofs.Neighbours.{count-list, never-empty}
@@ -79,7 +78,7 @@ module _ (o : Opened) (s : List ℕ) (i : ℕ) where
         rw (← (f .1), g .0) (h .1)
 
     -- what decoding accepts has points, and these stand in the lent memory afterwards
-    pub accepted : Fine ≡ decodeAt o s i out → (l : List I32Point) × (ok l ≡ chunkPoints o s i) × (decodedAt o s i out ≡ flat l ++ drop (length (flat l)) out)
+    pub accepted : fine ≡ decodeAt o s i out → (l : List I32Point) × (ok l ≡ chunkPoints o s i) × (decodedAt o s i out ≡ flat l ++ drop (length (flat l)) out)
     accepted e =
         let f = outcome-fine (decodeIn o s i out) e in
         (f .0, decoded-are (f .0) (f .1), ap (filled out) (sym (f .1)))

@@ -3,7 +3,7 @@
 use Prim.Native.Nat.{ℕ}
 use mathlib.Core.Path.{_≡_, sym, _∙_}
 use Rattle.basics.specs.Determined.{Determined, DeterminedMemory}
-use Rattle.answer.specs.Answers.{Answer}
+use Rattle.answer.specs.Answers.{Answer, checked-one}
 use Rattle.plane.specs.declared.I32Point.{I32Point}
 use Rattle.tzb_core.proofs.DeterminedChunk.{one-scan, one-trace}
 use Rattle.reader_chunks.specs.Chunks.{toldOffset, toldPoint}
@@ -54,7 +54,7 @@ pub trace-at : Determined trace-at-reads.Learnt
 trace-at κ a r r' e e' p q = one-trace r r' _ p q
 
 pub decode-chunk-points : Determined decode-chunk-points-reads.Learnt
-decode-chunk-points κ a r r' e e' p q = p .0 ∙ sym (q .0)
+decode-chunk-points κ a r r' e e' p q = checked-one r r' (p .0 ∙ sym (q .0))
 
 -- the lent numbers at exit
 pub decode-chunk-points-memory : DeterminedMemory decode-chunk-points-reads.Learnt (λ κ e. e .1 .1 .1 .0 .now)

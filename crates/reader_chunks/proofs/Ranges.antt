@@ -6,8 +6,7 @@ use mathlib.Core.List.{List}
 use lib.ListN.{length}
 use lib.Dec.{ltb, leb}
 use borrow.Author.Tests.{ltb-true, leb-true}
-use Rattle.answer.specs.declared.Checked.the-variants.{Fine}
-use Rattle.answer.specs.Answers.{ok, need, then-inv, need-inv}
+use Rattle.answer.specs.Answers.{ok, need, then-inv, need-inv, fine}
 use Rattle.fields.specs.Part.{part}
 use Rattle.fields.specs.Loads.{inside}
 use Rattle.tzb_core.specs.Decode.{outcome}
@@ -24,7 +23,7 @@ span-in s a e b h =
     let g = need-inv 44 (leb e (length s)) (ok (part s a e)) b (f .1) in
     (ltb-true a e (f .0), leb-true e (length s) (g .0))
 
-pub span-fine : (s : List ℕ) (a e : ℕ) → Fine ≡ outcome (span s a e) → (a < e) × (e ≤ length s)
+pub span-fine : (s : List ℕ) (a e : ℕ) → fine ≡ outcome (span s a e) → (a < e) × (e ≤ length s)
 span-fine s a e h = let f = outcome-fine (span s a e) h in span-in s a e (f .0) (f .1)
 
 -- a chunk that there is has its index in the directory

@@ -11,8 +11,7 @@ use borrow.Author.Tests.{lt-leb, le-leb, lt-ltb, le-ltb}
 use Rattle.plane.specs.declared.Point.{Point}
 use Rattle.plane.specs.declared.I32Point.{I32Point}
 use Rattle.answer.specs.declared.Refusal.{Refusal}
-use Rattle.answer.specs.declared.Checked.{Checked}
-use Rattle.answer.specs.Answers.{Answer, ok, refused, no, _then_, need}
+use Rattle.answer.specs.Answers.{Answer, ok, refused, no, _then_, need, Check}
 use Rattle.answer.specs.Walks.{Walk, broken, _yields_}
 use Rattle.boxes.specs.declared.BBox.{BBox}
 use Rattle.fields.specs.Part.{part}
@@ -96,7 +95,7 @@ unfoldable pub decodeIn : Opened → List ℕ → ℕ → List ℤ → Answer (L
 decodeIn o s i out = chunkAt o s i then λ v. decodeBy o s i out v
 
 -- what is told, and the lent memory afterwards: the numbers of the points, then the rest as it was; after a refusal all as it was
-abbrev pub decodeAt : Opened → List ℕ → ℕ → List ℤ → Checked
+abbrev pub decodeAt : Opened → List ℕ → ℕ → List ℤ → Check
 decodeAt o s i out = outcome (decodeIn o s i out)
 
 abbrev pub decodedAt : Opened → List ℕ → ℕ → List ℤ → List ℤ

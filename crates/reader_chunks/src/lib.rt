@@ -2,6 +2,7 @@
 ghost use mathlib.Core.Path.{_≡_};
 ghost use Prim.Native.Nat.{_+_, _*_, _≤_, _<_};
 ghost use lib.ListN.{length};
+ghost use Rattle.answer.specs.Answers.{checkedTold};
 ghost use Rattle.tzb_core.specs.Decode.{outcome, filled};
 ghost use Rattle.tzb_core.specs.Scan.{scanned};
 ghost use Rattle.tzb_core.specs.Trace.{toldTrace};
@@ -66,7 +67,7 @@ pub fn end_of(o: Opened, s: &[u8], index: usize) -> Offset
 
 // 37 and 44 of the bytes from a to e.
 fn check_span(s: &[u8], a: usize, e: usize) -> Checked
-    ensures { λ r. ⌜ r ≡ outcome (span (now (s .entry)) a e) ⌝ }
+    ensures { λ r. ⌜ checkedTold r ≡ outcome (span (now (s .entry)) a e) ⌝ }
 {
     if e <= a {
         return answer::fail(37);
@@ -155,7 +156,7 @@ pub fn trace_at(o: Opened, s: &[u8], index: usize) -> Traced
 fn decode_in(s: &[u8], count: u16, a: usize, e: usize, out: &mut [i32]) -> Checked
     requires { ⌜ 0 < count ⌝ }
     requires { ⌜ 2 * count ≤ length (now out) ⌝ }
-    ensures { λ r. ⌜ (r ≡ outcome (pointsIn (now (s .entry)) count a e)) × (now (out .exit) ≡ filled (now (out .entry)) (pointsIn (now (s .entry)) count a e)) ⌝ }
+    ensures { λ r. ⌜ (checkedTold r ≡ outcome (pointsIn (now (s .entry)) count a e)) × (now (out .exit) ≡ filled (now (out .entry)) (pointsIn (now (s .entry)) count a e)) ⌝ }
 {
     let c = check_span(s, a, e);
     if let Checked::Refused(k) = c {
@@ -167,7 +168,7 @@ fn decode_in(s: &[u8], count: u16, a: usize, e: usize, out: &mut [i32]) -> Check
 
 // All points of chunk `index`, whose record is v: 32 and 46 before the bytes are sought.
 fn decode_record(o: Opened, s: &[u8], index: usize, v: ChunkRecord, out: &mut [i32]) -> Checked
-    ensures { λ r. ⌜ (r ≡ outcome (decodeBy o (now (s .entry)) index (now (out .entry)) v)) × (now (out .exit) ≡ filled (now (out .entry)) (decodeBy o (now (s .entry)) index (now (out .entry)) v)) ⌝ }
+    ensures { λ r. ⌜ (checkedTold r ≡ outcome (decodeBy o (now (s .entry)) index (now (out .entry)) v)) × (now (out .exit) ≡ filled (now (out .entry)) (decodeBy o (now (s .entry)) index (now (out .entry)) v)) ⌝ }
 {
     if v.count == 0 {
         return answer::fail(32);
@@ -184,7 +185,7 @@ fn decode_record(o: Opened, s: &[u8], index: usize, v: ChunkRecord, out: &mut [i
 
 // The points of chunk `index` into lent numbers, two a point. A refusal leaves the lent memory as it was, and what lies behind the points is never touched.
 pub fn decode_chunk_points(o: Opened, s: &[u8], index: usize, out: &mut [i32]) -> Checked
-    ensures { λ r. ⌜ r ≡ decodeAt o (now (s .entry)) index (now (out .entry)) ⌝ }
+    ensures { λ r. ⌜ checkedTold r ≡ decodeAt o (now (s .entry)) index (now (out .entry)) ⌝ }
     ensures memory { λ r. ⌜ now (out .exit) ≡ decodedAt o (now (s .entry)) index (now (out .entry)) ⌝ }
 {
     let t = reader_records::chunk_at(o, s, index);

@@ -7,19 +7,18 @@ use mathlib.Core.Bool.{Bool, true, false}
 use borrow.Author.Tests.{ltb-true, ltb-false}
 use lib.Dec.{ltb}
 use mathlib.Core.List.{List}
-use Rattle.answer.specs.declared.Checked.the-variants.{Fine}
 use Rattle.answer.specs.CheckLaws.{fine-one, fine-rest, fine-claim, at-le, below-lt, same-eq}
-use Rattle.answer.specs.Answers.{ok}
+use Rattle.answer.specs.Answers.{ok, fine}
 use Rattle.reader_opened.specs.declared.Opened.{Opened}
 use Rattle.reader_opened.specs.Opened.{each-at}
 use Rattle.reader_records.specs.Records.{chunkAt, chunkIn, chunkRule, groupAt, groupIn, groupRule, ruled-there}
 use Rattle.reader_dirs.specs.Dirs.{chunkOf, groupOf, chunkCheck, chunkCheckAt, chunksCheck, leastOff, countAt, total, groupCheck, groupCheckAt, groupsCheck, Room}
 
-module _ (s : List ℕ) (o : Opened) (room : Room s o) (fine : chunksCheck s o ≡ Fine) where
+module _ (s : List ℕ) (o : Opened) (room : Room s o) (passes : chunksCheck s o ≡ fine) where
   module _ (i : ℕ) (h : i < o .chunks .count) where
-    checked : chunkCheck (chunkOf s (o .chunks) i) (o .points .len) (leastOff s (o .chunks) i) ≡ Fine
+    checked : chunkCheck (chunkOf s (o .chunks) i) (o .points .len) (leastOff s (o .chunks) i) ≡ fine
     unfolding chunksCheck chunkCheckAt
-    checked = each-at (chunkCheckAt s (o .chunks) (o .points .len)) (o .chunks .count) i fine h
+    checked = each-at (chunkCheckAt s (o .chunks) (o .points .len)) (o .chunks .count) i passes h
 
     pub chunk-kept : chunkRule (chunkOf s (o .chunks) i) ≡ true
     unfolding chunkCheck
@@ -59,10 +58,10 @@ module _ (s : List ℕ) (o : Opened) (room : Room s o) (fine : chunksCheck s o �
           let same : i ≡ j = omega (arith, ltb-false i j e) in
           rw same (next-rises j k)
 
-module _ (s : List ℕ) (o : Opened) (room : Room s o) (fine : groupsCheck s o ≡ Fine) (i : ℕ) (h : i < o .groups .count) where
-  group-checked : groupCheck s (o .chunks) (groupOf s (o .groups) i) ≡ Fine
+module _ (s : List ℕ) (o : Opened) (room : Room s o) (passes : groupsCheck s o ≡ fine) (i : ℕ) (h : i < o .groups .count) where
+  group-checked : groupCheck s (o .chunks) (groupOf s (o .groups) i) ≡ fine
   unfolding groupsCheck groupCheckAt
-  group-checked = each-at (groupCheckAt s (o .groups) (o .chunks)) (o .groups .count) i fine h
+  group-checked = each-at (groupCheckAt s (o .groups) (o .chunks)) (o .groups .count) i passes h
 
   pub group-kept : groupRule (o .chunks .count) (groupOf s (o .groups) i) ≡ true
   unfolding groupCheck

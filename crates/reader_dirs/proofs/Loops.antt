@@ -5,7 +5,7 @@ use native.Mathlib.Omega.{arith}
 use native.Mathlib.Numerals.{add-one}
 use mathlib.Core.Path.{_≡_, refl, sym, ap, _∙_}
 use mathlib.Core.List.{List}
-use Rattle.answer.specs.declared.Checked.{Checked}
+use Rattle.answer.specs.Answers.{Check}
 use Rattle.reader_opened.specs.declared.Directory.{Directory}
 use Rattle.reader_records.specs.declared.ChunkRecord.{ChunkRecord}
 use Rattle.reader_records.specs.declared.GroupRecord.{GroupRecord}
@@ -45,11 +45,11 @@ unfolding leastOff
 least-next s d i x v e g = rw (add-one i) (ap (λ (y : ℕ). y + 1) (e ∙ ap (λ (u : ChunkRecord). u .off) g))
 
 -- a check made of a record that was read, with the offset that was kept, is that record's check
-pub chunk-checked : (s : List ℕ) (d : Directory) (points i least : ℕ) (v : ChunkRecord) (a : Checked)
+pub chunk-checked : (s : List ℕ) (d : Directory) (points i least : ℕ) (v : ChunkRecord) (a : Check)
     → v ≡ chunkOf s d i → least ≡ leastOff s d i → a ≡ chunkCheck v points least → chunkCheckAt s d points i ≡ a
 unfolding chunkCheckAt
 chunk-checked s d points i least v a e g h = rw (← e, ← g) (sym h)
 
-pub group-checked : (s : List ℕ) (g d : Directory) (i : ℕ) (v : GroupRecord) (a : Checked) → v ≡ groupOf s g i → a ≡ groupCheck s d v → groupCheckAt s g d i ≡ a
+pub group-checked : (s : List ℕ) (g d : Directory) (i : ℕ) (v : GroupRecord) (a : Check) → v ≡ groupOf s g i → a ≡ groupCheck s d v → groupCheckAt s g d i ≡ a
 unfolding groupCheckAt
 group-checked s g d i v a e h = rw (← e) (sym h)

@@ -3,7 +3,7 @@
 use Prim.Native.Nat.{ℕ, zero, suc, _+_, _*_, _≤_}
 use mathlib.Core.List.{List, [], _∷_}
 use lib.ListN.{length}
-use Rattle.answer.specs.declared.Checked.{Checked}
+use Rattle.answer.specs.Answers.{Check}
 use Rattle.answer.specs.Checks.{claim, first, each, atMost, below, same}
 use Rattle.reader_opened.specs.declared.Directory.{Directory}
 use Rattle.reader_opened.specs.declared.Opened.{Opened}
@@ -19,7 +19,7 @@ abbrev pub groupOf : List ℕ → Directory → ℕ → GroupRecord
 groupOf s d i = groupIn s (place d 44 i)
 
 -- Each chunk: record rule (34); count above 0, offset below the POINTS length and at least so much (32).
-unfoldable pub chunkCheck : ChunkRecord → ℕ → ℕ → Checked
+unfoldable pub chunkCheck : ChunkRecord → ℕ → ℕ → Check
 chunkCheck v points least =
     first
     (claim 34 (chunkRule v)
@@ -33,10 +33,10 @@ unfoldable pub leastOff : List ℕ → Directory → ℕ → ℕ
 leastOff s d zero = 0
 leastOff s d (suc i) = chunkOf s d i .off + 1
 
-unfoldable pub chunkCheckAt : List ℕ → Directory → ℕ → ℕ → Checked
+unfoldable pub chunkCheckAt : List ℕ → Directory → ℕ → ℕ → Check
 chunkCheckAt s d points i = chunkCheck (chunkOf s d i) points (leastOff s d i)
 
-unfoldable pub chunksCheck : List ℕ → Opened → Checked
+unfoldable pub chunksCheck : List ℕ → Opened → Check
 chunksCheck s o = each (chunkCheckAt s (o .chunks) (o .points .len)) (o .chunks .count) 0
 
 -- n numbers from the i-th on, added
@@ -48,17 +48,17 @@ unfoldable pub countAt : List ℕ → Directory → ℕ → ℕ
 countAt s d i = chunkOf s d i .count
 
 -- Each group: record rule, then its chunks' counts add to its point count (33).
-unfoldable pub groupCheck : List ℕ → Directory → GroupRecord → Checked
+unfoldable pub groupCheck : List ℕ → Directory → GroupRecord → Check
 groupCheck s chunks v =
     first
     (claim 34 (groupRule (chunks .count) v)
     ∷ claim 33 (same (total (countAt s chunks) (v .count) (v .first)) (v .points))
     ∷ [])
 
-unfoldable pub groupCheckAt : List ℕ → Directory → Directory → ℕ → Checked
+unfoldable pub groupCheckAt : List ℕ → Directory → Directory → ℕ → Check
 groupCheckAt s groups chunks i = groupCheck s chunks (groupOf s groups i)
 
-unfoldable pub groupsCheck : List ℕ → Opened → Checked
+unfoldable pub groupsCheck : List ℕ → Opened → Check
 groupsCheck s o = each (groupCheckAt s (o .groups) (o .chunks)) (o .groups .count) 0
 
 -- a directory of records of w bytes lies within the bytes

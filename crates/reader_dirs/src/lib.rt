@@ -1,6 +1,7 @@
 // Opening, 32 to 34: the chunk and the group directory, each record by the one record rule.
 ghost use mathlib.Core.Path.{_≡_};
 ghost use Prim.Native.Nat.{_+_, _-_, _≤_, _<_};
+ghost use Rattle.answer.specs.Answers.{checkedTold};
 ghost use Rattle.answer.specs.Checks.{each};
 ghost use Rattle.reader_dirs.specs.Dirs.{chunkOf, groupOf, chunkCheck, chunkCheckAt, chunksCheck, countAt, total, groupCheck, groupCheckAt, groupsCheck, Lies, Room};
 use answer::Checked;
@@ -11,7 +12,7 @@ use reader_records::GroupRecord;
 
 // 34 and 32 of a chunk, whose offset must be at least `least`.
 fn chunk(v: ChunkRecord, points: u32, least: usize) -> Checked
-    ensures { λ r. ⌜ r ≡ chunkCheck v points least ⌝ }
+    ensures { λ r. ⌜ checkedTold r ≡ chunkCheck v points least ⌝ }
 {
     if !reader_records::chunk_rule(v) {
         return answer::fail(34);
@@ -38,7 +39,7 @@ fn chunk_no(s: &[u8], d: Directory, i: usize) -> ChunkRecord
 
 fn chunks_of(s: &[u8], d: Directory, points: u32) -> Checked
     requires { ⌜ Lies (now s) d 24 ⌝ }
-    ensures { λ r. ⌜ r ≡ each (chunkCheckAt (now (s .entry)) d points) (d .count) 0 ⌝ }
+    ensures { λ r. ⌜ checkedTold r ≡ each (chunkCheckAt (now (s .entry)) d points) (d .count) 0 ⌝ }
 {
     let n = reader_head::wide(d.count);
     let mut least = 0;
@@ -58,7 +59,7 @@ fn chunks_of(s: &[u8], d: Directory, points: u32) -> Checked
 // 34 and 32.
 pub fn chunks(o: Opened, s: &[u8]) -> Checked
     requires { ⌜ Room (now s) o ⌝ }
-    ensures { λ r. ⌜ r ≡ chunksCheck (now (s .entry)) o ⌝ }
+    ensures { λ r. ⌜ checkedTold r ≡ chunksCheck (now (s .entry)) o ⌝ }
 {
     let d = o.chunks;
     chunks_of(s, d, o.points.len)
@@ -98,7 +99,7 @@ fn group_no(s: &[u8], g: Directory, i: usize) -> GroupRecord
 // 34 and 33 of a group, whose chunks are in the directory d.
 fn group(s: &[u8], d: Directory, v: GroupRecord) -> Checked
     requires { ⌜ Lies (now s) d 24 ⌝ }
-    ensures { λ r. ⌜ r ≡ groupCheck (now (s .entry)) d v ⌝ }
+    ensures { λ r. ⌜ checkedTold r ≡ groupCheck (now (s .entry)) d v ⌝ }
 {
     if !reader_records::group_rule(d.count, v) {
         return answer::fail(34);
@@ -113,7 +114,7 @@ fn group(s: &[u8], d: Directory, v: GroupRecord) -> Checked
 
 fn groups_of(s: &[u8], g: Directory, d: Directory) -> Checked
     requires { ⌜ Lies (now s) g 44 × Lies (now s) d 24 ⌝ }
-    ensures { λ r. ⌜ r ≡ each (groupCheckAt (now (s .entry)) g d) (g .count) 0 ⌝ }
+    ensures { λ r. ⌜ checkedTold r ≡ each (groupCheckAt (now (s .entry)) g d) (g .count) 0 ⌝ }
 {
     let n = reader_head::wide(g.count);
     let mut i = 0;
@@ -131,7 +132,7 @@ fn groups_of(s: &[u8], g: Directory, d: Directory) -> Checked
 // 34 and 33.
 pub fn groups(o: Opened, s: &[u8]) -> Checked
     requires { ⌜ Room (now s) o ⌝ }
-    ensures { λ r. ⌜ r ≡ groupsCheck (now (s .entry)) o ⌝ }
+    ensures { λ r. ⌜ checkedTold r ≡ groupsCheck (now (s .entry)) o ⌝ }
 {
     let g = o.groups;
     let d = o.chunks;

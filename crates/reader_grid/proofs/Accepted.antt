@@ -12,9 +12,8 @@ use lib.IntN.{ℤ, _-ℤ_}
 use lib.Ieee.{Float}
 use Rattle.fields.specs.Le.{le}
 use Rattle.fields.specs.Loads.{inside, loadAt}
-use Rattle.answer.specs.declared.Checked.the-variants.{Fine}
 use Rattle.answer.specs.Checks.{same}
-use Rattle.answer.specs.Answers.{Answer, ok, need-met}
+use Rattle.answer.specs.Answers.{Answer, ok, need-met, fine}
 use Rattle.answer.specs.CheckLaws.{fine-one, fine-rest, fine-claim, at-le, le-at, below-lt, same-eq, eq-same}
 use Rattle.reader_table.specs.declared.Section.{Section}
 use Rattle.reader_opened.specs.declared.Grid.{Grid}
@@ -62,20 +61,20 @@ cell-below g column row h =
     let whole-rows = mul-le-mul-right (g .cols) (row-below g column row h) in
     omega (arith, whole-rows, column-below g column row h)
 
-module _ (s : List ℕ) (sec : Section) (g : Grid) (zones : ℕ) (room : Within s sec) (fine : gridCheck s sec g zones ≡ Fine) where
+module _ (s : List ℕ) (sec : Section) (g : Grid) (zones : ℕ) (room : Within s sec) (passes : gridCheck s sec g zones ≡ fine) where
   pub grid-long : 12 ≤ sec .len
   unfolding gridCheck
-  grid-long = at-le _ _ (fine-claim _ _ (fine-one _ _ fine))
+  grid-long = at-le _ _ (fine-claim _ _ (fine-one _ _ passes))
 
   -- the words of the cells and the candidates are all there
   pub grid-fits : sec .off + 12 + 4 * cellCount g + 2 * g .total ≤ length s
   unfolding gridCheck
-  grid-fits = omega (arith, same-eq _ _ (fine-claim _ _ (fine-one _ _ (fine-rest _ _ (fine-rest _ _ fine)))), room .fits)
+  grid-fits = omega (arith, same-eq _ _ (fine-claim _ _ (fine-one _ _ (fine-rest _ _ (fine-rest _ _ passes)))), room .fits)
 
   module _ (i : ℕ) (h : i < cellCount g) where
-    cell-fine : cellCheck s (sec .off + 12) (sec .off + 12 + 4 * cellCount g) (g .total) zones i ≡ Fine
+    cell-fine : cellCheck s (sec .off + 12) (sec .off + 12 + 4 * cellCount g) (g .total) zones i ≡ fine
     unfolding gridCheck
-    cell-fine = each-at _ _ i (fine-one _ _ (fine-rest _ _ (fine-rest _ _ (fine-rest _ _ fine)))) h
+    cell-fine = each-at _ _ i (fine-one _ _ (fine-rest _ _ (fine-rest _ _ (fine-rest _ _ passes)))) h
 
     -- what cell i lists is within the candidate list
     pub cell-range : wordOffset (le 4 s (sec .off + 12 + 4 * i)) + wordCount (le 4 s (sec .off + 12 + 4 * i)) ≤ g .total
@@ -90,9 +89,9 @@ module _ (s : List ℕ) (sec : Section) (g : Grid) (zones : ℕ) (room : Within 
 
 -- The same of an opened record that keeps what the section's first bytes say.
 module _ (o : Opened) (s : List ℕ) (sec : Section) (room : Within s sec) (kept : o .grid ≡ gridOf s sec) where
-  module _ (fine : gridCheck s sec (o .grid) (o .zones .count) ≡ Fine) where
+  module _ (passes : gridCheck s sec (o .grid) (o .zones .count) ≡ fine) where
     begins : o .grid .off ≡ sec .off
-    begins = ap (λ (g : Grid). g .off) kept ∙ grid-begins s sec (grid-long s sec (o .grid) (o .zones .count) room fine)
+    begins = ap (λ (g : Grid). g .off) kept ∙ grid-begins s sec (grid-long s sec (o .grid) (o .zones .count) room passes)
 
     -- at each place that cell i lists stands a zone of the file
     pub place-given : (i : ℕ) → i < cellCount (o .grid) → (j : ℕ) → j < wordCount (le 4 s (sec .off + 12 + 4 * i))
@@ -101,9 +100,9 @@ module _ (o : Opened) (s : List ℕ) (sec : Section) (room : Within s sec) (kept
     place-given i h j k =
         let from = wordOffset (le 4 s (sec .off + 12 + 4 * i)) in
         let at = sec .off + 12 + 4 * cellCount (o .grid) + 2 * from + 2 * j in
-        let range = cell-range s sec (o .grid) (o .zones .count) room fine i h in
-        let zone-known = cell-zones s sec (o .grid) (o .zones .count) room fine i h j k in
-        let fits = grid-fits s sec (o .grid) (o .zones .count) room fine in
+        let range = cell-range s sec (o .grid) (o .zones .count) room passes i h in
+        let zone-known = cell-zones s sec (o .grid) (o .zones .count) room passes i h j k in
+        let fits = grid-fits s sec (o .grid) (o .zones .count) room passes in
         record {
           zone = le 2 s at;
           given = place-read o s (from + j) (omega (arith, range, k)) at (omega (arith, begins)) (le 2 s at) _ (load-there 2 s at (omega (arith, fits, range, k))) (zone-in (o .zones .count) (le 2 s at) (le 2 s at) refl zone-known);
@@ -120,7 +119,7 @@ module _ (o : Opened) (s : List ℕ) (sec : Section) (room : Within s sec) (kept
             let i = cellOf (o .grid) column row in
             let inside-grid = cell-below (o .grid) column row e in
             let at = sec .off + 12 + 4 * i in
-            let fits = grid-fits s sec (o .grid) (o .zones .count) room fine in
+            let fits = grid-fits s sec (o .grid) (o .zones .count) room passes in
             let there : at + 4 ≤ length s = omega (arith, fits, inside-grid) in
             record {
               chosen = listed (wordCount (le 4 s at)) (wordOffset (le 4 s at));
@@ -129,16 +128,16 @@ module _ (o : Opened) (s : List ℕ) (sec : Section) (room : Within s sec) (kept
             }
 
   -- A question for candidates is answered at all positions, whole numbers or not, on the earth or not.
-  pub candidates-given : ((o .flags % 2 ≡ 0 → ⊥) → gridCheck s sec (o .grid) (o .zones .count) ≡ Fine)
+  pub candidates-given : ((o .flags % 2 ≡ 0 → ⊥) → gridCheck s sec (o .grid) (o .zones .count) ≡ fine)
       → (lng lat : Float) → ChosenGiven o s (candidatesOf o s lng lat)
-  candidates-given fine lng lat = by (onEarth lng lat) (same (o .flags % 2) 0) refl refl
+  candidates-given passes lng lat = by (onEarth lng lat) (same (o .flags % 2) 0) refl refl
     where
       by : (a b : Bool) → onEarth lng lat ≡ a → same (o .flags % 2) 0 ≡ b → ChosenGiven o s (candidatesOf o s lng lat)
       by false b e f = record { chosen = none; given = off-earth o s lng lat e; zones = tt }
       by true true e f = record { chosen = all (o .zones .count); given = no-grid o s lng lat e (same-eq _ _ f); zones = refl }
       by true false e f =
           let flagged : o .flags % 2 ≡ 0 → ⊥ = λ z. true≢false (sym (eq-same (o .flags % 2) 0 z) ∙ f) in
-          let cell = cell-given (fine flagged) (floorOf lng -ℤ o .grid .lng) (floorOf lat -ℤ o .grid .lat) in
+          let cell = cell-given (passes flagged) (floorOf lng -ℤ o .grid .lng) (floorOf lat -ℤ o .grid .lat) in
           record {
             chosen = cell .chosen;
             given = by-grid o s lng lat _ _ (ok (cell .chosen)) e flagged refl refl (cell .given);

@@ -6,8 +6,7 @@ use native.Mathlib.Nat.{mul-le-mul}
 use mathlib.Core.Path.{_≡_, _∙_}
 use mathlib.Core.List.{List, [], _∷_}
 use lib.Dec.{leb}
-use Rattle.answer.specs.declared.Checked.{Checked}
-use Rattle.answer.specs.declared.Checked.the-variants.{Fine}
+use Rattle.answer.specs.Answers.{Check, fine}
 use Rattle.answer.specs.Checks.{claim, first, each, atMost}
 use Rattle.answer.specs.CheckLaws.{fine-claim, at-le, none-left}
 use Rattle.reader_grid.specs.Word.{wordCount, wordOffset, rangeCheck}
@@ -20,7 +19,7 @@ area-fits a b h k =
     let p : a * b ≤ 65_535 * 65_535 = mul-le-mul x y in
     omega arith
 
-pub ranged : (w total : ℕ) → rangeCheck w total ≡ Fine → wordOffset w + wordCount w ≤ total
+pub ranged : (w total : ℕ) → rangeCheck w total ≡ fine → wordOffset w + wordCount w ≤ total
 unfolding rangeCheck
 ranged w total e = at-le _ _ (fine-claim _ _ e)
 
@@ -28,10 +27,10 @@ pub range-is : (w total l t : ℕ) → l ≡ wordOffset w → t ≡ wordCount w 
 unfolding rangeCheck atMost
 range-is w total l t el et = rw (el, et)
 
-pub only : (a x : Checked) → x ≡ a → x ≡ first (a ∷ [])
+pub only : (a x : Check) → x ≡ a → x ≡ first (a ∷ [])
 only a x e = e ∙ none-left a
 
 -- the cells, by the place and the numbers that were worked out
-pub cells-are : (s : List ℕ) (off total z at n m t : ℕ) (x : Checked) → at ≡ off → n ≡ m → t ≡ total →
+pub cells-are : (s : List ℕ) (off total z at n m t : ℕ) (x : Check) → at ≡ off → n ≡ m → t ≡ total →
     x ≡ each (cellCheck s (at + 12) (at + 12 + 4 * n) t z) n 0 → x ≡ each (cellCheck s (off + 12) (off + 12 + 4 * m) total z) m 0
 cells-are s off total z at n m t x ea en et h = rw (ea, en, et) at h

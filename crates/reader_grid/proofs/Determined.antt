@@ -3,7 +3,7 @@
 use mathlib.Core.Path.{_≡_, sym, _∙_}
 use Prim.Native.Nat.{ℕ}
 use Rattle.basics.specs.Determined.{Determined}
-use Rattle.answer.specs.Answers.{Answer}
+use Rattle.answer.specs.Answers.{Answer, checked-one}
 use Rattle.reader_grid.specs.Asked.{Chosen, told, toldZone}
 use Rattle.reader_grid.specs.declared.Choice.{Choice}
 use Rattle.reader_grid.specs.declared.Choice.the-variants as C
@@ -38,7 +38,7 @@ one-zone (Z.Refused k) (Z.Zone q) x e f = cc
 one-zone (Z.Refused k) (Z.Refused l) x e f = cc
 
 pub grid : Determined grid-reads.Learnt
-grid κ a r r' e e' p q = p ∙ sym q
+grid κ a r r' e e' p q = checked-one r r' (p ∙ sym q)
 
 pub candidates : Determined candidates-reads.Learnt
 candidates κ a r r' e e' p q = one-choice r r' _ p q

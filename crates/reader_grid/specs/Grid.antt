@@ -7,7 +7,7 @@ use lib.Dec.{ltb}
 use lib.IntN.{ℤ, pos, negℤ, _+ℤ_, _-ℤ_}
 use lib.Signed.{leZ}
 use Rattle.fields.specs.Le.{le}
-use Rattle.answer.specs.declared.Checked.{Checked}
+use Rattle.answer.specs.Answers.{Check}
 use Rattle.answer.specs.Checks.{claim, first, each, atMost, below, same}
 use Rattle.reader_table.specs.declared.Section.{Section}
 use Rattle.reader_opened.specs.declared.Grid.{Grid}
@@ -31,10 +31,10 @@ abbrev pub cellCount : Grid → ℕ
 cellCount g = g .cols * g .rows
 
 -- Cell by cell: 30, then each candidate, 31. The cells' words stand from `at` on, the candidates from `cands` on.
-unfoldable pub candidateCheck : List ℕ → ℕ → ℕ → ℕ → Checked
+unfoldable pub candidateCheck : List ℕ → ℕ → ℕ → ℕ → Check
 candidateCheck s at zones j = claim 31 (below (le 2 s (at + 2 * j)) zones)
 
-unfoldable pub cellCheck : List ℕ → ℕ → ℕ → ℕ → ℕ → ℕ → Checked
+unfoldable pub cellCheck : List ℕ → ℕ → ℕ → ℕ → ℕ → ℕ → Check
 cellCheck s at cands total zones i =
     first
     (rangeCheck (le 4 s (at + 4 * i)) total
@@ -42,7 +42,7 @@ cellCheck s at cands total zones i =
     ∷ [])
 
 -- GRID's length, dimensions, section size, cells: a section, what its first bytes say, the number of zones
-unfoldable pub gridCheck : List ℕ → Section → Grid → ℕ → Checked
+unfoldable pub gridCheck : List ℕ → Section → Grid → ℕ → Check
 gridCheck s sec g zones =
     first
     (claim 27 (atMost 12 (sec .len))

@@ -5,6 +5,7 @@ ghost use Prim.Native.Nat.{_+_, _*_, _≤_, _<_};
 ghost use lib.IntN.{pos, natAbs, _-ℤ_};
 ghost use lib.Signed.{leZ};
 ghost use lib.ListN.{length};
+ghost use Rattle.answer.specs.Answers.{checkedTold};
 ghost use Rattle.answer.specs.Checks.{each};
 ghost use Rattle.reader_opened.specs.Opened.{Within};
 ghost use Rattle.reader_grid.specs.Word.{wordCount, wordOffset, rangeCheck};
@@ -57,7 +58,7 @@ fn dimensions(g: Grid) -> bool
 // 31, the j-th candidate from `at` on.
 fn zone_listed(s: &[u8], at: usize, zones: usize, j: usize) -> Checked
     requires { ⌜ (at + 2 * j + 2 ≤ length (now s)) × (length (now s) < 0x1_0000_0000) ⌝ }
-    ensures { λ r. ⌜ r ≡ candidateCheck (now (s .entry)) at zones j ⌝ }
+    ensures { λ r. ⌜ checkedTold r ≡ candidateCheck (now (s .entry)) at zones j ⌝ }
 {
     answer::claim(31, reader_head::half(s, at + 2 * j) < zones)
 }
@@ -65,7 +66,7 @@ fn zone_listed(s: &[u8], at: usize, zones: usize, j: usize) -> Checked
 // 31, of n candidates from `at` on.
 fn zones_listed(s: &[u8], at: usize, zones: usize, n: usize) -> Checked
     requires { ⌜ (at + 2 * n ≤ length (now s)) × (length (now s) < 0x1_0000_0000) ⌝ }
-    ensures { λ r. ⌜ r ≡ each (candidateCheck (now (s .entry)) at zones) n 0 ⌝ }
+    ensures { λ r. ⌜ checkedTold r ≡ each (candidateCheck (now (s .entry)) at zones) n 0 ⌝ }
 {
     let mut j = 0;
     while j < n {
@@ -93,7 +94,7 @@ fn low(w: usize) -> usize
 // 30 of a cell's word.
 fn range(w: usize, total: usize) -> Checked
     requires { ⌜ w < 0x1_0000_0000 ⌝ }
-    ensures { λ r. ⌜ r ≡ rangeCheck w total ⌝ }
+    ensures { λ r. ⌜ checkedTold r ≡ rangeCheck w total ⌝ }
 {
     answer::claim(30, low(w) + top(w) <= total)
 }
@@ -101,7 +102,7 @@ fn range(w: usize, total: usize) -> Checked
 // 30 and 31 of a cell. The cells stand from `at` on, the candidates from `cands` on.
 fn cell(s: &[u8], at: usize, cands: usize, total: usize, zones: usize, i: usize) -> Checked
     requires { ⌜ (at + 4 * i + 4 ≤ length (now s)) × (cands + 2 * total ≤ length (now s)) × (length (now s) < 0x1_0000_0000) ⌝ }
-    ensures { λ r. ⌜ r ≡ cellCheck (now (s .entry)) at cands total zones i ⌝ }
+    ensures { λ r. ⌜ checkedTold r ≡ cellCheck (now (s .entry)) at cands total zones i ⌝ }
 {
     let w = reader_head::word(s, at + 4 * i);
     let a = range(w, total);
@@ -113,7 +114,7 @@ fn cell(s: &[u8], at: usize, cands: usize, total: usize, zones: usize, i: usize)
 
 fn cells(s: &[u8], at: usize, n: usize, total: usize, zones: usize) -> Checked
     requires { ⌜ (at + 4 * n + 2 * total ≤ length (now s)) × (length (now s) < 0x1_0000_0000) ⌝ }
-    ensures { λ r. ⌜ r ≡ each (cellCheck (now (s .entry)) at (at + 4 * n) total zones) n 0 ⌝ }
+    ensures { λ r. ⌜ checkedTold r ≡ each (cellCheck (now (s .entry)) at (at + 4 * n) total zones) n 0 ⌝ }
 {
     let cands = at + 4 * n;
     let mut i = 0;
@@ -137,7 +138,7 @@ fn area(cols: u16, rows: u16) -> usize
 // 27 to 31, of a section and what its first bytes say.
 pub fn grid(s: &[u8], sec: Section, g: Grid, zones: usize) -> Checked
     requires { ⌜ Within (now s) sec × (length (now s) < 0x1_0000_0000) ⌝ }
-    ensures { λ r. ⌜ r ≡ gridCheck (now (s .entry)) sec g zones ⌝ }
+    ensures { λ r. ⌜ checkedTold r ≡ gridCheck (now (s .entry)) sec g zones ⌝ }
 {
     let len = reader_head::wide(sec.len);
     if len < 12 {

@@ -1,6 +1,7 @@
 -- Any two answers that a promise allows are equal: stated over the contracts themselves.
 -- Assumes nothing.
 use mathlib.Core.Path.{sym, _∙_}
+use Rattle.answer.specs.Answers.{checked-one}
 use Rattle.basics.specs.Determined.{Determined}
 use Rattle.reader_head.proofs.wide.Reads as wide-reads
 use Rattle.reader_head.proofs.half.Reads as half-reads
@@ -21,4 +22,4 @@ pub text-end : Determined text-end-reads.Learnt
 text-end κ a r r' e e' p q = p .0 ∙ sym (q .0)
 
 pub head : Determined head-reads.Learnt
-head κ a r r' e e' p q = p ∙ sym q
+head κ a r r' e e' p q = checked-one r r' (p ∙ sym q)

@@ -10,8 +10,7 @@ use Rattle.fields.specs.Part.{part}
 use Rattle.fields.specs.Le.{le}
 use Rattle.utf8.specs.Rfc3629.{utf8}
 use Rattle.crc.specs.Crc32.{crc32}
-use Rattle.answer.specs.declared.Checked.{Checked}
-use Rattle.answer.specs.declared.Checked.the-variants.{Fine}
+use Rattle.answer.specs.Answers.{Check, fine}
 use Rattle.answer.specs.CheckLaws.{fine-one, fine-rest, fine-claim, at-le}
 use mathlib.Core.Path.{_≡_, refl}
 use native.Mathlib.Omega.{arith}
@@ -19,7 +18,7 @@ use Rattle.answer.specs.Checks.{claim, deny, first, seek, atMost, same}
 use Rattle.reader_head.specs.Magic.{startsWith, tzfb}
 
 -- Size 68 to 4,294,967,295 (1). The first four bytes are "TZFB" and byte 4 is 1 (2). Byte 48: 0 goes on, 1 is 3, else 4.
-unfoldable pub startCheck : List ℕ → Checked
+unfoldable pub startCheck : List ℕ → Check
 startCheck s =
     first
     (deny 1 (ltb (length s) 68 || ltb 4_294_967_295 (length s))
@@ -34,7 +33,7 @@ unfoldable pub isCount : ℕ → Bool
 isCount n = leb 1 n && leb n 65_535
 
 -- The u16 at 6 is 64, the u32 at 12 is 100,000, the u32 at 16 is the size (5). Zone count at 40, 1 to 65,535 (6). Chunk target at 44, same range (7).
-unfoldable pub fieldsCheck : List ℕ → Checked
+unfoldable pub fieldsCheck : List ℕ → Check
 fieldsCheck s =
     first
     (deny 5 (not (eqb (le 2 s 6) 64) || (not (eqb (le 4 s 12) 100_000) || not (eqb (le 4 s 16) (length s))))
@@ -52,7 +51,7 @@ notZero s i = not (same (getD s i 0) 0)
 unfoldable pub versionEnd : List ℕ → ℕ
 versionEnd s = seek (isZero s) 16 24
 
-unfoldable pub versionCheck : List ℕ → Checked
+unfoldable pub versionCheck : List ℕ → Check
 versionCheck s =
     first
     (claim 8 (same (seek (notZero s) (40 - versionEnd s) (versionEnd s)) 40)
@@ -60,14 +59,14 @@ versionCheck s =
     ∷ [])
 
 -- Section count at 20; entries of 16 bytes from 64 end before the last four bytes (10). Those four hold the IEEE 802.3 CRC-32 of all before them (11).
-unfoldable pub boundsCheck : List ℕ → Checked
+unfoldable pub boundsCheck : List ℕ → Check
 boundsCheck s =
     first
     (claim 10 (atMost (64 + 16 * le 4 s 20) (length s - 4))
     ∷ claim 11 (same (crc32 (take (length s - 4) s)) (le 4 s (length s - 4)))
     ∷ [])
 
-unfoldable pub headCheck : List ℕ → Checked
+unfoldable pub headCheck : List ℕ → Check
 headCheck s = first (startCheck s ∷ fieldsCheck s ∷ versionCheck s ∷ boundsCheck s ∷ [])
 
 -- ---- laws: what is known of a file whose head is fine
@@ -79,14 +78,14 @@ size-in n e = go (ltb n 68) (ltb 4_294_967_295 n) refl refl e
     go false true x y h = absurd (true≢false h)
     go false false x y h = (ltb-false _ _ x, ltb-false _ _ y)
 
-sized : (s : List ℕ) → deny 1 (ltb (length s) 68 || ltb 4_294_967_295 (length s)) ≡ Fine → (68 ≤ length s) × (length s ≤ 4_294_967_295)
+sized : (s : List ℕ) → deny 1 (ltb (length s) 68 || ltb 4_294_967_295 (length s)) ≡ fine → (68 ≤ length s) × (length s ≤ 4_294_967_295)
 unfolding deny
 sized s e = size-in (length s) (not-true _ (fine-claim _ _ e))
 
 pub record Long (s : List ℕ) : Type 0 where
   pub long : 68 ≤ length s
 
-pub started : (s : List ℕ) → startCheck s ≡ Fine → Long s
+pub started : (s : List ℕ) → startCheck s ≡ fine → Long s
 unfolding startCheck
 started s e = record { long = sized s (fine-one _ _ e) .0 }
 
@@ -95,7 +94,7 @@ pub record Headed (s : List ℕ) : Type 0 where
   pub short : length s ≤ 4_294_967_295
   pub table : 64 + 16 * le 4 s 20 ≤ length s - 4
 
-pub headed : (s : List ℕ) → headCheck s ≡ Fine → Headed s
+pub headed : (s : List ℕ) → headCheck s ≡ fine → Headed s
 unfolding headCheck startCheck boundsCheck
 headed s e =
     let a = fine-one _ _ e in

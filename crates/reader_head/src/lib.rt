@@ -4,6 +4,7 @@ ghost use mathlib.Core.Bool.{_&&_};
 ghost use Prim.Native.Nat.{_+_, _-_, _*_, _≤_, _<_};
 ghost use lib.ListN.{length};
 ghost use lib.Dec.{leb};
+ghost use Rattle.answer.specs.Answers.{checkedTold};
 ghost use Rattle.answer.specs.Checks.{seek};
 ghost use Rattle.fields.specs.Le.{le};
 ghost use Rattle.crc.specs.Crc32.{crc32};
@@ -50,7 +51,7 @@ fn starts_with(s: &[u8], t: &[u8]) -> bool
 
 // 1 to 4: size, magic and major, profile.
 fn start(s: &[u8]) -> Checked
-    ensures { λ r. ⌜ r ≡ startCheck (now (s .entry)) ⌝ }
+    ensures { λ r. ⌜ checkedTold r ≡ startCheck (now (s .entry)) ⌝ }
 {
     if (s.len() < 68) | (s.len() > 0xffff_ffff) {
         return answer::fail(1);
@@ -78,7 +79,7 @@ fn is_count(n: usize) -> bool
 // 5 to 7: header fields, zone count, chunk target.
 fn fields(s: &[u8]) -> Checked
     requires { ⌜ Long (now s) ⌝ }
-    ensures { λ r. ⌜ r ≡ fieldsCheck (now (s .entry)) ⌝ }
+    ensures { λ r. ⌜ checkedTold r ≡ fieldsCheck (now (s .entry)) ⌝ }
 {
     let size = s.len();
     if (half(s, 6) != 64) | ((word(s, 12) != 100_000) | (word(s, 16) != size)) {
@@ -123,7 +124,7 @@ fn zeros_end(s: &[u8], from: usize, to: usize) -> usize
 // 8 and 9: version padding, version UTF-8.
 fn version(s: &[u8]) -> Checked
     requires { ⌜ Long (now s) ⌝ }
-    ensures { λ r. ⌜ r ≡ versionCheck (now (s .entry)) ⌝ }
+    ensures { λ r. ⌜ checkedTold r ≡ versionCheck (now (s .entry)) ⌝ }
 {
     let e = text_end(s, 24, 40);
     if zeros_end(s, e, 40) != 40 {
@@ -138,7 +139,7 @@ fn version(s: &[u8]) -> Checked
 // 10 and 11: section table bounds, CRC-32.
 fn bounds(s: &[u8]) -> Checked
     requires { ⌜ Long (now s) ⌝ }
-    ensures { λ r. ⌜ r ≡ boundsCheck (now (s .entry)) ⌝ }
+    ensures { λ r. ⌜ checkedTold r ≡ boundsCheck (now (s .entry)) ⌝ }
 {
     let end = s.len() - 4;
     if end < 64 + 16 * word(s, 20) {
@@ -158,7 +159,7 @@ fn crc(s: &[u8]) -> usize
 
 // 1 to 11.
 pub fn head(s: &[u8]) -> Checked
-    ensures { λ r. ⌜ r ≡ headCheck (now (s .entry)) ⌝ }
+    ensures { λ r. ⌜ checkedTold r ≡ headCheck (now (s .entry)) ⌝ }
 {
     let a = start(s);
     if let Checked::Refused(k) = a {

@@ -8,9 +8,7 @@ use mathlib.Core.List.{List, _∷_}
 use lib.ListN.{length, set, length-set}
 use lib.Seq.{sets}
 use Rattle.answer.specs.declared.Refusal.{Refusal}
-use Rattle.answer.specs.declared.Checked.{Checked}
-use Rattle.answer.specs.declared.Checked.the-variants.{Fine, Refused}
-use Rattle.answer.specs.Answers.{Answer, ok, refused, _then_, _before_}
+use Rattle.answer.specs.Answers.{Answer, ok, refused, _then_, _before_, Check, fine}
 use Rattle.answer.specs.Checks.{andThen}
 use Rattle.tzb_core.specs.Decode.{outcome}
 use Rattle.reader_opened.specs.declared.Opened.{Opened}
@@ -18,10 +16,10 @@ use Rattle.reader_names.specs.Asked.{nameAt}
 use Rattle.reader_lookup.specs.Asking.{Sought, nowhere, inZone, also, allHits, namesRead}
 use Rattle.reader_lookup.specs.Gather.{seen, seenOn, tally}
 
-and-then-assoc : (a b c : Checked) → andThen (andThen a b) c ≡ andThen a (andThen b c)
+and-then-assoc : (a b c : Check) → andThen (andThen a b) c ≡ andThen a (andThen b c)
 unfolding andThen
-and-then-assoc Fine b c = refl
-and-then-assoc (Refused k) b c = refl
+and-then-assoc (ok u) b c = refl
+and-then-assoc (refused k) b c = refl
 
 -- ---- one candidate more
 module _ (hit : ℕ → Answer Sought) (n i : ℕ) (h : 0 < n) where
@@ -37,7 +35,7 @@ module _ (hit : ℕ → Answer Sought) (n i : ℕ) (h : 0 < n) where
   seen-one = ap (λ (j : ℕ). seen hit j i) one-more
 
 module _ (o : Opened) (s : List ℕ) where
-  module _ (names : Checked) (m : ℕ) where
+  module _ (names : Check) (m : ℕ) where
     tally-miss : (x : Answer (List ℕ)) → tally o s names m x ≡ tally o s names m (x then λ l. ok (also nowhere l))
     unfolding tally
     tally-miss (ok l) = refl
@@ -47,23 +45,23 @@ module _ (o : Opened) (s : List ℕ) where
     unfolding tally namesRead
     tally-hit zone (ok l) =
         let e : m + 1 + length l ≡ m + suc (length l) = omega arith in
-        ap₂ (λ (c : Checked) (j : ℕ). c before ok j) (and-then-assoc names (outcome (nameAt o s zone)) (namesRead o s l)) e
+        ap₂ (λ (c : Check) (j : ℕ). c before ok j) (and-then-assoc names (outcome (nameAt o s zone)) (namesRead o s l)) e
     tally-hit zone (refused k) = refl
 
   -- n candidates from place `from` on, of which `left` from place `place` on are left; k were found to contain the point, with that result of their names
-  pub record Gathering (hit : ℕ → Answer Sought) (n from : ℕ) (held₀ held : List ℕ) (names : Checked) (k place left : ℕ) : Type 0 where
+  pub record Gathering (hit : ℕ → Answer Sought) (n from : ℕ) (held₀ held : List ℕ) (names : Check) (k place left : ℕ) : Type 0 where
     pub room : place + left < 0x1_0000_0000
     pub few : k + left ≤ n
     pub same : length held ≡ length held₀
-    pub count : tally o s names k (allHits hit left place) ≡ tally o s Fine 0 (allHits hit n from)
+    pub count : tally o s names k (allHits hit left place) ≡ tally o s fine 0 (allHits hit n from)
     pub kept : sets held k (seen hit left place) ≡ sets held₀ 0 (seen hit n from)
 
-  pub gather-start : (hit : ℕ → Answer Sought) (n from : ℕ) (held : List ℕ) → from + n < 0x1_0000_0000 → Gathering hit n from held held Fine 0 from n
+  pub gather-start : (hit : ℕ → Answer Sought) (n from : ℕ) (held : List ℕ) → from + n < 0x1_0000_0000 → Gathering hit n from held held fine 0 from n
   gather-start hit n from held h = record { room = h; few = omega arith; same = refl; count = refl; kept = refl }
 
-  module _ (hit : ℕ → Answer Sought) (n from : ℕ) (held₀ held : List ℕ) (names : Checked) (k place left : ℕ) (g : Gathering hit n from held₀ held names k place left) where
+  module _ (hit : ℕ → Answer Sought) (n from : ℕ) (held₀ held : List ℕ) (names : Check) (k place left : ℕ) (g : Gathering hit n from held₀ held names k place left) where
     module _ (h : 0 < left) where
-      pub gather-no : (r : Refusal) → refused r ≡ hit place → (refused r ≡ tally o s Fine 0 (allHits hit n from)) × (held ≡ sets held₀ 0 (seen hit n from))
+      pub gather-no : (r : Refusal) → refused r ≡ hit place → (refused r ≡ tally o s fine 0 (allHits hit n from)) × (held ≡ sets held₀ 0 (seen hit n from))
       unfolding tally
       gather-no r e = (count ∙ g .count, kept ∙ g .kept)
         where
@@ -88,14 +86,14 @@ module _ (o : Opened) (s : List ℕ) where
           seen-rest : seen hit left place ≡ seen hit (left - 1) (place + 1)
           seen-rest = rw (seen-one hit left place h, ← e)
 
-      pub gather-hit : (zone : ℕ) (after : Checked) (next : List ℕ) → ok (inZone zone) ≡ hit place → after ≡ andThen names (outcome (nameAt o s zone)) → next ≡ set held k zone
+      pub gather-hit : (zone : ℕ) (after : Check) (next : List ℕ) → ok (inZone zone) ≡ hit place → after ≡ andThen names (outcome (nameAt o s zone)) → next ≡ set held k zone
           → Gathering hit n from held₀ next after (k + 1) (place + 1) (left - 1)
       gather-hit zone after next e a b = record {
         room = omega (arith, g .room);
         few = omega (arith, g .few);
         same = ap length b ∙ length-set held k zone ∙ g .same;
         count =
-            ap (λ (c : Checked). tally o s c (k + 1) (allHits hit (left - 1) (place + 1))) a
+            ap (λ (c : Check). tally o s c (k + 1) (allHits hit (left - 1) (place + 1))) a
             ∙ tally-hit names k zone (allHits hit (left - 1) (place + 1))
             ∙ ap (tally o s names k) (sym rest)
             ∙ g .count;
@@ -117,7 +115,7 @@ module _ (o : Opened) (s : List ℕ) where
       unfolding seen
       all-kept = ap (λ (j : ℕ). sets held k (seen hit j place)) (sym none-left) ∙ g .kept
 
-      pub gather-end : names ≡ Fine → (ok k ≡ tally o s Fine 0 (allHits hit n from)) × (held ≡ sets held₀ 0 (seen hit n from))
+      pub gather-end : names ≡ fine → (ok k ≡ tally o s fine 0 (allHits hit n from)) × (held ≡ sets held₀ 0 (seen hit n from))
       unfolding tally allHits namesRead andThen
       gather-end e = (count ∙ g .count, all-kept)
         where
@@ -126,7 +124,7 @@ module _ (o : Opened) (s : List ℕ) where
               let z : k ≡ k + 0 = omega arith in
               rw (none-left, e) (ap ok z)
 
-      pub gather-bad : (r : Refusal) → names ≡ Refused r → (refused r ≡ tally o s Fine 0 (allHits hit n from)) × (held ≡ sets held₀ 0 (seen hit n from))
+      pub gather-bad : (r : Refusal) → names ≡ refused r → (refused r ≡ tally o s fine 0 (allHits hit n from)) × (held ≡ sets held₀ 0 (seen hit n from))
       unfolding tally allHits namesRead andThen
       gather-bad r e = (count ∙ g .count, all-kept)
         where

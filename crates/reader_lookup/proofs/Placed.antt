@@ -7,9 +7,7 @@ use mathlib.Core.List.{List, _++_}
 use lib.ListN.{length, take, drop}
 use lib.Seq.{sets, sets-eq, length-sets, take-at, drop-at}
 use Rattle.answer.specs.declared.Refusal.{Refusal}
-use Rattle.answer.specs.declared.Checked.{Checked}
-use Rattle.answer.specs.declared.Checked.the-variants.{Fine, Refused}
-use Rattle.answer.specs.Answers.{Answer, ok, refused, no, _then_, _before_, need-met, need-not, then-inv, ok-inv, zero-one}
+use Rattle.answer.specs.Answers.{Answer, ok, refused, no, _then_, _before_, need-met, need-not, then-inv, ok-inv, zero-one, Check, fine}
 use Rattle.answer.specs.Checks.{andThen}
 use Rattle.answer.specs.CheckLaws.{le-at, gt-at}
 use Rattle.reader_opened.specs.declared.Opened.{Opened}
@@ -20,9 +18,9 @@ use Rattle.reader_lookup.specs.Asking.{Sought, also, allHits, namesRead,
 use Rattle.reader_lookup.specs.Gather.{seen, seenOn, tally, Kept}
 
 -- what an answer after a check was made of
-pub before-inv : {A : Type 0} (c : Checked) (x : Answer A) (a : A) → ok a ≡ (c before x) → (c ≡ Fine) × (ok a ≡ x)
-before-inv Fine x a e = (refl, e)
-before-inv (Refused k) x a e = let z : _≡_ {A = ℕ} 0 1 = cc in absurd (zero-one z)
+pub before-inv : {A : Type 0} (c : Check) (x : Answer A) (a : A) → ok a ≡ (c before x) → (c ≡ fine) × (ok a ≡ x)
+before-inv (ok u) x a e = (refl, e)
+before-inv (refused k) x a e = let z : _≡_ {A = ℕ} 0 1 = cc in absurd (zero-one z)
 
 -- where no test is refused, all zones were seen
 seen-all : (hit : ℕ → Answer Sought) (n i : ℕ) (l : List ℕ) → ok l ≡ allHits hit n i → seen hit n i ≡ l
@@ -74,34 +72,34 @@ module _ (zones held : List ℕ) (k : ℕ) (h : Kept zones held k) (out : List �
 
 -- ---- the list
 module _ (o : Opened) (s : List ℕ) (hit : ℕ → Answer Sought) (n from : ℕ) where
-  pub list-no : (places : ℕ) (r : Refusal) → refused r ≡ tally o s Fine 0 (allHits hit n from) → refused r ≡ (allHits hit n from then listFor o s places)
+  pub list-no : (places : ℕ) (r : Refusal) → refused r ≡ tally o s fine 0 (allHits hit n from) → refused r ≡ (allHits hit n from then listFor o s places)
   unfolding tally listFor andThen
   list-no places r e = go (allHits hit n from) e
     where
-      named : (c : Checked) (x : Answer ℕ) (y : Answer (List ℕ)) (m : ℕ) → ok m ≡ x → refused r ≡ (c before x) → refused r ≡ (c before y)
-      named Fine x y m g e = let z : _≡_ {A = ℕ} 0 1 = cc in absurd (zero-one z)
-      named (Refused k) x y m g e = ap refused (inside e)
+      named : (c : Check) (x : Answer ℕ) (y : Answer (List ℕ)) (m : ℕ) → ok m ≡ x → refused r ≡ (c before x) → refused r ≡ (c before y)
+      named (ok u) x y m g e = let z : _≡_ {A = ℕ} 0 1 = cc in absurd (zero-one z)
+      named (refused k) x y m g e = ap refused (inside e)
         where
           inside : _≡_ {A = Answer ℕ} (refused r) (refused k) → r ≡ k
           inside e = cc
 
-      go : (x : Answer (List ℕ)) → refused r ≡ (x then λ l. andThen Fine (namesRead o s l) before ok (0 + length l)) → refused r ≡ (x then λ l. namesRead o s l before placed o s places l)
+      go : (x : Answer (List ℕ)) → refused r ≡ (x then λ l. andThen fine (namesRead o s l) before ok (0 + length l)) → refused r ≡ (x then λ l. namesRead o s l before placed o s places l)
       go (ok l) e = named (namesRead o s l) (ok (0 + length l)) (placed o s places l) (0 + length l) refl e
       go (refused k) e = ap refused (inside e)
         where
           inside : _≡_ {A = Answer ℕ} (refused r) (refused k) → r ≡ k
           inside e = cc
 
-  module _ (k : ℕ) (h : ok k ≡ tally o s Fine 0 (allHits hit n from)) where
+  module _ (k : ℕ) (h : ok k ≡ tally o s fine 0 (allHits hit n from)) where
     -- the zones: all tests fine, all names read, and as many as were counted
-    tally-inv : (l : List ℕ) × (ok l ≡ allHits hit n from) × (namesRead o s l ≡ Fine) × (k ≡ length l)
+    tally-inv : (l : List ℕ) × (ok l ≡ allHits hit n from) × (namesRead o s l ≡ fine) × (k ≡ length l)
     unfolding tally andThen
     tally-inv =
         let t = then-inv (allHits hit n from) (λ l. namesRead o s l before ok (0 + length l)) k h in
         let b = before-inv (namesRead o s (t .0)) (ok (0 + length (t .0))) k (t .2) in
         (t .0, t .1, b .0, omega (arith, ok-inv _ _ (b .1)))
 
-    zones-are : (ok (seen hit n from) ≡ allHits hit n from) × (namesRead o s (seen hit n from) ≡ Fine) × (k ≡ length (seen hit n from))
+    zones-are : (ok (seen hit n from) ≡ allHits hit n from) × (namesRead o s (seen hit n from) ≡ fine) × (k ≡ length (seen hit n from))
     zones-are =
         let t = tally-inv in
         let e = seen-all hit n from (t .0) (t .1) in

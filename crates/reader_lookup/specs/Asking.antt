@@ -10,9 +10,7 @@ use lib.Ieee.{Float, binary64, ofInt, lt, mul}
 use lib.ListN.{length, drop}
 use Rattle.plane.specs.declared.Point.{Point}
 use Rattle.answer.specs.declared.Refusal.{Refusal}
-use Rattle.answer.specs.declared.Checked.{Checked}
-use Rattle.answer.specs.declared.Checked.the-variants.{Fine}
-use Rattle.answer.specs.Answers.{Answer, ok, refused, need, _then_, _before_}
+use Rattle.answer.specs.Answers.{Answer, ok, refused, need, _then_, _before_, Check, fine}
 use Rattle.answer.specs.Checks.{andThen, atMost, same}
 use Rattle.answer.specs.CheckLaws.{le-at}
 use Rattle.tzb_core.specs.Decode.{outcome}
@@ -102,8 +100,8 @@ unfoldable pub hitsOf : Opened → List ℕ → Float → Float → Answer (List
 hitsOf o s lng lat = candidatesOf o s lng lat then hitsAmong o s (scaled lng lat)
 
 -- Listed zones' names, one alone too, are read in candidate order after all tests.
-unfoldable pub namesRead : Opened → List ℕ → List ℕ → Checked
-namesRead o s [] = Fine
+unfoldable pub namesRead : Opened → List ℕ → List ℕ → Check
+namesRead o s [] = fine
 namesRead o s (zone ∷ l) = andThen (outcome (nameAt o s zone)) (namesRead o s l)
 
 -- 46 exactly when there are more zones than places; listed by name bytes, equal names in candidate order

@@ -4,8 +4,7 @@ use Prim.Native.Nat.{ℕ, zero, suc, _+_, _≤_}
 use mathlib.Core.Path.{_≡_}
 use mathlib.Core.List.{List, []}
 use lib.ListN.{length, take}
-use Rattle.answer.specs.declared.Checked.{Checked}
-use Rattle.answer.specs.Answers.{Answer, ok, refused, _then_, _before_}
+use Rattle.answer.specs.Answers.{Answer, ok, refused, _then_, _before_, Check}
 use Rattle.answer.specs.Checks.{andThen}
 use Rattle.reader_opened.specs.declared.Opened.{Opened}
 use Rattle.reader_lookup.specs.Asking.{Sought, also, namesRead}
@@ -20,7 +19,7 @@ seen hit zero i = []
 seen hit (suc n) i = seenOn (hit i) (seen hit n (i + 1))
 
 -- how many zones, after m zones whose names were read with that result
-unfoldable pub tally : Opened → List ℕ → Checked → ℕ → Answer (List ℕ) → Answer ℕ
+unfoldable pub tally : Opened → List ℕ → Check → ℕ → Answer (List ℕ) → Answer ℕ
 tally o s names m hits = hits then λ l. andThen names (namesRead o s l) before ok (m + length l)
 
 -- k zones, kept in lent memory where there was room for all

@@ -6,9 +6,8 @@ ghost use lib.ListN.{length, take, drop, set};
 ghost use lib.Seq.{sets};
 ghost use Rattle.reader_lookup.specs.Asking.{found, counted, scaled, candidateOf, inZone, hitAt, firstHit, unlooked, lookupAmong, lookupOf, allHits, placed, listFor, listOf, howMany, filled};
 ghost use Rattle.reader_lookup.specs.Gather.{seen, tally, Kept};
-ghost use Rattle.answer.specs.Answers.{ok, _then_};
+ghost use Rattle.answer.specs.Answers.{ok, _then_, fine, checkedTold};
 ghost use Rattle.answer.specs.Checks.{andThen};
-ghost use Rattle.answer.specs.declared.Checked.the-variants.{Fine};
 ghost use Rattle.tzb_core.specs.Decode.{outcome};
 ghost use Rattle.reader_names.specs.Asked.{nameAt};
 ghost use Rattle.reader_grid.specs.Asked.{toldZone, listed, candidateAt};
@@ -141,7 +140,7 @@ pub fn lookup(o: Opened, s: &[u8], lng: f64, lat: f64) -> Found
 
 // Whether a zone's name can be read.
 fn name_read(o: Opened, s: &[u8], zone: u32) -> Checked
-    ensures { λ r. ⌜ r ≡ outcome (nameAt o (now (s .entry)) zone) ⌝ }
+    ensures { λ r. ⌜ checkedTold r ≡ outcome (nameAt o (now (s .entry)) zone) ⌝ }
 {
     let b = reader_names::name_bounds(s, o.names.off, o.zones.count, zone);
     match b {
@@ -152,7 +151,7 @@ fn name_read(o: Opened, s: &[u8], zone: u32) -> Checked
 
 // The first refusal of names, with one name more.
 fn name_after(names: Checked, o: Opened, s: &[u8], zone: u32) -> Checked
-    ensures { λ r. ⌜ r ≡ andThen names (outcome (nameAt o (now (s .entry)) zone)) ⌝ }
+    ensures { λ r. ⌜ checkedTold r ≡ andThen (checkedTold names) (outcome (nameAt o (now (s .entry)) zone)) ⌝ }
 {
     match names {
         Checked::Fine => name_read(o, s, zone),
@@ -173,7 +172,7 @@ fn keep(held: &mut [u32], k: u32, zone: u32)
 // Every one of n candidates from a place on is tested, and the names of those that contain the point are read: how many they are. They are kept in `held` as far as there is room.
 fn gather(o: Opened, s: &[u8], p: Point, grid: bool, n: u32, from: u32, held: &mut [u32]) -> Listing
     requires { ⌜ from + n < 0x1_0000_0000 ⌝ }
-    ensures { λ r. ⌜ counted r ≡ tally o (now (s .entry)) Fine 0 (allHits (hitAt o (now (s .entry)) p grid) n from) ⌝ }
+    ensures { λ r. ⌜ counted r ≡ tally o (now (s .entry)) fine 0 (allHits (hitAt o (now (s .entry)) p grid) n from) ⌝ }
     ensures memory { λ r. ⌜ now (held .exit) ≡ sets (now (held .entry)) 0 (seen (hitAt o (now (s .entry)) p grid) n from) ⌝ }
 {
     let mut names = Checked::Fine;

@@ -9,8 +9,7 @@ use lib.ListN.{length, getD}
 use Rattle.utf8.specs.Rfc3629.{utf8}
 use Rattle.utf8.specs.Grammar.{Octets}
 use Rattle.utf8.proofs.Same.{utf8-is-rfc3629}
-use Rattle.answer.specs.declared.Checked.the-variants.{Fine}
-use Rattle.answer.specs.Answers.{ok}
+use Rattle.answer.specs.Answers.{ok, fine}
 use Rattle.answer.specs.Checks.{seek, pick}
 use Rattle.answer.specs.CheckLaws.{fine-one, fine-rest, fine-claim, same-eq, eq-same}
 use Rattle.reader_head.specs.Head.{isZero}
@@ -49,10 +48,10 @@ none-from p (suc n) i (suc j) e h =
 pub seek-none : (p : ℕ → Bool) (n j : ℕ) → seek p n 0 ≡ n → j < n → p j ≡ false
 seek-none p n j e h = let q : 0 + j ≡ j = omega arith in rw q at (none-from p n 0 j (omega (arith, e)) h)
 
-module _ (name : List ℕ) (fine : textCheck name ≡ Fine) where
+module _ (name : List ℕ) (passes : textCheck name ≡ fine) where
   fine-utf8 : utf8 [] name ≡ true
   unfolding textCheck
-  fine-utf8 = fine-claim _ _ (fine-one _ _ fine)
+  fine-utf8 = fine-claim _ _ (fine-one _ _ passes)
 
   fine-octets : Octets name
   fine-octets = utf8-is-rfc3629 name .0 (rw fine-utf8 tt)
@@ -60,14 +59,14 @@ module _ (name : List ℕ) (fine : textCheck name ≡ Fine) where
   fine-zero : (i : ℕ) → i < length name → getD name i 0 ≡ 0 → ⊥
   unfolding textCheck isZero
   fine-zero i h z =
-      let nowhere = same-eq _ _ (fine-claim _ _ (fine-one _ _ (fine-rest _ _ fine))) in
+      let nowhere = same-eq _ _ (fine-claim _ _ (fine-one _ _ (fine-rest _ _ passes))) in
       true≢false (sym (eq-same (getD name i 0) 0 z) ∙ seek-none (isZero name) (length name) i nowhere h)
 
-pub name-given : (o : Opened) (s : List ℕ) → Within s (o .names) → namesCheck s (o .names .off) (o .names .len) (o .zones .count) ≡ Fine
+pub name-given : (o : Opened) (s : List ℕ) → Within s (o .names) → namesCheck s (o .names .off) (o .names .len) (o .zones .count) ≡ fine
     → (zone : ℕ) → zone < o .zones .count → NameGiven o s zone
 unfolding nameOr refusalOf
-name-given o s room fine zone h =
-    let n = named o s room fine zone h in
+name-given o s room passes zone h =
+    let n = named o s room passes zone h in
     record {
       name = _;
       given = sym (n .given);

@@ -6,7 +6,7 @@ use mathlib.Core.List.{List}
 use denote.Ref.{RefT, now}
 use Rattle.basics.specs.Determined.{Determined}
 use Rattle.reader_names.proofs.names.Reads as names-reads
-use Rattle.answer.specs.Answers.{Answer}
+use Rattle.answer.specs.Answers.{Answer, checked-one}
 use Rattle.reader_names.specs.declared.Bounds.{Bounds}
 use Rattle.reader_names.specs.declared.Bounds.the-variants as B
 use Rattle.reader_names.specs.Asked.{told}
@@ -15,7 +15,7 @@ use Rattle.reader_names.proofs.name.Reads as name-reads
 use Rattle.reader_names.proofs.name_refusal.Reads as name-refusal-reads
 
 pub names : Determined names-reads.Learnt
-names κ a r r' e e' p q = p ∙ sym q
+names κ a r r' e e' p q = checked-one r r' (p ∙ sym q)
 
 -- the same for a promise whose answer is lent: any two that it allows have the same bytes
 abbrev pub SameBytes : {K : Type 0} {A E : K → Type 0} → ((κ : K) → A κ → RefT (List ℕ) → E κ → Type 0) → Type 0

@@ -7,8 +7,7 @@ use mathlib.Core.List.{List}
 use lib.ListN.{length, drop, length-drop}
 use lib.Seq.{length-take-le}
 use Rattle.fields.specs.Part.{part}
-use Rattle.answer.specs.declared.Checked.the-variants.{Fine}
-use Rattle.answer.specs.Answers.{ok}
+use Rattle.answer.specs.Answers.{ok, fine}
 use Rattle.answer.specs.CheckLaws.{fine-one, fine-rest}
 use Rattle.reader_opened.specs.declared.Opened.{Opened}
 use Rattle.reader_opened.specs.Opened.{each-at, Within}
@@ -20,14 +19,14 @@ use Rattle.reader_names.proofs.Places.{bounds-in, name-is}
 pub record Named (o : Opened) (s : List ℕ) (zone : ℕ) : Type 0 where
   pub given : nameAt o s zone ≡ ok (text s (o .names .off) (o .zones .count) zone)
   pub some : 0 < length (text s (o .names .off) (o .zones .count) zone)
-  pub judged : textCheck (text s (o .names .off) (o .zones .count) zone) ≡ Fine
+  pub judged : textCheck (text s (o .names .off) (o .zones .count) zone) ≡ fine
 
 part-some : (s : List ℕ) (from to : ℕ) → from < to → to ≤ length s → 0 < length (part s from to)
 part-some s from to h k =
     let left : to - from ≤ length (drop from s) = rw (length-drop from s) (omega arith) in
     rw (length-take-le (to - from) (drop from s) left) (omega arith)
 
-pub named : (o : Opened) (s : List ℕ) → Within s (o .names) → namesCheck s (o .names .off) (o .names .len) (o .zones .count) ≡ Fine
+pub named : (o : Opened) (s : List ℕ) → Within s (o .names) → namesCheck s (o .names .off) (o .names .len) (o .zones .count) ≡ fine
     → (zone : ℕ) → zone < o .zones .count → Named o s zone
 unfolding namesCheck textAt
 named o s room e zone h =

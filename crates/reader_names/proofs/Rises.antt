@@ -9,18 +9,17 @@ use mathlib.Core.List.{List}
 use lib.Dec.{ltb, eqb}
 use lib.ListN.{length}
 use Rattle.fields.specs.Part.{part}
-use Rattle.answer.specs.declared.Checked.{Checked}
-use Rattle.answer.specs.declared.Checked.the-variants.{Fine}
+use Rattle.answer.specs.Answers.{Check, fine}
 use Rattle.answer.specs.Checks.{deny, each}
 use Rattle.answer.specs.CheckLaws.{fine-one, fine-rest, fine-claim, same-eq}
 use Rattle.reader_opened.specs.Opened.{each-at}
 use Rattle.reader_names.specs.Names.{blobLen, offsetAt, prior, shapeCheck, misplaced, offsetRule, offsetCheck, textCheck, textAt, Shaped, Ordered}
 
-pub fits : (s : List ℕ) (at len n : ℕ) → at + len ≤ length s → shapeCheck s at len n ≡ Fine → at + 8 + 4 * n + blobLen s at ≤ length s
+pub fits : (s : List ℕ) (at len n : ℕ) → at + len ≤ length s → shapeCheck s at len n ≡ fine → at + 8 + 4 * n + blobLen s at ≤ length s
 unfolding shapeCheck
 fits s at len n h e = omega (arith, same-eq _ _ (fine-claim _ _ (fine-one _ _ (fine-rest _ _ e))))
 
-pub shaped : (s : List ℕ) (at len n : ℕ) → at + len ≤ length s → length s < 4_294_967_296 → shapeCheck s at len n ≡ Fine → Shaped s at n
+pub shaped : (s : List ℕ) (at len n : ℕ) → at + len ≤ length s → length s < 4_294_967_296 → shapeCheck s at len n ≡ fine → Shaped s at n
 shaped s at len n h k e = record { fits = fits s at len n h e; small = k }
 
 -- an offset that is fine
@@ -32,11 +31,11 @@ or-right : (a b : Bool) → (a || b) ≡ false → b ≡ false
 or-right true b e = cc
 or-right false b e = e
 
-fine-deny : (n : ℕ) (b : Bool) → deny n b ≡ Fine → b ≡ false
+fine-deny : (n : ℕ) (b : Bool) → deny n b ≡ fine → b ≡ false
 unfolding deny
 fine-deny n b e = not-true b (fine-claim n (not b) e)
 
-module _ (i n prev off blob : ℕ) (e : offsetRule i n prev off blob ≡ Fine) where
+module _ (i n prev off blob : ℕ) (e : offsetRule i n prev off blob ≡ fine) where
   well : misplaced i n prev off blob ≡ false
   unfolding offsetRule
   well = fine-deny _ _ (fine-one _ _ e)
@@ -61,8 +60,8 @@ prior-next s at i =
     let e : i + 1 ≡ suc i = omega arith in
     rw e
 
-module _ (s : List ℕ) (at n : ℕ) (e : each (offsetCheck s at n) (n + 1) 0 ≡ Fine) (i : ℕ) (h : i < n) where
-  next : offsetRule (i + 1) n (offsetAt s at i) (offsetAt s at (i + 1)) (blobLen s at) ≡ Fine
+module _ (s : List ℕ) (at n : ℕ) (e : each (offsetCheck s at n) (n + 1) 0 ≡ fine) (i : ℕ) (h : i < n) where
+  next : offsetRule (i + 1) n (offsetAt s at i) (offsetAt s at (i + 1)) (blobLen s at) ≡ fine
   unfolding offsetCheck
   next = rw (prior-next s at i) at (each-at (offsetCheck s at n) (n + 1) (i + 1) e (omega arith))
 
@@ -75,16 +74,16 @@ module _ (s : List ℕ) (at n : ℕ) (e : each (offsetCheck s at n) (n + 1) 0 �
   pub ends : offsetAt s at (i + 1) ≤ blobLen s at
   ends = not-above _ _ _ _ _ next
 
-pub ordered : (s : List ℕ) (at n : ℕ) → Shaped s at n → each (offsetCheck s at n) (n + 1) 0 ≡ Fine → Ordered s at n
+pub ordered : (s : List ℕ) (at n : ℕ) → Shaped s at n → each (offsetCheck s at n) (n + 1) 0 ≡ fine → Ordered s at n
 ordered s at n h e = record { shape = h; rises = rises s at n e; ends = ends s at n e }
 
 -- what was judged with numbers that were read before
-pub offset-on : (s : List ℕ) (at n i prev off blob : ℕ) (x : Checked) → x ≡ offsetRule i n prev off blob
+pub offset-on : (s : List ℕ) (at n i prev off blob : ℕ) (x : Check) → x ≡ offsetRule i n prev off blob
     → prev ≡ prior s at i → off ≡ offsetAt s at i → blob ≡ blobLen s at → offsetCheck s at n i ≡ x
 unfolding offsetCheck
 offset-on s at n i prev off blob x e ep eo eb = sym (rw (ep, eo, eb) at e)
 
-pub text-on : (s : List ℕ) (at n i a b : ℕ) (x : Checked) → a ≡ offsetAt s at i → b ≡ offsetAt s at (i + 1)
+pub text-on : (s : List ℕ) (at n i a b : ℕ) (x : Check) → a ≡ offsetAt s at i → b ≡ offsetAt s at (i + 1)
     → x ≡ textCheck (part s (at + 8 + 4 * n + a) (at + 8 + 4 * n + b)) → x ≡ textAt s at n i
 unfolding textAt
 text-on s at n i a b x ea eb e = rw (ea, eb) at e

@@ -2,6 +2,7 @@
 ghost use mathlib.Core.Path.{_≡_};
 ghost use Prim.Native.Nat.{_+_, _≤_, _<_};
 ghost use lib.ListN.{length};
+ghost use Rattle.answer.specs.Answers.{checkedTold};
 ghost use Rattle.answer.specs.Checks.{each};
 ghost use Rattle.reader_names.specs.Names.{offsetAt, Shaped, Ordered, shapeCheck, offsetRule, offsetCheck, textCheck, textAt, namesCheck};
 ghost use Rattle.reader_names.specs.Asked.{boundsAt, told, nameOr, refusalOf, nameAt};
@@ -12,7 +13,7 @@ use reader_opened::Opened;
 // 21 and 22.
 fn shape(s: &[u8], at: usize, len: usize, n: usize) -> Checked
     requires { ⌜ (at + len ≤ length (now s)) × (length (now s) < 0x1_0000_0000) × (n < 0x1_0000_0000) ⌝ }
-    ensures { λ r. ⌜ r ≡ shapeCheck (now (s .entry)) at len n ⌝ }
+    ensures { λ r. ⌜ checkedTold r ≡ shapeCheck (now (s .entry)) at len n ⌝ }
 {
     let prefix = 8 + 4 * n;
     if len < prefix {
@@ -33,7 +34,7 @@ fn offset(s: &[u8], at: usize, n: usize, i: usize) -> usize
 
 // 23 and 24 of one offset, with the one before.
 fn offset_ok(i: usize, n: usize, prev: usize, off: usize, blob: usize) -> Checked
-    ensures { λ r. ⌜ r ≡ offsetRule i n prev off blob ⌝ }
+    ensures { λ r. ⌜ checkedTold r ≡ offsetRule i n prev off blob ⌝ }
 {
     if (off < prev) | ((off > blob) | ((i == n) & (off != blob))) {
         return answer::fail(23);
@@ -46,7 +47,7 @@ fn offset_ok(i: usize, n: usize, prev: usize, off: usize, blob: usize) -> Checke
 
 fn offsets(s: &[u8], at: usize, n: usize) -> Checked
     requires { ⌜ Shaped (now s) at n ⌝ }
-    ensures { λ r. ⌜ r ≡ each (offsetCheck (now (s .entry)) at n) (n + 1) 0 ⌝ }
+    ensures { λ r. ⌜ checkedTold r ≡ each (offsetCheck (now (s .entry)) at n) (n + 1) 0 ⌝ }
 {
     let blob = reader_head::word(s, at);
     let mut prev = 0;
@@ -65,7 +66,7 @@ fn offsets(s: &[u8], at: usize, n: usize) -> Checked
 
 // 25 and 26 of a name.
 fn text_ok(name: &[u8]) -> Checked
-    ensures { λ r. ⌜ r ≡ textCheck (now (name .entry)) ⌝ }
+    ensures { λ r. ⌜ checkedTold r ≡ textCheck (now (name .entry)) ⌝ }
 {
     if !utf8::utf8_ok(name) {
         return answer::fail(25);
@@ -78,7 +79,7 @@ fn text_ok(name: &[u8]) -> Checked
 
 fn name_ok(s: &[u8], at: usize, n: usize, i: usize) -> Checked
     requires { ⌜ Ordered (now s) at n × (i < n) ⌝ }
-    ensures { λ r. ⌜ r ≡ textAt (now (s .entry)) at n i ⌝ }
+    ensures { λ r. ⌜ checkedTold r ≡ textAt (now (s .entry)) at n i ⌝ }
 {
     let blob = at + 8 + 4 * n;
     let from = blob + offset(s, at, n, i);
@@ -88,7 +89,7 @@ fn name_ok(s: &[u8], at: usize, n: usize, i: usize) -> Checked
 
 fn texts(s: &[u8], at: usize, n: usize) -> Checked
     requires { ⌜ Ordered (now s) at n ⌝ }
-    ensures { λ r. ⌜ r ≡ each (textAt (now (s .entry)) at n) n 0 ⌝ }
+    ensures { λ r. ⌜ checkedTold r ≡ each (textAt (now (s .entry)) at n) n 0 ⌝ }
 {
     let mut i = 0;
     while i < n {
@@ -104,7 +105,7 @@ fn texts(s: &[u8], at: usize, n: usize) -> Checked
 // 21 to 26.
 pub fn names(s: &[u8], at: usize, len: usize, n: usize) -> Checked
     requires { ⌜ (at + len ≤ length (now s)) × (length (now s) < 0x1_0000_0000) × (n < 0x1_0000_0000) ⌝ }
-    ensures { λ r. ⌜ r ≡ namesCheck (now (s .entry)) at len n ⌝ }
+    ensures { λ r. ⌜ checkedTold r ≡ namesCheck (now (s .entry)) at len n ⌝ }
 {
     let a = shape(s, at, len, n);
     if let Checked::Refused(k) = a {

@@ -1,6 +1,7 @@
 -- Any two answers that a promise allows are equal: stated over the contracts themselves.
 -- Assumes nothing.
 use mathlib.Core.Path.{sym, _∙_}
+use Rattle.answer.specs.Answers.{checked-one}
 use Rattle.basics.specs.Determined.{Determined}
 use Rattle.reader_opened.proofs.present.Reads as present-reads
 use Rattle.reader_opened.proofs.flag.Reads as flag-reads
@@ -12,19 +13,19 @@ use Rattle.reader_opened.proofs.read_sections.Reads as read-sections-re
 use Rattle.reader_opened.proofs.opened_of.Reads as opened-of-reads
 
 pub present : Determined present-reads.Learnt
-present κ a r r' e e' p q = p ∙ sym q
+present κ a r r' e e' p q = checked-one r r' (p ∙ sym q)
 
 pub flag : Determined flag-reads.Learnt
-flag κ a r r' e e' p q = p ∙ sym q
+flag κ a r r' e e' p q = checked-one r r' (p ∙ sym q)
 
 pub zone-length : Determined zone-length-reads.Learnt
-zone-length κ a r r' e e' p q = p ∙ sym q
+zone-length κ a r r' e e' p q = checked-one r r' (p ∙ sym q)
 
 pub lengths : Determined lengths-reads.Learnt
-lengths κ a r r' e e' p q = p ∙ sym q
+lengths κ a r r' e e' p q = checked-one r r' (p ∙ sym q)
 
 pub counts : Determined counts-reads.Learnt
-counts κ a r r' e e' p q = p ∙ sym q
+counts κ a r r' e e' p q = checked-one r r' (p ∙ sym q)
 
 pub grid-of : Determined grid-of-reads.Learnt
 grid-of κ a r r' e e' p q = p ∙ sym q

@@ -10,8 +10,7 @@ use lib.IntN.{ℤ, pos}
 use mir.Syntax.{w16}
 use mir.Val.{toZ}
 use Rattle.fields.specs.Le.{le}
-use Rattle.answer.specs.declared.Checked.{Checked}
-use Rattle.answer.specs.declared.Checked.the-variants.{Fine, Refused}
+use Rattle.answer.specs.Answers.{ok, refused, Check, fine}
 use Rattle.answer.specs.Checks.{claim, deny, first, each, andThen, seek, atMost, below, same}
 use Rattle.answer.specs.CheckLaws.{fine-one, fine-rest, fine-claim, at-le, below-lt, lt-below, ge-below, le-at, gt-at}
 use Rattle.reader_head.specs.Head.{Headed}
@@ -23,10 +22,10 @@ use Rattle.reader_opened.specs.declared.Grid.{Grid}
 use Rattle.reader_opened.specs.declared.Opened.{Opened}
 
 -- Types 1 to 7 and 9 present (17);
-unfoldable pub presentAt : List ℕ → ℕ → Checked
+unfoldable pub presentAt : List ℕ → ℕ → Check
 presentAt s t = claim 17 (has s t (sections s))
 
-unfoldable pub presentCheck : List ℕ → Checked
+unfoldable pub presentCheck : List ℕ → Check
 presentCheck s = first (each (presentAt s) 7 1 ∷ presentAt s 9 ∷ [])
 
 -- flag bit 0 set exactly if type 8 is there (18);
@@ -34,14 +33,14 @@ unfoldable pub bit : Bool → ℕ
 bit true = 1
 bit false = 0
 
-unfoldable pub flagCheck : List ℕ → Checked
+unfoldable pub flagCheck : List ℕ → Check
 flagCheck s = first (claim 18 (same (le 4 s 8 % 2) (bit (has s 8 (sections s)))) ∷ [])
 
 -- TZDIR is 24 times the zone count, POLYDIR and CHUNKDIR multiples of 24, RINGDIR of 28, RINGOPS of 4, GROUPDIR of 44 (19);
-unfoldable pub zonesCheck : Sections → Checked
+unfoldable pub zonesCheck : Sections → Check
 zonesCheck o = first (claim 19 (same (o .tzdir .len) (24 * o .zones)) ∷ [])
 
-unfoldable pub lengthsCheck : Sections → Checked
+unfoldable pub lengthsCheck : Sections → Check
 lengthsCheck o =
     first
     (claim 19 (same (o .polydir .len % 24) 0)
@@ -52,7 +51,7 @@ lengthsCheck o =
     ∷ [])
 
 -- the other five have at least one record (20).
-unfoldable pub countsCheck : Sections → Checked
+unfoldable pub countsCheck : Sections → Check
 countsCheck o =
     first
     (claim 20 (atMost 24 (o .polydir .len))
@@ -123,20 +122,20 @@ pub record Within (s : List ℕ) (p : Section) : Type 0 where
 -- a file whose head and table are fine
 pub record Tabled (s : List ℕ) : Type 0 where
   pub head : Headed s
-  pub table : entriesCheck s ≡ Fine
+  pub table : entriesCheck s ≡ fine
 
 -- ---- laws
-and-one : (a b : Checked) → andThen a b ≡ Fine → a ≡ Fine
+and-one : (a b : Check) → andThen a b ≡ fine → a ≡ fine
 unfolding andThen
-and-one Fine b e = refl
-and-one (Refused k) b e = e
+and-one (ok u) b e = refl
+and-one (refused k) b e = e
 
-and-rest : (a b : Checked) → andThen a b ≡ Fine → b ≡ Fine
+and-rest : (a b : Check) → andThen a b ≡ fine → b ≡ fine
 unfolding andThen
-and-rest Fine b e = e
-and-rest (Refused k) b e = let z : _≡_ {A = ℕ} 0 1 = cc in absurd (omega arith)
+and-rest (ok u) b e = e
+and-rest (refused k) b e = let z : _≡_ {A = ℕ} 0 1 = cc in absurd (omega arith)
 
-each-all : (f : ℕ → Checked) (n i j : ℕ) → each f n i ≡ Fine → j < n → f (i + j) ≡ Fine
+each-all : (f : ℕ → Check) (n i j : ℕ) → each f n i ≡ fine → j < n → f (i + j) ≡ fine
 unfolding each
 each-all f zero i j e h = absurd (omega arith)
 each-all f (suc n) i zero e h = let q : i + 0 ≡ i = omega arith in rw q (and-one (f i) _ e)
@@ -144,10 +143,10 @@ each-all f (suc n) i (suc j) e h =
     let q : i + suc j ≡ i + 1 + j = omega arith in
     rw q (each-all f n (i + 1) j (and-rest (f i) _ e) (omega arith))
 
-pub each-at : (f : ℕ → Checked) (n k : ℕ) → each f n 0 ≡ Fine → k < n → f k ≡ Fine
+pub each-at : (f : ℕ → Check) (n k : ℕ) → each f n 0 ≡ fine → k < n → f k ≡ fine
 each-at f n k e h = let q : 0 + k ≡ k = omega arith in rw q at (each-all f n 0 k e h)
 
-placed-in : (s : List ℕ) (k : ℕ) → entryCheck s k ≡ Fine → offAt s k + lenAt s k ≤ length s - 4
+placed-in : (s : List ℕ) (k : ℕ) → entryCheck s k ≡ fine → offAt s k + lenAt s k ≤ length s - 4
 unfolding entryCheck placedCheck
 placed-in s k e = at-le _ _ (fine-claim _ _ (fine-one _ _ (fine-rest _ _ (fine-rest _ _ (fine-one _ _ e)))))
 

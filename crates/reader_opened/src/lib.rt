@@ -2,6 +2,7 @@
 ghost use mathlib.Core.Path.{_≡_};
 ghost use Prim.Native.Nat.{_+_, _-_, _*_, _≤_, _<_};
 ghost use lib.ListN.{length};
+ghost use Rattle.answer.specs.Answers.{checkedTold};
 ghost use Rattle.reader_head.specs.Head.{Headed};
 ghost use Rattle.answer.specs.Checks.{each};
 ghost use Rattle.reader_table.specs.Table.{entriesCheck};
@@ -58,7 +59,7 @@ pub struct Opened {
 // 17, of one type.
 fn has_type(s: &[u8], t: usize) -> Checked
     requires { ⌜ Headed (now s) ⌝ }
-    ensures { λ r. ⌜ r ≡ presentAt (now (s .entry)) t ⌝ }
+    ensures { λ r. ⌜ checkedTold r ≡ presentAt (now (s .entry)) t ⌝ }
 {
     let n = reader_table::count(s);
     answer::claim(17, reader_table::seen(s, t, n))
@@ -67,7 +68,7 @@ fn has_type(s: &[u8], t: usize) -> Checked
 // 17, of the types 1 to 7.
 fn has_types(s: &[u8]) -> Checked
     requires { ⌜ Headed (now s) ⌝ }
-    ensures { λ r. ⌜ r ≡ each (presentAt (now (s .entry))) 7 1 ⌝ }
+    ensures { λ r. ⌜ checkedTold r ≡ each (presentAt (now (s .entry))) 7 1 ⌝ }
 {
     let mut t = 1;
     while t < 8 {
@@ -83,7 +84,7 @@ fn has_types(s: &[u8]) -> Checked
 // 17.
 pub fn present(s: &[u8]) -> Checked
     requires { ⌜ Headed (now s) ⌝ }
-    ensures { λ r. ⌜ r ≡ presentCheck (now (s .entry)) ⌝ }
+    ensures { λ r. ⌜ checkedTold r ≡ presentCheck (now (s .entry)) ⌝ }
 {
     let a = has_types(s);
     if let Checked::Refused(k) = a {
@@ -101,7 +102,7 @@ fn as_bit(b: bool) -> usize
 // 18.
 pub fn flag(s: &[u8]) -> Checked
     requires { ⌜ Headed (now s) ⌝ }
-    ensures { λ r. ⌜ r ≡ flagCheck (now (s .entry)) ⌝ }
+    ensures { λ r. ⌜ checkedTold r ≡ flagCheck (now (s .entry)) ⌝ }
 {
     let n = reader_table::count(s);
     let g = as_bit(reader_table::seen(s, 8, n));
@@ -113,7 +114,7 @@ pub fn flag(s: &[u8]) -> Checked
 
 // 19.
 pub fn zone_length(o: Sections) -> Checked
-    ensures { λ r. ⌜ r ≡ zonesCheck o ⌝ }
+    ensures { λ r. ⌜ checkedTold r ≡ zonesCheck o ⌝ }
 {
     if reader_head::wide(o.tzdir.len) != 24 * reader_head::wide(o.zones) {
         return answer::fail(19);
@@ -122,7 +123,7 @@ pub fn zone_length(o: Sections) -> Checked
 }
 
 pub fn lengths(o: Sections) -> Checked
-    ensures { λ r. ⌜ r ≡ lengthsCheck o ⌝ }
+    ensures { λ r. ⌜ checkedTold r ≡ lengthsCheck o ⌝ }
 {
     if o.polydir.len % 24 != 0 {
         return answer::fail(19);
@@ -144,7 +145,7 @@ pub fn lengths(o: Sections) -> Checked
 
 // 20.
 pub fn counts(o: Sections) -> Checked
-    ensures { λ r. ⌜ r ≡ countsCheck o ⌝ }
+    ensures { λ r. ⌜ checkedTold r ≡ countsCheck o ⌝ }
 {
     if o.polydir.len < 24 {
         return answer::fail(20);

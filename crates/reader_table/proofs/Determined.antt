@@ -1,6 +1,7 @@
 -- Any two answers that a promise allows are equal: stated over the contracts themselves.
 -- Assumes nothing.
 use mathlib.Core.Path.{sym, _∙_}
+use Rattle.answer.specs.Answers.{checked-one}
 use Rattle.basics.specs.Determined.{Determined}
 use Rattle.reader_table.proofs.count.Reads as count-reads
 use Rattle.reader_table.proofs.seen.Reads as seen-reads
@@ -14,7 +15,7 @@ pub seen : Determined seen-reads.Learnt
 seen κ a r r' e e' p q = p ∙ sym q
 
 pub entries : Determined entries-reads.Learnt
-entries κ a r r' e e' p q = p ∙ sym q
+entries κ a r r' e e' p q = checked-one r r' (p ∙ sym q)
 
 pub section-of : Determined section-of-reads.Learnt
 section-of κ a r r' e e' p q = p ∙ sym q

@@ -11,7 +11,7 @@ use lib.ListN.{length}
 use lib.Dec.{leb}
 use borrow.Author.Tests.{leb-true, leb-false, eqb-false}
 use Rattle.reader_head.specs.Head.{Headed}
-use Rattle.answer.specs.declared.Checked.the-variants.{Fine}
+use Rattle.answer.specs.Answers.{fine}
 use Rattle.answer.specs.Checks.{claim, andThen, each, atMost, same, either}
 use Rattle.answer.specs.CheckLaws.{fine-one, fine-rest, fine-claim, at-le, same-eq}
 use Rattle.reader_table.specs.Table.{sections, offAt, lenAt, apart, apartAt, placedCheck}
@@ -80,11 +80,11 @@ split-join s n n' lo mid hi a h b = record { split-each = λ i j u x y l r. go i
 pub placed-none : (s : List ℕ) → Placed s 0
 placed-none s = record { placed-each = λ i h. absurd (omega arith) }
 
-pub placed-more : (s : List ℕ) (n : ℕ) → Placed s n → placedCheck s n ≡ Fine → Placed s (n + 1)
+pub placed-more : (s : List ℕ) (n : ℕ) → Placed s n → placedCheck s n ≡ fine → Placed s (n + 1)
 placed-more s n p e = record { placed-each = λ i h. go i (eq-or-lt-of-le {n = i} {m = n} (omega arith)) }
   where
-    go : (i : ℕ) → (i ≡ n) ⊎ (i < n) → placedCheck s i ≡ Fine
-    go i (inl q) = subst (λ (y : ℕ). placedCheck s y ≡ Fine) (sym q) e
+    go : (i : ℕ) → (i ≡ n) ⊎ (i < n) → placedCheck s i ≡ fine
+    go i (inl q) = subst (λ (y : ℕ). placedCheck s y ≡ fine) (sym q) e
     go i (inr h) = p .placed-each i h
 
 pub placed-fewer : (s : List ℕ) (n n' : ℕ) → Placed s n → n' ≤ n → Placed s n'
@@ -96,7 +96,7 @@ record Lies (s : List ℕ) (i : ℕ) : Type 0 where
   after : 64 + 16 * sections s ≤ offAt s i
   before : offAt s i + lenAt s i ≤ length s - 4
 
-lies : (s : List ℕ) (i : ℕ) → placedCheck s i ≡ Fine → Lies s i
+lies : (s : List ℕ) (i : ℕ) → placedCheck s i ≡ fine → Lies s i
 unfolding placedCheck
 lies s i e = record {
   even = same-eq _ _ (fine-claim _ _ (fine-one _ _ e));
@@ -139,7 +139,7 @@ module _ (s : List ℕ) (head : Headed s) (i j : ℕ) (a : Lies s i) (b : Lies s
           meet false x = earlier (below (leb-false (offAt s i) (offAt s j) x)) (leb-false _ _ h) (some (lenAt s i) (eqb-false (lenAt s i) 0 e))
 
 -- an entry that is apart from each earlier one
-all-apart : (s : List ℕ) (i n k : ℕ) → ((j : ℕ) → k ≤ j → j < k + n → apart (offAt s i) (lenAt s i) (offAt s j) (lenAt s j) ≡ true) → each (apartAt s i) n k ≡ Fine
+all-apart : (s : List ℕ) (i n k : ℕ) → ((j : ℕ) → k ≤ j → j < k + n → apart (offAt s i) (lenAt s i) (offAt s j) (lenAt s j) ≡ true) → each (apartAt s i) n k ≡ fine
 unfolding each andThen apartAt claim
 all-apart s i zero k h = refl
 all-apart s i (suc n) k h = rw (h k (omega arith) (omega arith)) (all-apart s i n (k + 1) (λ j l m. h j (omega arith) (omega arith)))

@@ -5,18 +5,18 @@ use mathlib.Core.List.{List}
 use mathlib.Core.Path.{_≡_}
 use lib.ListN.{length, getD}
 use lib.Bits.{bitAnd, bitOr}
-use Rattle.answer.specs.declared.Checked.the-variants.{Fine}
+use Rattle.answer.specs.Answers.{fine}
 use Rattle.answer.specs.Checks.{each}
 use Rattle.reader_table.specs.Table.{offAt, lenAt, apartAt, placedCheck}
 use Rattle.reader_table.specs.declared.units.Stride.{Stride}
 
 -- the first n entries share no byte with an earlier one
 pub record Settled (s : List ℕ) (n : ℕ) : Type 0 where
-  pub apart-each : (i : ℕ) → i < n → each (apartAt s i) i 0 ≡ Fine
+  pub apart-each : (i : ℕ) → i < n → each (apartAt s i) i 0 ≡ fine
 
 -- 12 and 13 refuse none of the first n entries
 pub record Placed (s : List ℕ) (n : ℕ) : Type 0 where
-  pub placed-each : (i : ℕ) → i < n → placedCheck s i ≡ Fine
+  pub placed-each : (i : ℕ) → i < n → placedCheck s i ≡ fine
 
 -- entry j has the first byte of unit u
 pub record Has (s : List ℕ) (j u : ℕ) : Type 0 where

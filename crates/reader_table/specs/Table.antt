@@ -7,7 +7,7 @@ use mathlib.Core.Path.{_≡_}
 use Rattle.answer.specs.CheckLaws.{ge-below, lt-below}
 use lib.ListN.{length}
 use Rattle.fields.specs.Le.{le}
-use Rattle.answer.specs.declared.Checked.{Checked}
+use Rattle.answer.specs.Answers.{Check}
 use Rattle.answer.specs.Checks.{claim, deny, first, each, seek, atMost, below, same, both, either}
 use Rattle.reader_table.specs.declared.Section.{Section}
 
@@ -46,11 +46,11 @@ banned t = both (atMost 11 t) (atMost t 14)
 unfoldable pub apart : ℕ → ℕ → ℕ → ℕ → Bool
 apart a m b n = either (same m 0) (either (same n 0) (either (atMost (a + m) b) (atMost (b + n) a)))
 
-unfoldable pub apartAt : List ℕ → ℕ → ℕ → Checked
+unfoldable pub apartAt : List ℕ → ℕ → ℕ → Check
 apartAt s i j = claim 16 (apart (offAt s i) (lenAt s i) (offAt s j) (lenAt s j))
 
 -- Offset divisible by 4 (12); offset not before the table's end, end not past size less 4 (13);
-unfoldable pub placedCheck : List ℕ → ℕ → Checked
+unfoldable pub placedCheck : List ℕ → ℕ → Check
 placedCheck s i =
     first
     (claim 12 (same (offAt s i % 4) 0)
@@ -59,15 +59,15 @@ placedCheck s i =
     ∷ [])
 
 -- types 1 to 14 not seen before (14); of these, 1 to 10 allowed (15);
-unfoldable pub typedCheck : List ℕ → ℕ → Checked
+unfoldable pub typedCheck : List ℕ → ℕ → Check
 typedCheck s i = first (deny 14 (repeats s (typeAt s i) i) ∷ deny 15 (banned (typeAt s i)) ∷ [])
 
 -- no byte shared with an earlier entry (16).
-unfoldable pub entryCheck : List ℕ → ℕ → Checked
+unfoldable pub entryCheck : List ℕ → ℕ → Check
 entryCheck s i = first (placedCheck s i ∷ typedCheck s i ∷ each (apartAt s i) i 0 ∷ [])
 
 -- Each entry in turn.
-unfoldable pub entriesCheck : List ℕ → Checked
+unfoldable pub entriesCheck : List ℕ → Check
 entriesCheck s = each (entryCheck s) (sections s) 0
 
 -- the section with type t: 0 and 0 where there is none

@@ -2,6 +2,7 @@
 ghost use mathlib.Core.Path.{_≡_};
 ghost use Prim.Native.Nat.{_+_, _-_, _*_, _≤_, _<_};
 ghost use lib.ListN.{length};
+ghost use Rattle.answer.specs.Answers.{checkedTold};
 ghost use Rattle.fields.specs.Le.{le};
 ghost use Rattle.reader_head.specs.Head.{Headed};
 ghost use Rattle.answer.specs.Checks.{seek, each};
@@ -97,7 +98,7 @@ fn is_apart(a: usize, m: usize, b: usize, n: usize) -> bool
 // 16, of two entries.
 fn apart_at(s: &[u8], i: usize, j: usize) -> Checked
     requires { ⌜ Headed (now s) × (i < sections (now s)) × (j < sections (now s)) ⌝ }
-    ensures { λ r. ⌜ r ≡ apartAt (now (s .entry)) i j ⌝ }
+    ensures { λ r. ⌜ checkedTold r ≡ apartAt (now (s .entry)) i j ⌝ }
 {
     let a = field(s, i, 4);
     let m = field(s, i, 8);
@@ -109,7 +110,7 @@ fn apart_at(s: &[u8], i: usize, j: usize) -> Checked
 // 16, against every earlier entry.
 fn apart_before(s: &[u8], i: usize) -> Checked
     requires { ⌜ Headed (now s) × (i < sections (now s)) ⌝ }
-    ensures { λ r. ⌜ r ≡ each (apartAt (now (s .entry)) i) i 0 ⌝ }
+    ensures { λ r. ⌜ checkedTold r ≡ each (apartAt (now (s .entry)) i) i 0 ⌝ }
 {
     let mut j = 0;
     while j < i {
@@ -125,7 +126,7 @@ fn apart_before(s: &[u8], i: usize) -> Checked
 // 12 and 13 of one entry.
 fn placed(s: &[u8], i: usize) -> Checked
     requires { ⌜ Headed (now s) × (i < sections (now s)) ⌝ }
-    ensures { λ r. ⌜ r ≡ placedCheck (now (s .entry)) i ⌝ }
+    ensures { λ r. ⌜ checkedTold r ≡ placedCheck (now (s .entry)) i ⌝ }
 {
     let off = field(s, i, 4);
     let len = field(s, i, 8);
@@ -144,7 +145,7 @@ fn placed(s: &[u8], i: usize) -> Checked
 // 14 and 15 of one entry.
 fn typed(s: &[u8], i: usize) -> Checked
     requires { ⌜ Headed (now s) × (i < sections (now s)) ⌝ }
-    ensures { λ r. ⌜ r ≡ typedCheck (now (s .entry)) i ⌝ }
+    ensures { λ r. ⌜ checkedTold r ≡ typedCheck (now (s .entry)) i ⌝ }
 {
     let t = field(s, i, 0);
     if repeated(s, t, i) {
@@ -170,7 +171,7 @@ fn known(s: &[u8]) -> usize
 // 12 to 16 of one entry, where the first n are known to share no byte with an earlier one.
 fn entry(s: &[u8], i: usize, n: usize) -> Checked
     requires { ⌜ Headed (now s) × (i < sections (now s)) × Settled (now s) n ⌝ }
-    ensures { λ r. ⌜ r ≡ entryCheck (now (s .entry)) i ⌝ }
+    ensures { λ r. ⌜ checkedTold r ≡ entryCheck (now (s .entry)) i ⌝ }
 {
     let a = placed(s, i);
     if let Checked::Refused(k) = a {
@@ -189,7 +190,7 @@ fn entry(s: &[u8], i: usize, n: usize) -> Checked
 // 12 to 16.
 pub fn entries(s: &[u8]) -> Checked
     requires { ⌜ Headed (now s) ⌝ }
-    ensures { λ r. ⌜ r ≡ entriesCheck (now (s .entry)) ⌝ }
+    ensures { λ r. ⌜ checkedTold r ≡ entriesCheck (now (s .entry)) ⌝ }
 {
     let n = count(s);
     let k = known(s);

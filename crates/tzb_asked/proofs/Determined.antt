@@ -3,7 +3,7 @@
 use Prim.Native.Nat.{ℕ}
 use mathlib.Core.Path.{_≡_, sym, _∙_}
 use Rattle.basics.specs.Determined.{Determined, DeterminedMemory}
-use Rattle.answer.specs.Answers.{Answer}
+use Rattle.answer.specs.Answers.{Answer, checked-one}
 use Rattle.reader_names.proofs.Determined.{one-bounds}
 use Rattle.reader_grid.proofs.Determined.{one-choice, one-zone}
 use Rattle.reader_rings.proofs.Determined.{one-verdict}
@@ -30,7 +30,7 @@ pub name-bounds : Determined name-bounds-reads.Learnt
 name-bounds κ a r r' e e' p q = one-bounds r r' _ p q
 
 pub name-ends : Determined name-ends-reads.Learnt
-name-ends κ a r r' e e' p q = p .0 ∙ sym (q .0)
+name-ends κ a r r' e e' p q = checked-one r r' (p .0 ∙ sym (q .0))
 
 -- the lent numbers at exit
 pub name-ends-memory : DeterminedMemory name-ends-reads.Learnt (λ κ e. e .1 .1 .1 .0 .now)

@@ -4,8 +4,7 @@ use Prim.Native.Nat.{ℕ}
 use mathlib.Core.Path.{_≡_, sym, _∙_}
 use mathlib.Core.List.{List}
 use lib.IntN.{ℤ}
-use Rattle.answer.specs.Answers.{ok}
-use Rattle.answer.specs.declared.Checked.the-variants.{Fine}
+use Rattle.answer.specs.Answers.{ok, fine}
 use Rattle.tzb_core.specs.Decode.{outcome}
 use Rattle.tzb_core.proofs.Decoded.{outcome-fine}
 use Rattle.reader_opened.specs.declared.Opened.{Opened}
@@ -13,7 +12,7 @@ use Rattle.reader_chunks.specs.Chunks.{decodeIn}
 use Rattle.reader_chunks.proofs.Decodes.{decoded-are, stands, count-stands}
 use Rattle.tzb_asked.specs.Asked.{howMany, many-is, countAt, count-is}
 
-pub many-decoded : (o : Opened) (s : List ℕ) (i : ℕ) (out : List ℤ) → Fine ≡ outcome (decodeIn o s i out) → (n : ℕ) → n ≡ countAt o s i → ok n ≡ howMany (decodeIn o s i out)
+pub many-decoded : (o : Opened) (s : List ℕ) (i : ℕ) (out : List ℤ) → fine ≡ outcome (decodeIn o s i out) → (n : ℕ) → n ≡ countAt o s i → ok n ≡ howMany (decodeIn o s i out)
 many-decoded o s i out e n h =
     let f = outcome-fine (decodeIn o s i out) e in
     let g = decoded-are o s i out (f .0) (f .1) in

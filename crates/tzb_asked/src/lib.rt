@@ -1,6 +1,7 @@
 // Every question, asked with the opened record as bytes beside the file's bytes. A record that cannot be read is refused first; none is trusted.
 ghost use mathlib.Core.Path.{_≡_};
 ghost use lib.ListN.{length};
+ghost use Rattle.answer.specs.Answers.{checkedTold};
 ghost use Rattle.tzb_core.specs.Points.{point};
 ghost use Rattle.tzb_core.specs.Decode.{outcome, filled};
 ghost use Rattle.reader_chunks.specs.Chunks.{decodeIn};
@@ -36,7 +37,7 @@ pub fn name_bounds(record: &[u8], file: &[u8], zone: u32) -> Bounds
 
 // Where it starts and where it ends, into the first two lent numbers; those behind are never touched. A refusal leaves them all as they were.
 pub fn name_ends(record: &[u8], file: &[u8], zone: u32, ends: &mut [u64]) -> Checked
-    ensures { λ r. ⌜ r ≡ outcome (endsAsked (now («record» .entry)) (now (file .entry)) zone (length (now (ends .entry)))) ⌝ }
+    ensures { λ r. ⌜ checkedTold r ≡ outcome (endsAsked (now («record» .entry)) (now (file .entry)) zone (length (now (ends .entry)))) ⌝ }
     ensures memory { λ r. ⌜ now (ends .exit) ≡ endsAfter (now (ends .entry)) (endsAsked (now («record» .entry)) (now (file .entry)) zone (length (now (ends .entry)))) ⌝ }
 {
     let a = name_bounds(record, file, zone);

@@ -9,20 +9,19 @@ use lib.ListN.{length, length-append, set, take, drop}
 use lib.Seq.{set-at, take-append-seam}
 use lib.IntN.{ℤ}
 use Rattle.answer.specs.declared.Refusal.{Refusal}
-use Rattle.answer.specs.declared.Checked.the-variants.{Fine, Refused}
 use Rattle.answer.specs.Checks.{claim}
-use Rattle.answer.specs.Answers.{Answer, ok, refused, _then_, need, zero-one, then-inv, need-inv, ok-inv}
+use Rattle.answer.specs.Answers.{Answer, ok, refused, _then_, need, zero-one, then-inv, need-inv, ok-inv, fine}
 use Rattle.plane.specs.declared.I32Point.{I32Point}
 use Rattle.tzb_core.specs.Varint.{atEnd}
 use Rattle.tzb_core.specs.Points.{nextAt}
 use Rattle.tzb_core.specs.Decode.{led, pointsFrom, outcome, flat, filled, readFrom, put, points-last, points-next}
 
 -- ---- what an outcome was made of
-pub outcome-fine : {A : Type 0} (x : Answer A) → Fine ≡ outcome x → (a : A) × (ok a ≡ x)
+pub outcome-fine : {A : Type 0} (x : Answer A) → fine ≡ outcome x → (a : A) × (ok a ≡ x)
 outcome-fine (ok a) e = (a, refl)
 outcome-fine (refused r) e = let z : _≡_ {A = ℕ} 0 1 = cc in absurd (zero-one z)
 
-pub outcome-no : {A : Type 0} (x : Answer A) (r : Refusal) → Refused r ≡ outcome x → refused r ≡ x
+pub outcome-no : {A : Type 0} (x : Answer A) (r : Refusal) → refused r ≡ outcome x → refused r ≡ x
 outcome-no (ok a) r e = let z : _≡_ {A = ℕ} 0 1 = cc in absurd (zero-one z)
 outcome-no (refused k) r e = let z : r ≡ k = cc in ap refused z
 
@@ -31,10 +30,10 @@ pub led-same : (q : I32Point) (x : Answer (List I32Point)) → outcome x ≡ out
 led-same q (ok l) = refl
 led-same q (refused r) = refl
 
-pub led-fine : (q : I32Point) (x : Answer (List I32Point)) → Fine ≡ outcome x → Fine ≡ outcome (led q x)
+pub led-fine : (q : I32Point) (x : Answer (List I32Point)) → fine ≡ outcome x → fine ≡ outcome (led q x)
 led-fine q x e = e ∙ led-same q x
 
-pub led-no : (q : I32Point) (x : Answer (List I32Point)) (r : Refusal) → Refused r ≡ outcome x → refused r ≡ led q x
+pub led-no : (q : I32Point) (x : Answer (List I32Point)) (r : Refusal) → refused r ≡ outcome x → refused r ≡ led q x
 led-no q x r e = ap (led q) (outcome-no x r e)
 
 -- ---- what was read
@@ -80,7 +79,7 @@ put-behind front (a ∷ b ∷ rest) i (q ∷ l) e h =
         ∙ append-assoc front (q .x ∷ []) (q .y ∷ rest)
 
 -- where all can be read, the numbers of all are written
-module _ (s : List ℕ) (n : ℕ) (q : I32Point) (k : ℕ) (e : Fine ≡ outcome (pointsFrom s n q k)) where
+module _ (s : List ℕ) (n : ℕ) (q : I32Point) (k : ℕ) (e : fine ≡ outcome (pointsFrom s n q k)) where
   all : (l : List I32Point) × (ok l ≡ pointsFrom s n q k) × (length (flat (q ∷ l)) ≡ 2 + 2 * n) × (readFrom s n q k ≡ l)
   all =
       let f = outcome-fine (pointsFrom s n q k) e in

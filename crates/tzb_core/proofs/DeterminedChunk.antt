@@ -4,7 +4,7 @@ use mathlib.Core.Path.{_≡_, sym, ap, ap₂, _∙_}
 use mathlib.Core.Bool.{Bool}
 use Prim.Native.Nat.{ℕ}
 use Rattle.basics.specs.Determined.{Determined, DeterminedMemory}
-use Rattle.answer.specs.Answers.{Answer, ok}
+use Rattle.answer.specs.Answers.{Answer, ok, checked-one}
 use Rattle.answer.specs.Walks.{Walk}
 use Rattle.plane.specs.declared.I32Point.{I32Point}
 use Rattle.tzb_core.specs.Points.{spotted}
@@ -71,7 +71,7 @@ pub trace-chunk : Determined trace-chunk-reads.Learnt
 trace-chunk κ a r r' e e' p q = one-trace r r' _ p q
 
 pub decode-points : Determined decode-points-reads.Learnt
-decode-points κ a r r' e e' p q = p .0 ∙ sym (q .0)
+decode-points κ a r r' e e' p q = checked-one r r' (p .0 ∙ sym (q .0))
 
 -- the lent numbers at exit
 pub decode-points-memory : DeterminedMemory decode-points-reads.Learnt (λ κ e. e .1 .1 .0 .now)

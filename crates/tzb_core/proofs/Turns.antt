@@ -7,7 +7,6 @@ use mathlib.Core.Bool.{Bool, true, false, cond}
 use mathlib.Core.List.{List, [], _∷_}
 use lib.IntN.{ℤ}
 use Rattle.answer.specs.declared.Refusal.{Refusal}
-use Rattle.answer.specs.declared.Checked.the-variants.{Refused}
 use Rattle.answer.specs.Checks.{claim}
 use Rattle.answer.specs.Answers.{Answer, ok, refused, _then_, need, zero-one, then-inv, need-inv, ok-inv}
 use Rattle.answer.specs.Walks.{on, add}
@@ -125,7 +124,7 @@ module _ (s : List ℕ) (p : Point) (q : I32Point) (n k : ℕ) (a : Answer (I32P
 -- ---- the points that are left, where the answer to what comes next is a
 module _ (s : List ℕ) (q : I32Point) (n k : ℕ) (a : Answer (I32Point × ℕ)) where
   module _ (h : 0 < n) where
-    pub check-no : (r : Refusal) → refused r ≡ a → Refused r ≡ outcome (alongBy decoder s n q k a)
+    pub check-no : (r : Refusal) → refused r ≡ a → refused r ≡ outcome (alongBy decoder s n q k a)
     check-no r e = ap outcome (by-no decoder s q n k a h r e)
 
     pub check-on : (t : I32Point) (m : ℕ) → ok (t, m) ≡ a → outcome (along decoder s (n - 1) t m) ≡ outcome (alongBy decoder s n q k a)

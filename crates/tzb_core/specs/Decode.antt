@@ -9,9 +9,7 @@ use lib.Dec.{ltb, leb}
 use lib.IntN.{ℤ}
 use borrow.Author.Tests.{lt-ltb, le-leb, lt-leb}
 use Rattle.answer.specs.declared.Refusal.{Refusal}
-use Rattle.answer.specs.declared.Checked.{Checked}
-use Rattle.answer.specs.declared.Checked.the-variants.{Fine, Refused}
-use Rattle.answer.specs.Answers.{Answer, ok, refused, no, _then_, need}
+use Rattle.answer.specs.Answers.{Answer, ok, refused, no, _then_, need, Check, fine}
 use Rattle.plane.specs.declared.I32Point.{I32Point}
 use Rattle.tzb_core.specs.Varint.{atEnd}
 use Rattle.tzb_core.specs.Points.{firstOf, nextAt}
@@ -38,9 +36,9 @@ unfoldable pub intoRoom : List ℕ → ℕ → List ℤ → Answer (List I32Poin
 intoRoom s n out = need 32 (ltb 0 n) (need 46 (leb (2 * n) (length out)) (pointsOf s n))
 
 -- what is told of an answer
-abbrev pub outcome : {A : Type 0} → Answer A → Checked
-outcome (ok a) = Fine
-outcome (refused r) = Refused r
+abbrev pub outcome : {A : Type 0} → Answer A → Check
+outcome (ok a) = fine
+outcome (refused r) = refused r
 
 -- the numbers of points: x, y, x, y, ..
 abbrev pub flat : List I32Point → List ℤ
@@ -52,7 +50,7 @@ abbrev pub filled : List ℤ → Answer (List I32Point) → List ℤ
 filled out (ok l) = flat l ++ drop (length (flat l)) out
 filled out (refused r) = out
 
-abbrev pub decodeOf : List ℕ → ℕ → List ℤ → Checked
+abbrev pub decodeOf : List ℕ → ℕ → List ℤ → Check
 decodeOf s n out = outcome (intoRoom s n out)
 
 abbrev pub decoded : List ℕ → ℕ → List ℤ → List ℤ

@@ -4,6 +4,7 @@ ghost use mathlib.Core.Bool.{true, _||_};
 ghost use Prim.Native.Nat.{_+_, _*_, _≤_, _<_};
 ghost use mathlib.Core.List.{_∷_, _++_};
 ghost use lib.ListN.{length, set, take, drop};
+ghost use Rattle.answer.specs.Answers.{checkedTold};
 ghost use Rattle.plane.specs.Sight.{seenTold};
 ghost use Rattle.plane.specs.Domain.{inDomain};
 ghost use Rattle.boxes.specs.Box.{inBox};
@@ -347,7 +348,7 @@ fn put_point(out: &mut [i32], i: usize, q: I32Point)
 
 // The first point, and that many more: whether all can be read, and no bytes are left over. Where there is room for all, the numbers of those that can be read are written.
 fn fill_from(s: &[u8], count: u16, first: I32Point, from: Place, out: &mut [i32]) -> Checked
-    ensures { λ r. ⌜ r ≡ outcome (pointsFrom (now (s .entry)) count first (from .at)) ⌝ }
+    ensures { λ r. ⌜ checkedTold r ≡ outcome (pointsFrom (now (s .entry)) count first (from .at)) ⌝ }
     ensures memory { λ r. ⌜ (2 + 2 * count ≤ length (now (out .entry)) → now (out .exit) ≡ put (now (out .entry)) 0 (first ∷ readFrom (now (s .entry)) count first (from .at))) ⌝ }
 {
     put_point(out, 0, first);
@@ -410,7 +411,7 @@ fn decode_with(
     out: &mut [i32],
 ) -> Checked
     requires { ⌜ 2 + 2 * count ≤ length (now out) ⌝ }
-    ensures { λ r. ⌜ (r ≡ outcome (led first (pointsFrom (now (s .entry)) count first (from .at)))) × (now (out .exit) ≡ filled (now (out .entry)) (led first (pointsFrom (now (s .entry)) count first (from .at)))) ⌝ }
+    ensures { λ r. ⌜ (checkedTold r ≡ outcome (led first (pointsFrom (now (s .entry)) count first (from .at)))) × (now (out .exit) ≡ filled (now (out .entry)) (led first (pointsFrom (now (s .entry)) count first (from .at)))) ⌝ }
 {
     let c = fill_from(s, count, first, from, held);
     if let Checked::Refused(k) = c {
@@ -427,7 +428,7 @@ fn decode_with(
 // The same with memory of its own, which has room for 256 points.
 fn decode_from(s: &[u8], count: u16, first: I32Point, from: Place, out: &mut [i32]) -> Checked
     requires { ⌜ 2 + 2 * count ≤ length (now out) ⌝ }
-    ensures { λ r. ⌜ (r ≡ outcome (led first (pointsFrom (now (s .entry)) count first (from .at)))) × (now (out .exit) ≡ filled (now (out .entry)) (led first (pointsFrom (now (s .entry)) count first (from .at)))) ⌝ }
+    ensures { λ r. ⌜ (checkedTold r ≡ outcome (led first (pointsFrom (now (s .entry)) count first (from .at)))) × (now (out .exit) ≡ filled (now (out .entry)) (led first (pointsFrom (now (s .entry)) count first (from .at)))) ⌝ }
 {
     let mut held = [0i32; 512];
     decode_with(s, count, first, from, &mut held, out)
@@ -435,7 +436,7 @@ fn decode_from(s: &[u8], count: u16, first: I32Point, from: Place, out: &mut [i3
 
 // The points of a chunk into lent numbers, two a point. A refusal leaves the lent memory as it was, and what lies behind the points is never touched.
 pub fn decode_points(s: &[u8], count: u16, out: &mut [i32]) -> Checked
-    ensures { λ r. ⌜ r ≡ decodeOf (now (s .entry)) count (now (out .entry)) ⌝ }
+    ensures { λ r. ⌜ checkedTold r ≡ decodeOf (now (s .entry)) count (now (out .entry)) ⌝ }
     ensures memory { λ r. ⌜ now (out .exit) ≡ decoded (now (s .entry)) count (now (out .entry)) ⌝ }
 {
     if count == 0 {

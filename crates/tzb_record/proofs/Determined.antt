@@ -2,7 +2,7 @@
 -- Assumes nothing.
 use mathlib.Core.Path.{_≡_, sym, _∙_}
 use Rattle.basics.specs.Determined.{Determined, DeterminedMemory}
-use Rattle.answer.specs.Answers.{Answer}
+use Rattle.answer.specs.Answers.{Answer, checked-one}
 use Rattle.reader_opened.specs.declared.Opened.{Opened}
 use Rattle.tzb_record.specs.Layout.{told}
 use Rattle.tzb_record.specs.declared.RecordRead.{RecordRead}
@@ -20,7 +20,7 @@ pub read-record : Determined read-record-reads.Learnt
 read-record κ a r r' e e' p q = one-record r r' _ p q
 
 pub write-record : Determined write-record-reads.Learnt
-write-record κ a r r' e e' p q = p .0 ∙ sym (q .0)
+write-record κ a r r' e e' p q = checked-one r r' (p .0 ∙ sym (q .0))
 
 -- the lent bytes at exit
 pub write-record-memory : DeterminedMemory write-record-reads.Learnt (λ κ e. e .1 .0 .now)

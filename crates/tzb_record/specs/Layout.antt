@@ -11,10 +11,8 @@ use mir.Syntax.{w16}
 use mir.Val.{toZ, ofZ, SFits}
 use Rattle.fields.specs.Le.{le}
 use Rattle.answer.specs.declared.Refusal.{Refusal}
-use Rattle.answer.specs.declared.Checked.{Checked}
-use Rattle.answer.specs.declared.Checked.the-variants.{Fine, Refused}
 use Rattle.answer.specs.Refusals.{refusal}
-use Rattle.answer.specs.Answers.{Answer, ok, refused, need, need-met, need-not}
+use Rattle.answer.specs.Answers.{Answer, ok, refused, need, need-met, need-not, Check, fine}
 use Rattle.answer.specs.Checks.{failed, claim, atMost, same}
 use Rattle.answer.specs.CheckLaws.{yes, nay, le-at, gt-at, eq-same, ne-same}
 use Rattle.reader_table.specs.declared.Section.{Section}
@@ -90,7 +88,7 @@ unfoldable pub recordOf : List ℕ → Answer Opened
 recordOf s = need 44 (same (length s) 84) (ok (openedIn s))
 
 -- ---- a record written into lent memory: 46 where there is no room for it
-unfoldable pub roomFor : List ℕ → Checked
+unfoldable pub roomFor : List ℕ → Check
 roomFor room = claim 46 (atMost 84 (length room))
 
 -- the record, and what lies behind it as it was; all as it was where there is no room
@@ -159,17 +157,17 @@ module _ (o : Opened) (room : List ℕ) where
   unfolding roomFor written
   no-room h = (sym (nay 46 _ (gt-at 84 (length room) h)), rw (gt-at 84 (length room) h))
 
-  pub into-room : (after : List ℕ) → Laid room 0 (bytesOf o) after → (Fine ≡ roomFor room) × (after ≡ written o room)
+  pub into-room : (after : List ℕ) → Laid room 0 (bytesOf o) after → (fine ≡ roomFor room) × (after ≡ written o room)
   unfolding roomFor written laid bytesOf
   into-room after f =
       let h : 84 ≤ length room = f .room in
       (sym (yes 46 _ (le-at 84 (length room) h)), f .is ∙ rw (le-at 84 (length room) h))
 
   -- a refusal leaves all as it was
-  pub written-not : (k : Refusal) → Refused k ≡ roomFor room → written o room ≡ room
+  pub written-not : (k : Refusal) → refused k ≡ roomFor room → written o room ≡ room
   unfolding roomFor written claim
   written-not k e = go (atMost 84 (length room)) e
     where
-      go : (b : Bool) → Refused k ≡ claim 46 b → cond b (bytesOf o ++ drop 84 room) room ≡ room
+      go : (b : Bool) → refused k ≡ claim 46 b → cond b (bytesOf o ++ drop 84 room) room ≡ room
       go true f = let no : _≡_ {A = ℕ} 0 1 = cc in absurd (omega arith)
       go false f = refl

@@ -4,6 +4,7 @@ ghost use Prim.Native.Nat.{_+_, _≤_};
 ghost use lib.ListN.{length};
 ghost use mir.Syntax.{w16};
 ghost use mir.Val.{ofZ};
+ghost use Rattle.answer.specs.Answers.{checkedTold};
 ghost use Rattle.tzb_record.specs.Stores.{toLe, Laid};
 ghost use Rattle.tzb_record.specs.Layout.{pairBytes, directoriesBytes, gridBytes, bytesOf, sectionIn, directoryIn, gridIn, openedIn, recordOf, roomFor, written, told};
 use answer::Checked;
@@ -189,7 +190,7 @@ fn put_opened(out: &mut [u8], o: Opened)
 
 // The record's bytes into lent memory; 46 where there is no room for them, and then nothing is written. What lies behind is never touched.
 pub fn write_record(o: Opened, out: &mut [u8]) -> Checked
-    ensures { λ r. ⌜ r ≡ roomFor (now (out .entry)) ⌝ }
+    ensures { λ r. ⌜ checkedTold r ≡ roomFor (now (out .entry)) ⌝ }
     ensures memory { λ r. ⌜ now (out .exit) ≡ written o (now (out .entry)) ⌝ }
 {
     if out.len() < 84 {

@@ -1,6 +1,7 @@
 -- `reader_chunks::first_in` meets its contract: the range, then the first point.
 -- Assumes nothing.
 use mathlib.Core.Path.{sym, ap, _∙_}
+use Rattle.answer.specs.Answers.{checkedTold}
 use Rattle.tzb_core.specs.Points.{spotted}
 use Rattle.reader_chunks.proofs.Ranges.{span-fine}
 use Rattle.tzb_core.proofs.Decoded.{outcome-no}
@@ -17,19 +18,19 @@ enum-known-c : tie.Need-enum-known-c
 enum-known-c c = search needs
 
 returns : tie.Need-returns
-returns c = first-no _ _ _ _ (outcome-no _ _ (sym (c .before .c .given .1) ∙ c .before .before .before .check-span .ensures))
+returns c = first-no _ _ _ _ (outcome-no _ _ (sym (ap checkedTold (c .before .c .given .1)) ∙ c .before .before .before .check-span .ensures))
 
 enum-told : tie.Need-enum-told
 enum-told c = search needs
 
 sub-b : tie.Need-sub-b
-sub-b c = let h = span-fine _ _ _ (sym (c .enum-told .given .1) ∙ c .before .before .check-span .ensures) in omega (arith, h .0)
+sub-b c = let h = span-fine _ _ _ (sym (ap checkedTold (c .enum-told .given .1)) ∙ c .before .before .check-span .ensures) in omega (arith, h .0)
 
 part-b-start : tie.Need-part-b-start
-part-b-start c = let h = span-fine _ _ _ (sym (c .enum-told .given .1) ∙ c .before .before .check-span .ensures) in omega (arith, h .0, h .1)
+part-b-start c = let h = span-fine _ _ _ (sym (ap checkedTold (c .enum-told .given .1)) ∙ c .before .before .check-span .ensures) in omega (arith, h .0, h .1)
 
 part-b-end : tie.Need-part-b-end
-part-b-end c = let h = span-fine _ _ _ (sym (c .enum-told .given .1) ∙ c .before .before .check-span .ensures) in omega (arith, h .0, h .1)
+part-b-end c = let h = span-fine _ _ _ (sym (ap checkedTold (c .enum-told .given .1)) ∙ c .before .before .check-span .ensures) in omega (arith, h .0, h .1)
 
 first-point-requires : tie.Need-first-point-requires
 first-point-requires c κs = search needs
@@ -43,13 +44,13 @@ enum-known-t-2 c = search needs
 returns-2 : tie.Need-returns-2
 returns-2 c =
     let f = c .before .before .before in
-    let h = span-fine _ _ _ (sym (f .before .before .enum-told .given .1) ∙ f .before .before .before .before .check-span .ensures) in
+    let h = span-fine _ _ _ (sym (ap checkedTold (f .before .before .enum-told .given .1)) ∙ f .before .before .before .before .check-span .ensures) in
     first-bad _ _ _ _ (span-is _ _ _ (h .0) (h .1)) _ (sym (ap spotted (c .before .t .given .1)) ∙ f .first-point .ensures)
 
 returns-3 : tie.Need-returns-3
 returns-3 c =
     let f = c .before .before .before in
-    let h = span-fine _ _ _ (sym (f .before .before .enum-told .given .1) ∙ f .before .before .before .before .check-span .ensures) in
+    let h = span-fine _ _ _ (sym (ap checkedTold (f .before .before .enum-told .given .1)) ∙ f .before .before .before .before .check-span .ensures) in
     first-is _ _ _ _ (span-is _ _ _ (h .0) (h .1)) _ _ (sym (ap spotted (c .before .t2 .given .1)) ∙ f .first-point .ensures)
 
 pub first-in-spec : {M : Type 1} → statement M

@@ -2,7 +2,8 @@
 -- Assumes nothing.
 use Prim.Native.Nat.{_-_, _≤_, _<_}
 use native.Mathlib.Omega.{arith}
-use mathlib.Core.Path.{_≡_, _∙_}
+use mathlib.Core.Path.{_≡_, _∙_, ap}
+use Rattle.answer.specs.Answers.{checkedTold}
 use Rattle.answer.specs.Checks.{each}
 use Rattle.answer.specs.CheckLaws.{each-from, each-stop, each-fine, each-end}
 use Rattle.reader_dirs.specs.Dirs.{Lies, leastOff, chunkCheckAt}
@@ -36,7 +37,7 @@ returns : tie.Need-returns Inv-loop μ-loop
 returns c =
     let t = c .before .before .before in
     let l = t .before .before .before .loop in
-    each-stop _ _ _ _ (l .inv .5) (omega arith) _ (chunk-checked _ _ _ _ _ _ _ (t .before .chunk-no .ensures) (l .inv .4) (t .chunk .ensures) ∙ c .before .a .given .1)
+    each-stop _ _ _ _ (l .inv .5) (omega arith) _ (chunk-checked _ _ _ _ _ _ _ (t .before .chunk-no .ensures) (l .inv .4) (t .chunk .ensures) ∙ ap checkedTold (c .before .a .given .1))
 
 enum-told : tie.Need-enum-told Inv-loop μ-loop
 enum-told c = search needs
@@ -57,7 +58,7 @@ loop-again : tie.Need-loop-again Inv-loop μ-loop
 loop-again c =
     let t = c .before .before .before in
     let l = t .before .before .before .loop in
-    (omega arith, l .inv .1, l .inv .2, l .inv .3, least-next _ _ _ _ _ (c .wide2 .ensures .0) (t .before .chunk-no .ensures), each-fine _ _ _ _ (l .inv .5) (omega arith) (chunk-checked _ _ _ _ _ _ _ (t .before .chunk-no .ensures) (l .inv .4) (t .chunk .ensures) ∙ c .before .enum-told .given .1))
+    (omega arith, l .inv .1, l .inv .2, l .inv .3, least-next _ _ _ _ _ (c .wide2 .ensures .0) (t .before .chunk-no .ensures), each-fine _ _ _ _ (l .inv .5) (omega arith) (chunk-checked _ _ _ _ _ _ _ (t .before .chunk-no .ensures) (l .inv .4) (t .chunk .ensures) ∙ ap checkedTold (c .before .enum-told .given .1)))
 
 returns-2 : tie.Need-returns-2 Inv-loop μ-loop
 returns-2 c = each-end _ _ _ _ (c .before .loop .inv .5) (omega arith)

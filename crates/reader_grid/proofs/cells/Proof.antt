@@ -1,7 +1,8 @@
 -- `cells` meets its contract. The loop's invariant: what is left of the cells answers as all of them do.
 -- Assumes nothing.
 use Prim.Native.Nat.{_≤_, _<_, _-_, _+_}
-use mathlib.Core.Path.{_≡_}
+use mathlib.Core.Path.{_≡_, _∙_, sym, ap}
+use Rattle.answer.specs.Answers.{checkedTold}
 use Rattle.answer.specs.Checks.{each}
 use Rattle.answer.specs.CheckLaws.{each-start, each-stop, each-fine, each-end}
 use Prim.Native.Nat.{_*_}
@@ -34,7 +35,7 @@ enum-known-a : tie.Need-enum-known-a Inv-loop μ-loop
 enum-known-a c = search needs
 
 returns : tie.Need-returns Inv-loop μ-loop
-returns c = each-stop _ _ _ _ (c .before .before .before .before .before .loop .inv .4) (omega arith) _ (cc)
+returns c = each-stop _ _ _ _ (c .before .before .before .before .before .loop .inv .4) (omega arith) _ (sym (c .before .before .before .cell .ensures) ∙ ap checkedTold (c .before .a .given .1))
 
 enum-told : tie.Need-enum-told Inv-loop μ-loop
 enum-told c = search needs
@@ -46,7 +47,7 @@ loop-less : tie.Need-loop-less Inv-loop μ-loop
 loop-less c = search needs
 
 loop-again : tie.Need-loop-again Inv-loop μ-loop
-loop-again c = (omega arith, search needs, search needs, search needs, each-fine _ _ _ _ (c .before .before .before .before .loop .inv .4) (omega arith) (cc))
+loop-again c = (omega arith, search needs, search needs, search needs, each-fine _ _ _ _ (c .before .before .before .before .loop .inv .4) (omega arith) (sym (c .before .before .cell .ensures) ∙ ap checkedTold (c .enum-told .given .1)))
 
 returns-2 : tie.Need-returns-2 Inv-loop μ-loop
 returns-2 c = each-end _ _ _ _ (c .before .loop .inv .4) (omega arith)

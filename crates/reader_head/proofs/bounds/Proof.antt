@@ -1,13 +1,18 @@
 -- `reader_head::bounds` meets its contract.
 -- Assumes nothing.
-use mathlib.Core.Path.{_∙_, sym}
+use mathlib.Core.Path.{_∙_, sym, _≡_}
 use Rattle.answer.specs.CheckLaws.{met, unmet, end, le-at, gt-at, eq-same, ne-same}
 use Rattle.reader_head.specs.Head.{boundsCheck}
 use lib.Seq.{length-take-le}
 use native.Mathlib.Omega.{arith}
+use Prim.Native.Nat.{ℕ}
 use borrow.Author.Needs.{needs}
 use Rattle.reader_head.proofs.bounds.Statement.{statement}
 use Rattle.reader_head.proofs.bounds.Tie as tie
+
+-- two calls' results, and what each is
+both-are : (r x w y : ℕ) → r ≡ x → w ≡ y → r ≡ w → x ≡ y
+both-are r x w y e f h = sym e ∙ h ∙ f
 
 sub-end : tie.Need-sub-end
 sub-end c = search needs
@@ -42,11 +47,11 @@ fail-requires-2 c κs = search needs
 
 returns-2 : tie.Need-returns-2
 unfolding boundsCheck
-returns-2 c = c .fail2 .ensures ∙ met _ _ _ _ (le-at _ _ (omega arith)) (unmet _ _ _ (ne-same _ _ (λ e. c .before .if2 .taken (cc))))
+returns-2 c = c .fail2 .ensures ∙ met _ _ _ _ (le-at _ _ (omega arith)) (unmet _ _ _ (ne-same _ _ (λ e. c .before .if2 .taken (c .before .before .before .crc .ensures ∙ e ∙ sym (c .before .before .word2 .ensures .0)))))
 
 returns-3 : tie.Need-returns-3
 unfolding boundsCheck
-returns-3 c = met _ _ _ _ (le-at _ _ (omega arith)) (met _ _ _ _ (eq-same _ _ (cc)) end)
+returns-3 c = met _ _ _ _ (le-at _ _ (omega arith)) (met _ _ _ _ (eq-same _ _ (both-are _ _ _ _ (c .before .before .crc .ensures) (c .before .word2 .ensures .0) (c .if2 .left))) end)
 
 pub bounds-spec : {M : Type 1} → statement M
 bounds-spec =

@@ -1,6 +1,7 @@
 -- `gather` meets its contract. The loop's invariant: what is left, behind what was found, gives the count and the zones of all.
 -- Assumes nothing.
 use mathlib.Core.Path.{sym, ap, _∙_}
+use Rattle.answer.specs.Answers.{checkedTold}
 use Rattle.reader_lookup.specs.Asking.{found, hitAt}
 use Rattle.reader_lookup.proofs.Gathered.{Gathering, gather-start, gather-no, gather-miss, gather-hit, gather-end, gather-bad}
 use borrow.Author.Needs.{needs}
@@ -8,7 +9,7 @@ use Rattle.reader_lookup.proofs.gather.Statement.{statement}
 use Rattle.reader_lookup.proofs.gather.Tie as tie
 
 abbrev Inv-loop : tie.InvT-loop
-Inv-loop o s p grid n from held₀ names₀ k₀ place₀ rest₀ held names k place rest = Gathering o s (hitAt o s p grid) n from held₀ held names k place rest
+Inv-loop o s p grid n from held₀ names₀ k₀ place₀ rest₀ held names k place rest = Gathering o s (hitAt o s p grid) n from held₀ held (checkedTold names) k place rest
 
 abbrev μ-loop : tie.MeasureT-loop
 μ-loop o s p grid n from held₀ names₀ k₀ place₀ rest₀ held names k place rest = rest
@@ -79,13 +80,13 @@ same-length-2 : tie.Need-same-length-2 Inv-loop μ-loop
 same-length-2 c = c .before .before .before .loop .inv .same
 
 returns-2 : tie.Need-returns-2 Inv-loop μ-loop
-returns-2 c = gather-end _ _ _ _ _ _ _ _ _ _ _ (c .before .before .before .loop .inv) (c .before .before .loop-test .left) (c .enum-told2 .given .1)
+returns-2 c = gather-end _ _ _ _ _ _ _ _ _ _ _ (c .before .before .before .loop .inv) (c .before .before .loop-test .left) (ap checkedTold (c .enum-told2 .given .1))
 
 same-length-3 : tie.Need-same-length-3 Inv-loop μ-loop
 same-length-3 c = c .before .before .before .before .loop .inv .same
 
 returns-3 : tie.Need-returns-3 Inv-loop μ-loop
-returns-3 c = gather-bad _ _ _ _ _ _ _ _ _ _ _ (c .before .before .before .before .loop .inv) (c .before .before .before .loop-test .left) _ (c .before .names .given .1)
+returns-3 c = gather-bad _ _ _ _ _ _ _ _ _ _ _ (c .before .before .before .before .loop .inv) (c .before .before .before .loop-test .left) _ (ap checkedTold (c .before .names .given .1))
 
 pub gather-spec : {M : Type 1} → statement M
 gather-spec =

@@ -1,7 +1,8 @@
 -- Every offset in turn, with the one before kept at hand.
 -- Assumes nothing.
 use Prim.Native.Nat.{_≤_, _-_, _+_}
-use mathlib.Core.Path.{_≡_, sym, _∙_}
+use mathlib.Core.Path.{_≡_, sym, ap, _∙_}
+use Rattle.answer.specs.Answers.{checkedTold}
 use Rattle.answer.specs.Checks.{each}
 use Rattle.answer.specs.CheckLaws.{each-start, each-stop, each-fine, each-end}
 use Rattle.reader_names.specs.Names.{offsetCheck, prior}
@@ -38,7 +39,7 @@ returns c =
     let told = c .before .before .before in
     let walk = told .before .before .before in
     each-stop _ _ _ _ (walk .loop .inv .2) (omega arith) _
-    (offset-on _ _ _ _ _ _ _ _ (told .offset-ok .ensures) (walk .loop .inv .1) (told .before .offset .ensures .0) (walk .before .word .ensures .0) ∙ c .before .a .given .1)
+    (offset-on _ _ _ _ _ _ _ _ (told .offset-ok .ensures) (walk .loop .inv .1) (told .before .offset .ensures .0) (walk .before .word .ensures .0) ∙ ap checkedTold (c .before .a .given .1))
 
 enum-told : tie.Need-enum-told Inv-loop μ-loop
 enum-told c = search needs
@@ -56,7 +57,7 @@ loop-again c =
       omega arith,
       told .before .offset .ensures .0 ∙ sym (prior-next _ _ _),
       each-fine _ _ _ _ (walk .loop .inv .2) (omega arith)
-          (offset-on _ _ _ _ _ _ _ _ (told .offset-ok .ensures) (walk .loop .inv .1) (told .before .offset .ensures .0) (walk .before .word .ensures .0) ∙ c .enum-told .given .1),
+          (offset-on _ _ _ _ _ _ _ _ (told .offset-ok .ensures) (walk .loop .inv .1) (told .before .offset .ensures .0) (walk .before .word .ensures .0) ∙ ap checkedTold (c .enum-told .given .1)),
     )
 
 returns-2 : tie.Need-returns-2 Inv-loop μ-loop

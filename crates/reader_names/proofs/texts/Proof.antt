@@ -1,7 +1,8 @@
 -- Every name in turn.
 -- Assumes nothing.
 use Prim.Native.Nat.{_≤_, _-_}
-use mathlib.Core.Path.{_≡_, sym, _∙_}
+use mathlib.Core.Path.{_≡_, sym, _∙_, ap}
+use Rattle.answer.specs.Answers.{checkedTold}
 use Rattle.answer.specs.Checks.{each}
 use Rattle.answer.specs.CheckLaws.{each-start, each-stop, each-fine, each-end}
 use Rattle.reader_names.specs.Names.{textAt}
@@ -28,7 +29,7 @@ enum-known-a c = search needs
 returns : tie.Need-returns Inv-loop μ-loop
 returns c =
     let told = c .before .before .before in
-    each-stop _ _ _ _ (told .before .before .loop .inv .1) (told .before .loop-test .taken) _ (sym (told .name-ok .ensures) ∙ c .before .a .given .1)
+    each-stop _ _ _ _ (told .before .before .loop .inv .1) (told .before .loop-test .taken) _ (sym (told .name-ok .ensures) ∙ ap checkedTold (c .before .a .given .1))
 
 enum-told : tie.Need-enum-told Inv-loop μ-loop
 enum-told c = search needs
@@ -42,7 +43,7 @@ loop-less c = search needs
 loop-again : tie.Need-loop-again Inv-loop μ-loop
 loop-again c =
     let told = c .before .before in
-    (omega arith, each-fine _ _ _ _ (told .before .before .loop .inv .1) (told .before .loop-test .taken) (sym (told .name-ok .ensures) ∙ c .enum-told .given .1))
+    (omega arith, each-fine _ _ _ _ (told .before .before .loop .inv .1) (told .before .loop-test .taken) (sym (told .name-ok .ensures) ∙ ap checkedTold (c .enum-told .given .1)))
 
 returns-2 : tie.Need-returns-2 Inv-loop μ-loop
 returns-2 c = each-end _ _ _ _ (c .before .loop .inv .1) (c .loop-test .left)

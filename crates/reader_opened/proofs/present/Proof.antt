@@ -1,6 +1,7 @@
 -- `reader_opened::present` meets its contract.
 -- Assumes nothing.
-use mathlib.Core.Path.{_∙_}
+use mathlib.Core.Path.{_∙_, sym, ap}
+use Rattle.answer.specs.Answers.{checkedTold}
 use Rattle.answer.specs.CheckLaws.{met-by, unmet-by, none-left}
 use Rattle.reader_opened.specs.Opened.{presentCheck}
 use borrow.Author.Needs.{needs}
@@ -15,7 +16,7 @@ enum-known-a c = search needs
 
 returns : tie.Need-returns
 unfolding presentCheck
-returns c = unmet-by _ _ _ (cc)
+returns c = unmet-by _ _ _ (sym (c .before .before .before .has-types .ensures) ∙ ap checkedTold (c .before .a .given .1))
 
 enum-told : tie.Need-enum-told
 enum-told c = search needs
@@ -25,7 +26,7 @@ has-type-requires c κs = search needs
 
 returns-2 : tie.Need-returns-2
 unfolding presentCheck
-returns-2 c = c .has-type .ensures ∙ met-by _ _ _ (cc) (none-left _)
+returns-2 c = c .has-type .ensures ∙ met-by _ _ _ (sym (c .before .before .before .has-types .ensures) ∙ ap checkedTold (c .before .enum-told .given .1)) (none-left _)
 
 pub present-spec : {M : Type 1} → statement M
 present-spec =

@@ -1,7 +1,8 @@
 -- `reader_table::entries` meets its contract: each entry in turn.
 -- Assumes nothing.
 use Prim.Native.Nat.{_≤_, _-_}
-use mathlib.Core.Path.{_≡_}
+use mathlib.Core.Path.{_≡_, _∙_, sym, ap}
+use Rattle.answer.specs.Answers.{checkedTold}
 use Rattle.answer.specs.Checks.{each}
 use Rattle.answer.specs.CheckLaws.{each-from, each-stop, each-fine, each-end}
 use Rattle.reader_head.specs.Head.{Headed}
@@ -36,7 +37,7 @@ enum-known-a c = search needs
 
 returns : tie.Need-returns Inv-loop μ-loop
 unfolding entriesCheck
-returns c = each-stop _ _ _ _ (c .before .before .before .before .before .loop .inv .3) (omega arith) _ (cc)
+returns c = each-stop _ _ _ _ (c .before .before .before .before .before .loop .inv .3) (omega arith) _ (sym (c .before .before .before .entry .ensures) ∙ ap checkedTold (c .before .a .given .1))
 
 enum-told : tie.Need-enum-told Inv-loop μ-loop
 enum-told c = search needs
@@ -48,7 +49,7 @@ loop-less : tie.Need-loop-less Inv-loop μ-loop
 loop-less c = omega arith
 
 loop-again : tie.Need-loop-again Inv-loop μ-loop
-loop-again c = (omega arith, search needs, search needs, each-fine _ _ _ _ (c .before .before .before .before .loop .inv .3) (omega arith) (cc), search needs)
+loop-again c = (omega arith, search needs, search needs, each-fine _ _ _ _ (c .before .before .before .before .loop .inv .3) (omega arith) (sym (c .before .before .entry .ensures) ∙ ap checkedTold (c .enum-told .given .1)), search needs)
 
 returns-2 : tie.Need-returns-2 Inv-loop μ-loop
 unfolding entriesCheck

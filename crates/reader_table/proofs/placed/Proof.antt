@@ -1,8 +1,9 @@
 -- `reader_table::placed` meets its contract.
 -- Assumes nothing.
-use mathlib.Core.Path.{_∙_}
+use mathlib.Core.Path.{_∙_, ap}
 use Rattle.answer.specs.CheckLaws.{met, unmet, end, le-at, gt-at, eq-same, ne-same}
 use Rattle.reader_table.specs.Table.{placedCheck}
+use Prim.Native.Nat.{_%_}
 use native.Mathlib.Omega.{arith}
 use borrow.Author.Needs.{needs}
 use Rattle.reader_table.proofs.placed.Statement.{statement}
@@ -19,7 +20,7 @@ fail-requires c κs = search needs
 
 returns : tie.Need-returns
 unfolding placedCheck
-returns c = c .fail .ensures ∙ unmet _ _ _ (ne-same _ _ (λ e. c .before .if1 .taken (cc)))
+returns c = c .fail .ensures ∙ unmet _ _ _ (ne-same _ _ (λ e. c .before .if1 .taken (ap (λ z. z % 4) (c .before .before .before .field .ensures .0) ∙ e)))
 
 count-requires : tie.Need-count-requires
 count-requires c κs = search needs

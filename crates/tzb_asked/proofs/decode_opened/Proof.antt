@@ -2,6 +2,7 @@
 -- Assumes nothing.
 use Prim.Native.Nat.{ℕ}
 use mathlib.Core.Path.{sym, ap, _∙_}
+use Rattle.answer.specs.Answers.{checkedTold}
 use Rattle.tzb_core.proofs.Decoded.{outcome-no}
 use Rattle.reader_chunks.specs.Chunks.{decodeIn, decodeAt, decodedAt}
 use Rattle.tzb_asked.specs.Asked.{many-no, countAt}
@@ -34,7 +35,7 @@ returns c =
     let a = d .before .before .before .before .args in
     let w = d .before .before .wide .ensures .0 in
     let e = outcome-no (decodeIn (a .o) (a .file .now) (a .chunk) (a .out .now)) _
-    (sym (c .before .a .given .1) ∙ d .decode-chunk-points .ensures .0 ∙ ap (λ (i : ℕ). decodeAt (a .o) (a .file .now) i (a .out .now)) w) in
+    (sym (ap checkedTold (c .before .a .given .1)) ∙ d .decode-chunk-points .ensures .0 ∙ ap (λ (i : ℕ). decodeAt (a .o) (a .file .now) i (a .out .now)) w) in
     (many-no _ _ e, d .decode-chunk-points .ensures .1 ∙ ap (λ (i : ℕ). decodedAt (a .o) (a .file .now) i (a .out .now)) w)
 
 same-length-2 : tie.Need-same-length-2
@@ -45,7 +46,7 @@ returns-2 c =
     let d = c .before .before .before .before in
     let a = d .before .before .before .before .args in
     let w = d .before .before .wide .ensures .0 in
-    let e = sym (c .before .enum-told .given .1) ∙ d .decode-chunk-points .ensures .0 ∙ ap (λ (i : ℕ). decodeAt (a .o) (a .file .now) i (a .out .now)) w in (
+    let e = sym (ap checkedTold (c .before .enum-told .given .1)) ∙ d .decode-chunk-points .ensures .0 ∙ ap (λ (i : ℕ). decodeAt (a .o) (a .file .now) i (a .out .now)) w in (
       many-decoded (a .o) (a .file .now) (a .chunk) (a .out .now) e _ (c .points-in .ensures ∙ ap (countAt (a .o) (a .file .now)) w),
       d .decode-chunk-points .ensures .1 ∙ ap (λ (i : ℕ). decodedAt (a .o) (a .file .now) i (a .out .now)) w,
     )

@@ -1,7 +1,8 @@
 -- `units::placed_run` meets its contract: 12 and 13 refuse none of the entries gone through.
 -- Assumes nothing.
 use Prim.Native.Nat.{_≤_, _-_}
-use mathlib.Core.Path.{_≡_}
+use mathlib.Core.Path.{_≡_, _∙_, sym, ap}
+use Rattle.answer.specs.Answers.{checkedTold}
 use Rattle.reader_head.specs.Head.{Headed}
 use Rattle.reader_table.specs.Table.{sections}
 use Rattle.reader_table.specs.Shared.{Placed}
@@ -42,7 +43,7 @@ loop-less : tie.Need-loop-less Inv-loop μ-loop
 loop-less c = search needs
 
 loop-again : tie.Need-loop-again Inv-loop μ-loop
-loop-again c = (omega arith, search needs, search needs, placed-more _ _ (c .before .before .before .before .loop .inv .3) (cc))
+loop-again c = (omega arith, search needs, search needs, placed-more _ _ (c .before .before .before .before .loop .inv .3) (sym (c .before .before .placed .ensures) ∙ ap checkedTold (c .enum-told2 .given .1)))
 
 returns-2 : tie.Need-returns-2 Inv-loop μ-loop
 returns-2 c = (omega arith, c .before .loop .inv .3)

@@ -5,6 +5,7 @@ use mathlib.Core.Path.{sym, ap, _∙_}
 use mathlib.Core.List.{List, _++_}
 use lib.ListN.{take, drop}
 use lib.IntN.{ℤ}
+use Rattle.answer.specs.Answers.{checkedTold}
 use Rattle.tzb_core.specs.Decode.{outcome, pointsFrom, filled}
 use Rattle.tzb_core.proofs.Decoded.{wrote, copied, led-same, led-fine, led-no}
 use native.Mathlib.Omega.{arith}
@@ -25,7 +26,7 @@ returns : tie.Need-returns
 returns c =
     let f = c .before .before .before .before in
     let a = f .before .before .before .args in
-    let e = led-no (a .first) (pointsFrom (a .s .now) (a .count) (a .first) (a .from .at)) _ (sym (c .before .c .given .1) ∙ f .fill-from .ensures .0) in
+    let e = led-no (a .first) (pointsFrom (a .s .now) (a .count) (a .first) (a .from .at)) _ (sym (ap checkedTold (c .before .c .given .1)) ∙ f .fill-from .ensures .0) in
     (ap outcome e, ap (filled (a .out .now)) e)
 
 enum-told : tie.Need-enum-told
@@ -53,7 +54,7 @@ returns-2 c =
     let f = told .before .before .before in
     let start = f .before .before .before in
     let a = start .args in
-    let fine = sym (told .enum-told .given .1) ∙ f .fill-from .ensures .0 in (
+    let fine = sym (ap checkedTold (told .enum-told .given .1)) ∙ f .fill-from .ensures .0 in (
       again .fill-from2 .ensures .0 ∙ led-same (a .first) (pointsFrom (a .s .now) (a .count) (a .first) (a .from .at)),
       again .fill-from2 .ensures .1 (start .pre) ∙ wrote (a .s .now) (a .count) (a .first) (a .from .at) fine (a .out .now) (start .pre),
     )
@@ -75,7 +76,7 @@ returns-3 c =
     let f = told .before .before .before in
     let start = f .before .before .before in
     let a = start .args in
-    let fine = sym (told .enum-told .given .1) ∙ f .fill-from .ensures .0 in (
+    let fine = sym (ap checkedTold (told .enum-told .given .1)) ∙ f .fill-from .ensures .0 in (
       led-fine (a .first) (pointsFrom (a .s .now) (a .count) (a .first) (a .from .at)) fine,
       given .copy .ensures
           ∙ ap (λ (l : List ℤ). take (2 + 2 * a .count) l ++ drop (2 + 2 * a .count) (a .out .now)) (f .fill-from .ensures .1 (omega arith))
