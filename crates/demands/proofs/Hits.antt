@@ -12,8 +12,7 @@ use Rattle.basics.specs.Truth.{and-i, and-l, and-r}
 use Rattle.plane.specs.declared.Point.{Point}
 use Rattle.plane.specs.Lines.{every}
 use Rattle.plane.specs.Runs.{run, run-every}
-use Rattle.answer.specs.declared.Checked.the-variants.{Fine}
-use Rattle.answer.specs.Answers.{Answer, ok, _then_}
+use Rattle.answer.specs.Answers.{Answer, ok, _then_, fine}
 use Rattle.answer.specs.Checks.{andThen, same}
 use Rattle.answer.specs.CheckLaws.{same-eq}
 use Rattle.reader_opened.specs.declared.Opened.{Opened}
@@ -126,7 +125,7 @@ module _ (o : Opened) (s : List ℕ) where
   short-among lng lat n place z e = rw (e, listed-given place (listed-at n place z place (omega arith) (omega (arith, one-alone o n lng lat e))))
 
   -- ---- names of zones of the file are all read
-  pub names-read : ((zone : ℕ) → zone < o .zones .count → NameGiven o s zone) → (l : List ℕ) → every (known o) l ≡ true → namesRead o s l ≡ Fine
+  pub names-read : ((zone : ℕ) → zone < o .zones .count → NameGiven o s zone) → (l : List ℕ) → every (known o) l ≡ true → namesRead o s l ≡ fine
   unfolding namesRead andThen
   names-read f [] h = refl
   names-read f (zone ∷ l) h =

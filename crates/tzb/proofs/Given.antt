@@ -12,10 +12,8 @@ use lib.Ieee.{Float}
 use Rattle.basics.specs.Truth.{and-l, and-r}
 use Rattle.fields.specs.Le.{le}
 use Rattle.answer.specs.declared.Refusal.{Refusal}
-use Rattle.answer.specs.declared.Checked.{Checked}
-use Rattle.answer.specs.declared.Checked.the-variants as C
 use Rattle.answer.specs.CheckLaws.{fine-one, fine-rest, fine-claim, same-eq, at-le, ne-same}
-use Rattle.answer.specs.Answers.{Answer, ok, refused, _before_, zero-one, ok-inv}
+use Rattle.answer.specs.Answers.{Answer, ok, refused, _before_, zero-one, ok-inv, Check, fine}
 use Rattle.reader_head.specs.Head.{headCheck, fieldsCheck, isCount}
 use Rattle.reader_table.specs.Table.{sections, has, sectionOf}
 use Rattle.reader_opened.specs.declared.Directory.{Directory}
@@ -34,12 +32,12 @@ use Rattle.reader_dirs.proofs.Accepted.{chunk-kept, chunk-found, chunk-some, ch
 use Rattle.tzb.specs.Opening.{tableCheck, sizesCheck, namesIn, gridIn, contentsCheck, gridIs, openedIs, openOf, Placed, tabled, placed, lies, room}
 
 -- an answer that was given after a check
-before-inv : {A : Type 0} (c : Checked) (x : Answer A) (a : A) → ok a ≡ (c before x) → (c ≡ C.Fine) × (ok a ≡ x)
-before-inv C.Fine x a e = (refl, e)
-before-inv (C.Refused k) x a e = let z : _≡_ {A = ℕ} 0 1 = cc in absurd (zero-one z)
+before-inv : {A : Type 0} (c : Check) (x : Answer A) (a : A) → ok a ≡ (c before x) → (c ≡ fine) × (ok a ≡ x)
+before-inv (ok u) x a e = (refl, e)
+before-inv (refused k) x a e = let z : _≡_ {A = ℕ} 0 1 = cc in absurd (zero-one z)
 
 -- where the flag says that GRID is there, it was checked
-grid-checked : (s : List ℕ) (p : Sections) (g : Grid) → gridIn s p g ≡ C.Fine → (p .flags % 2 ≡ 0 → ⊥) → gridCheck s (p .gridpart) g (p .zones) ≡ C.Fine
+grid-checked : (s : List ℕ) (p : Sections) (g : Grid) → gridIn s p g ≡ fine → (p .flags % 2 ≡ 0 → ⊥) → gridCheck s (p .gridpart) g (p .zones) ≡ fine
 unfolding gridIn
 grid-checked s p g e h = rw (ne-same (p .flags % 2) 0 h) at e
 
@@ -74,10 +72,10 @@ pub record-there : (s : List ℕ) (d : Directory) (w : ℕ) → Lies s d w → (
 record-there s d w f i h = record-at s d w i h (omega (arith, mul-le-mul-right w h, f .fits))
 
 -- the five other directories are as long as one record at least
-module _ (p : Sections) (fine : sizesCheck p ≡ C.Fine) where
-  stocked : countsCheck p ≡ C.Fine
+module _ (p : Sections) (passes : sizesCheck p ≡ fine) where
+  stocked : countsCheck p ≡ fine
   unfolding sizesCheck
-  stocked = fine-one _ _ (fine-rest _ _ (fine-rest _ _ fine))
+  stocked = fine-one _ _ (fine-rest _ _ (fine-rest _ _ passes))
 
   polys-long : 24 ≤ p .polydir .len
   unfolding countsCheck
@@ -101,18 +99,18 @@ module _ (p : Sections) (fine : sizesCheck p ≡ C.Fine) where
 
 module _ (file : List ℕ) (o : Opened) (opened : ok o ≡ openOf file) where
   -- ---- the record, and the checks that the file passed
-  passed : (tableCheck file ≡ C.Fine) × (ok o ≡ (contentsCheck file (sectionsOf file) (gridIs file) (openedIs file) before ok (openedIs file)))
+  passed : (tableCheck file ≡ fine) × (ok o ≡ (contentsCheck file (sectionsOf file) (gridIs file) (openedIs file) before ok (openedIs file)))
   unfolding openOf
   passed = before-inv (tableCheck file) _ o opened
 
-  filled : (contentsCheck file (sectionsOf file) (gridIs file) (openedIs file) ≡ C.Fine) × (ok o ≡ ok (openedIs file))
+  filled : (contentsCheck file (sectionsOf file) (gridIs file) (openedIs file) ≡ fine) × (ok o ≡ ok (openedIs file))
   filled = before-inv (contentsCheck file (sectionsOf file) (gridIs file) (openedIs file)) _ o (passed .1)
 
   pub opened-is : o ≡ openedIs file
   opened-is = ok-inv o (openedIs file) (filled .1)
 
   -- 1 to 18
-  pub table-fine : tableCheck file ≡ C.Fine
+  pub table-fine : tableCheck file ≡ fine
   table-fine = passed .0
 
   pub is-tabled : Tabled file
@@ -125,26 +123,26 @@ module _ (file : List ℕ) (o : Opened) (opened : ok o ≡ openOf file) where
   has-room = rw opened-is (room file (sectionsOf file) (gridIs file) is-placed)
 
   -- 19 and 20
-  pub sizes-fine : sizesCheck (sectionsOf file) ≡ C.Fine
+  pub sizes-fine : sizesCheck (sectionsOf file) ≡ fine
   unfolding contentsCheck
   sizes-fine = fine-one _ _ (filled .0)
 
   -- 21 to 26
-  pub names-fine : namesIn file (sectionsOf file) ≡ C.Fine
+  pub names-fine : namesIn file (sectionsOf file) ≡ fine
   unfolding contentsCheck
   names-fine = fine-one _ _ (fine-rest _ _ (filled .0))
 
   -- 27 to 31
-  pub grid-fine : gridIn file (sectionsOf file) (gridIs file) ≡ C.Fine
+  pub grid-fine : gridIn file (sectionsOf file) (gridIs file) ≡ fine
   unfolding contentsCheck
   grid-fine = fine-one _ _ (fine-rest _ _ (fine-rest _ _ (filled .0)))
 
   -- 32 to 34
-  pub chunks-fine : chunksCheck file o ≡ C.Fine
+  pub chunks-fine : chunksCheck file o ≡ fine
   unfolding contentsCheck
   chunks-fine = rw opened-is (fine-one _ _ (fine-rest _ _ (fine-rest _ _ (fine-rest _ _ (filled .0)))))
 
-  pub groups-fine : groupsCheck file o ≡ C.Fine
+  pub groups-fine : groupsCheck file o ≡ fine
   unfolding contentsCheck
   groups-fine = rw opened-is (fine-one _ _ (fine-rest _ _ (fine-rest _ _ (fine-rest _ _ (fine-rest _ _ (filled .0))))))
 
@@ -206,7 +204,7 @@ module _ (file : List ℕ) (o : Opened) (opened : ok o ≡ openOf file) where
   unfolding openedOf
   names-within = rw opened-is (is-placed .names)
 
-  names-checked : namesCheck file (o .names .off) (o .names .len) (o .zones .count) ≡ C.Fine
+  names-checked : namesCheck file (o .names .off) (o .names .len) (o .zones .count) ≡ fine
   unfolding openedOf namesIn
   names-checked = rw opened-is names-fine
 
@@ -223,7 +221,7 @@ module _ (file : List ℕ) (o : Opened) (opened : ok o ≡ openOf file) where
   unfolding openedOf
   grid-kept = ap (λ (x : Opened). x .grid) opened-is
 
-  grid-asked : (o .flags % 2 ≡ 0 → ⊥) → gridCheck file (sectionsOf file .gridpart) (o .grid) (o .zones .count) ≡ C.Fine
+  grid-asked : (o .flags % 2 ≡ 0 → ⊥) → gridCheck file (sectionsOf file .gridpart) (o .grid) (o .zones .count) ≡ fine
   unfolding openedOf
   grid-asked = rw opened-is (grid-checked file (sectionsOf file) (gridIs file) grid-fine)
 

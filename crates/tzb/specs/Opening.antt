@@ -8,11 +8,9 @@ use mathlib.Core.Bool.{Bool, true, false, cond}
 use mathlib.Core.List.{List, [], _∷_}
 use lib.ListN.{length}
 use Rattle.answer.specs.declared.Refusal.{Refusal}
-use Rattle.answer.specs.declared.Checked.{Checked}
-use Rattle.answer.specs.declared.Checked.the-variants as C
 use Rattle.answer.specs.Checks.{first, same}
 use Rattle.answer.specs.CheckLaws.{fine-one, fine-rest, eq-same, ne-same, met-by, unmet-by, end}
-use Rattle.answer.specs.Answers.{Answer, ok, refused, _before_}
+use Rattle.answer.specs.Answers.{Answer, ok, refused, _before_, Check, fine}
 use Rattle.reader_head.specs.Head.{headCheck, headed}
 use Rattle.reader_table.specs.Table.{entriesCheck}
 use Rattle.reader_table.specs.declared.Section.{Section}
@@ -27,23 +25,23 @@ use Rattle.tzb.specs.declared.Opening.{Opening}
 use Rattle.tzb.specs.declared.Opening.the-variants as O
 
 -- 1 to 11 (reader_head), 12 to 16 (reader_table), 17 and 18 (reader_opened)
-unfoldable pub tableCheck : List ℕ → Checked
+unfoldable pub tableCheck : List ℕ → Check
 tableCheck s = first (headCheck s ∷ entriesCheck s ∷ presentCheck s ∷ flagCheck s ∷ [])
 
 -- 19 and 20 (reader_opened)
-unfoldable pub sizesCheck : Sections → Checked
+unfoldable pub sizesCheck : Sections → Check
 sizesCheck p = first (zonesCheck p ∷ lengthsCheck p ∷ countsCheck p ∷ [])
 
 -- 21 to 26 (reader_names)
-unfoldable pub namesIn : List ℕ → Sections → Checked
+unfoldable pub namesIn : List ℕ → Sections → Check
 namesIn s p = namesCheck s (p .names .off) (p .names .len) (p .zones)
 
 -- 27 to 31 (reader_grid), if GRID is present, which flag bit 0 says after 18
-unfoldable pub gridIn : List ℕ → Sections → Grid → Checked
-gridIn s p g = cond (same (p .flags % 2) 0) C.Fine (gridCheck s (p .gridpart) g (p .zones))
+unfoldable pub gridIn : List ℕ → Sections → Grid → Check
+gridIn s p g = cond (same (p .flags % 2) 0) fine (gridCheck s (p .gridpart) g (p .zones))
 
 -- Then names, GRID if present, chunks, groups (reader_dirs: 32 to 34).
-unfoldable pub contentsCheck : List ℕ → Sections → Grid → Opened → Checked
+unfoldable pub contentsCheck : List ℕ → Sections → Grid → Opened → Check
 contentsCheck s p g o = first (sizesCheck p ∷ namesIn s p ∷ gridIn s p g ∷ chunksCheck s o ∷ groupsCheck s o ∷ [])
 
 -- what is kept of a file
@@ -71,7 +69,7 @@ pub record Placed (s : List ℕ) (p : Sections) : Type 0 where
   pub chunks : Within s (p .chunkdir)
   pub small : length s < 4_294_967_296
 
-pub tabled : (s : List ℕ) → tableCheck s ≡ C.Fine → Tabled s
+pub tabled : (s : List ℕ) → tableCheck s ≡ fine → Tabled s
 unfolding tableCheck
 tabled s e = record { head = headed s (fine-one _ _ e); table = fine-one _ _ (fine-rest _ _ e) }
 
@@ -96,30 +94,30 @@ unfolding openedOf
 room s p g f = record { chunks = lies s (p .chunkdir) 24 (f .chunks); groups = lies s (p .groupdir) 44 (f .groups) }
 
 module _ (s : List ℕ) (p : Sections) (g : Grid) where
-  pub grid-absent : p .flags % 2 ≡ 0 → C.Fine ≡ gridIn s p g
+  pub grid-absent : p .flags % 2 ≡ 0 → fine ≡ gridIn s p g
   unfolding gridIn
   grid-absent e = rw (eq-same (p .flags % 2) 0 e)
 
-  pub grid-present : (n : ℕ) (x : Checked) → (p .flags % 2 ≡ 0 → ⊥) → n ≡ p .zones → x ≡ gridCheck s (p .gridpart) g n → x ≡ gridIn s p g
+  pub grid-present : (n : ℕ) (x : Check) → (p .flags % 2 ≡ 0 → ⊥) → n ≡ p .zones → x ≡ gridCheck s (p .gridpart) g n → x ≡ gridIn s p g
   unfolding gridIn
   grid-present n x h en e = rw (ne-same (p .flags % 2) 0 h, ← en) e
 
-pub names-present : (s : List ℕ) (p : Sections) (at len n : ℕ) (x : Checked) → at ≡ p .names .off → len ≡ p .names .len → n ≡ p .zones → x ≡ namesCheck s at len n → x ≡ namesIn s p
+pub names-present : (s : List ℕ) (p : Sections) (at len n : ℕ) (x : Check) → at ≡ p .names .off → len ≡ p .names .len → n ≡ p .zones → x ≡ namesCheck s at len n → x ≡ namesIn s p
 unfolding namesIn
 names-present s p at len n x ea el en e = rw (← ea, ← el, ← en) e
 
 module _ (s : List ℕ) where
-  pub open-barred : (k : Refusal) → tableCheck s ≡ C.Refused k → refused k ≡ openOf s
+  pub open-barred : (k : Refusal) → tableCheck s ≡ refused k → refused k ≡ openOf s
   unfolding openOf
   open-barred k e = rw e
 
-  module _ (p : Sections) (g : Grid) (o : Opened) (t : tableCheck s ≡ C.Fine) (ep : p ≡ sectionsOf s) (eg : g ≡ gridOf s (p .gridpart)) (eo : o ≡ openedOf p g) where
+  module _ (p : Sections) (g : Grid) (o : Opened) (t : tableCheck s ≡ fine) (ep : p ≡ sectionsOf s) (eg : g ≡ gridOf s (p .gridpart)) (eo : o ≡ openedOf p g) where
     open-on : openOf s ≡ (contentsCheck s p g o before ok o)
     unfolding openOf
     open-on = rw (t, eo, eg, ep)
 
-    pub open-refused : (k : Refusal) → contentsCheck s p g o ≡ C.Refused k → refused k ≡ openOf s
+    pub open-refused : (k : Refusal) → contentsCheck s p g o ≡ refused k → refused k ≡ openOf s
     open-refused k e = sym (open-on ∙ rw e)
 
-    pub open-done : contentsCheck s p g o ≡ C.Fine → ok o ≡ openOf s
+    pub open-done : contentsCheck s p g o ≡ fine → ok o ≡ openOf s
     open-done e = sym (open-on ∙ rw e)

@@ -1,5 +1,6 @@
 // The reader. Opening answers an opened record, by value; every question takes it beside the file's bytes.
 ghost use mathlib.Core.Path.{_≡_};
+ghost use Rattle.answer.specs.Answers.{checkedTold};
 ghost use Rattle.reader_opened.specs.Opened.{openedOf};
 ghost use Rattle.tzb.specs.FullCheck.{fullCheckOf, checkTold};
 ghost use Rattle.tzb.specs.Opening.{tableCheck, sizesCheck, namesIn, gridIn, contentsCheck, openOf, told, Placed};
@@ -30,7 +31,7 @@ pub enum Opening {
 
 // 1 to 18: the header, the section table, the sections that there must be.
 fn table(s: &[u8]) -> Checked
-    ensures { λ r. ⌜ r ≡ tableCheck (now (s .entry)) ⌝ }
+    ensures { λ r. ⌜ checkedTold r ≡ tableCheck (now (s .entry)) ⌝ }
 {
     let a = reader_head::head(s);
     if let Checked::Refused(k) = a {
@@ -49,7 +50,7 @@ fn table(s: &[u8]) -> Checked
 
 // 19 and 20: the directories' lengths.
 fn sizes(p: Sections) -> Checked
-    ensures { λ r. ⌜ r ≡ sizesCheck p ⌝ }
+    ensures { λ r. ⌜ checkedTold r ≡ sizesCheck p ⌝ }
 {
     let a = reader_opened::zone_length(p);
     if let Checked::Refused(k) = a {
@@ -65,7 +66,7 @@ fn sizes(p: Sections) -> Checked
 // 21 to 26.
 fn names(s: &[u8], p: Sections) -> Checked
     requires { ⌜ Placed (now s) p ⌝ }
-    ensures { λ r. ⌜ r ≡ namesIn (now (s .entry)) p ⌝ }
+    ensures { λ r. ⌜ checkedTold r ≡ namesIn (now (s .entry)) p ⌝ }
 {
     let at = reader_head::wide(p.names.off);
     let len = reader_head::wide(p.names.len);
@@ -76,7 +77,7 @@ fn names(s: &[u8], p: Sections) -> Checked
 // 27 to 31, if GRID is present.
 fn grid(s: &[u8], p: Sections, g: Grid) -> Checked
     requires { ⌜ Placed (now s) p ⌝ }
-    ensures { λ r. ⌜ r ≡ gridIn (now (s .entry)) p g ⌝ }
+    ensures { λ r. ⌜ checkedTold r ≡ gridIn (now (s .entry)) p g ⌝ }
 {
     if p.flags % 2 == 0 {
         return Checked::Fine;
@@ -89,7 +90,7 @@ fn grid(s: &[u8], p: Sections, g: Grid) -> Checked
 // 19 to 34.
 fn contents(s: &[u8], p: Sections, g: Grid, o: Opened) -> Checked
     requires { ⌜ Placed (now s) p × (o ≡ openedOf p g) ⌝ }
-    ensures { λ r. ⌜ r ≡ contentsCheck (now (s .entry)) p g o ⌝ }
+    ensures { λ r. ⌜ checkedTold r ≡ contentsCheck (now (s .entry)) p g o ⌝ }
 {
     let a = sizes(p);
     if let Checked::Refused(k) = a {

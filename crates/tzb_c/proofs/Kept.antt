@@ -7,10 +7,8 @@ use mathlib.Core.List.{List}
 use lib.ListN.{length, take, getD}
 use lib.Ieee.{Float}
 use Rattle.answer.specs.declared.Refusal.{Refusal}
-use Rattle.answer.specs.declared.Checked.{Checked}
-use Rattle.answer.specs.declared.Checked.the-variants as C
 use Rattle.answer.specs.CheckLaws.{fine-claim, at-le}
-use Rattle.answer.specs.Answers.{Answer, ok, refused, _then_, _before_, then-ok, then-inv}
+use Rattle.answer.specs.Answers.{Answer, ok, refused, _then_, _before_, then-ok, then-inv, Check, fine}
 use Rattle.reader_opened.specs.declared.Opened.{Opened}
 use Rattle.reader_names.specs.Asked as N
 use Rattle.reader_names.proofs.Places.{bounds-good}
@@ -39,18 +37,18 @@ into-opened : (s room : List ℕ) (o : Opened) → ok o ≡ openInto s room → 
 unfolding openInto
 into-opened s room o e = go (openOf s) (roomFor room) e
   where
-    go : (x : Answer Opened) (c : Checked) → ok o ≡ (x then λ p. c before ok p) → ok o ≡ x
-    go (ok p) C.Fine f = f
-    go (ok p) (C.Refused k) f = never _ _ f
+    go : (x : Answer Opened) (c : Check) → ok o ≡ (x then λ p. c before ok p) → ok o ≡ x
+    go (ok p) (ok u) f = f
+    go (ok p) (refused k) f = never _ _ f
     go (refused k) c f = never _ _ f
 
 into-room : (s room : List ℕ) (o : Opened) → ok o ≡ openInto s room → 84 ≤ length room
 unfolding openInto roomFor
 into-room s room o e = at-le _ _ (fine-claim _ _ (go (openOf s) (roomFor room) e))
   where
-    go : (x : Answer Opened) (c : Checked) → ok o ≡ (x then λ p. c before ok p) → c ≡ C.Fine
-    go (ok p) C.Fine f = refl
-    go (ok p) (C.Refused k) f = never _ _ f
+    go : (x : Answer Opened) (c : Check) → ok o ≡ (x then λ p. c before ok p) → c ≡ fine
+    go (ok p) (ok u) f = refl
+    go (ok p) (refused k) f = never _ _ f
     go (refused k) c f = never _ _ f
 
 -- a file of bytes, each below 256, opened into lent memory

@@ -5,9 +5,7 @@ use mathlib.Core.Path.{_≡_, refl}
 use mathlib.Core.List.{List}
 use lib.Ieee.{Float}
 use Rattle.answer.specs.declared.Refusal.{Refusal}
-use Rattle.answer.specs.declared.Checked.{Checked}
-use Rattle.answer.specs.declared.Checked.the-variants as C
-use Rattle.answer.specs.Answers.{Answer, ok, refused, _then_, _before_}
+use Rattle.answer.specs.Answers.{Answer, ok, refused, _then_, _before_, Check}
 use Rattle.tzb_core.specs.Decode.{outcome}
 use Rattle.reader_opened.specs.declared.Opened.{Opened}
 use Rattle.reader_lookup.specs.Asking.{Sought, lookupOf}
@@ -40,17 +38,17 @@ module _ (s room : List ℕ) where
     unfolding openInto
     open-room = rw (← e) (go (roomFor room))
       where
-        go : (c : Checked) → c ≡ outcome (c before ok o)
-        go C.Fine = refl
-        go (C.Refused k) = refl
+        go : (c : Check) → c ≡ outcome (c before ok o)
+        go (ok u) = refl
+        go (refused k) = refl
 
     pub kept-room : written o room ≡ keptIn room (openInto s room)
     unfolding openInto keptIn
     kept-room = rw (← e) (go (roomFor room) refl)
       where
-        go : (c : Checked) → c ≡ roomFor room → written o room ≡ keptIn room (c before ok o)
-        go C.Fine f = refl
-        go (C.Refused k) f = written-not o room k f
+        go : (c : Check) → c ≡ roomFor room → written o room ≡ keptIn room (c before ok o)
+        go (ok u) f = refl
+        go (refused k) f = written-not o room k f
 
 -- lent memory after it
 module _ (room : List ℕ) (x : Answer Opened) where

@@ -6,8 +6,6 @@ use mathlib.Core.Path.{_≡_, refl, ap}
 use mathlib.Core.Bool.{Bool, true, false}
 use lib.IntN.{ℤ, pos, negsuc}
 use Rattle.answer.specs.declared.Refusal.{Refusal}
-use Rattle.answer.specs.declared.Checked.{Checked}
-use Rattle.answer.specs.declared.Checked.the-variants as C
 use Rattle.answer.specs.Answers.{Answer, ok, refused}
 use Rattle.plane.specs.Sight.{Sight, On, Off}
 use Rattle.tzb_core.specs.Decode.{outcome}
@@ -29,11 +27,6 @@ refusalCode r = negsuc (999 + min (r .number) 999)
 abbrev pub doneCode : {A : Type 0} → Answer A → ℤ
 doneCode (ok a) = pos 0
 doneCode (refused k) = refusalCode k
-
--- what a check says: there is nothing to tell but that it was fine
-abbrev pub checkedTold : Checked → Answer (Unit {0})
-checkedTold C.Fine = ok tt
-checkedTold (C.Refused k) = refused k
 
 -- 0 none, 1 all zones, 2 those listed for a cell
 abbrev pub kindCode : Answer Chosen → ℤ
@@ -90,6 +83,6 @@ module _ (r : Refusal) where
   code-held h = ap negsuc (omega arith)
 
 -- whether an answer was given is told as the answer is
-pub done-outcome : {A : Type 0} (x : Answer A) → doneCode (checkedTold (outcome x)) ≡ doneCode x
+pub done-outcome : {A : Type 0} (x : Answer A) → doneCode (outcome x) ≡ doneCode x
 done-outcome (ok a) = refl
 done-outcome (refused k) = refl

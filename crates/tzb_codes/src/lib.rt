@@ -1,9 +1,10 @@
 // Answers as single numbers, for the exports: -1000 - n for refusal n. Each function is total.
 ghost use mathlib.Core.Path.{_≡_};
+ghost use Rattle.answer.specs.Answers.{checkedTold};
 ghost use Rattle.plane.specs.Sight.{seenTold};
 ghost use Rattle.tzb.specs.FullCheck.{checkTold};
 ghost use Rattle.tzb_asked.specs.Asked.{choiceTold, verdictTold, foundTold};
-ghost use Rattle.tzb_codes.specs.Codes.{bitOf, refusalCode, doneCode, checkedTold, kindCode, listedOf, insideCode, zoneCode, checkCode, ruleOf, seenCode};
+ghost use Rattle.tzb_codes.specs.Codes.{bitOf, refusalCode, doneCode, kindCode, listedOf, insideCode, zoneCode, checkCode, ruleOf, seenCode};
 use answer::Checked;
 use answer::Refusal;
 use plane::Seen;

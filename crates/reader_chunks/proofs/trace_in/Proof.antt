@@ -1,6 +1,7 @@
 -- `reader_chunks::trace_in` meets its contract: the range, then the points.
 -- Assumes nothing.
-use mathlib.Core.Path.{sym, _∙_}
+use mathlib.Core.Path.{sym, _∙_, ap}
+use Rattle.answer.specs.Answers.{checkedTold}
 use Rattle.reader_chunks.proofs.Ranges.{span-fine}
 use Rattle.tzb_core.proofs.Decoded.{outcome-no}
 use Rattle.reader_chunks.specs.Chunks.{span-is, trace-no, trace-is}
@@ -16,26 +17,26 @@ enum-known-c : tie.Need-enum-known-c
 enum-known-c c = search needs
 
 returns : tie.Need-returns
-returns c = trace-no _ _ _ _ _ _ (outcome-no _ _ (sym (c .before .c .given .1) ∙ c .before .before .before .check-span .ensures))
+returns c = trace-no _ _ _ _ _ _ (outcome-no _ _ (sym (ap checkedTold (c .before .c .given .1)) ∙ c .before .before .before .check-span .ensures))
 
 enum-told : tie.Need-enum-told
 enum-told c = search needs
 
 sub-bytes : tie.Need-sub-bytes
-sub-bytes c = let h = span-fine _ _ _ (sym (c .enum-told .given .1) ∙ c .before .before .check-span .ensures) in omega (arith, h .0)
+sub-bytes c = let h = span-fine _ _ _ (sym (ap checkedTold (c .enum-told .given .1)) ∙ c .before .before .check-span .ensures) in omega (arith, h .0)
 
 part-bytes-start : tie.Need-part-bytes-start
-part-bytes-start c = let h = span-fine _ _ _ (sym (c .enum-told .given .1) ∙ c .before .before .check-span .ensures) in omega (arith, h .0, h .1)
+part-bytes-start c = let h = span-fine _ _ _ (sym (ap checkedTold (c .enum-told .given .1)) ∙ c .before .before .check-span .ensures) in omega (arith, h .0, h .1)
 
 part-bytes-end : tie.Need-part-bytes-end
-part-bytes-end c = let h = span-fine _ _ _ (sym (c .enum-told .given .1) ∙ c .before .before .check-span .ensures) in omega (arith, h .0, h .1)
+part-bytes-end c = let h = span-fine _ _ _ (sym (ap checkedTold (c .enum-told .given .1)) ∙ c .before .before .check-span .ensures) in omega (arith, h .0, h .1)
 
 trace-chunk-requires : tie.Need-trace-chunk-requires
 trace-chunk-requires c κs = search needs
 
 returns-2 : tie.Need-returns-2
 returns-2 c =
-    let h = span-fine _ _ _ (sym (c .before .before .enum-told .given .1) ∙ c .before .before .before .before .check-span .ensures) in
+    let h = span-fine _ _ _ (sym (ap checkedTold (c .before .before .enum-told .given .1)) ∙ c .before .before .before .before .check-span .ensures) in
     c .trace-chunk .ensures ∙ trace-is _ _ _ _ _ _ (span-is _ _ _ (h .0) (h .1))
 
 pub trace-in-spec : {M : Type 1} → statement M

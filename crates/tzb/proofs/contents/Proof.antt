@@ -1,6 +1,7 @@
 -- `tzb::contents` meets its contract: 19 to 34, one part after the other.
 -- Assumes nothing.
-use mathlib.Core.Path.{sym, _∙_}
+use mathlib.Core.Path.{sym, _∙_, ap}
+use Rattle.answer.specs.Answers.{checkedTold}
 use Rattle.answer.specs.CheckLaws.{met-by, unmet-by, none-left}
 use Rattle.tzb.specs.Opening.{contentsCheck, room}
 use borrow.Author.Needs.{needs}
@@ -15,7 +16,7 @@ enum-known-a c = search needs
 
 returns : tie.Need-returns
 unfolding contentsCheck
-returns c = unmet-by _ _ _ (sym (c .before .before .before .sizes .ensures) ∙ c .before .a .given .1)
+returns c = unmet-by _ _ _ (sym (c .before .before .before .sizes .ensures) ∙ ap checkedTold (c .before .a .given .1))
 
 enum-told : tie.Need-enum-told
 enum-told c = search needs
@@ -28,7 +29,7 @@ enum-known-b c = search needs
 
 returns-2 : tie.Need-returns-2
 unfolding contentsCheck
-returns-2 c = met-by _ _ _ (sym (c .before .before .before .before .before .before .sizes .ensures) ∙ c .before .before .before .before .enum-told .given .1) (unmet-by _ _ _ (sym (c .before .before .before .names .ensures) ∙ c .before .b .given .1))
+returns-2 c = met-by _ _ _ (sym (c .before .before .before .before .before .before .sizes .ensures) ∙ ap checkedTold (c .before .before .before .before .enum-told .given .1)) (unmet-by _ _ _ (sym (c .before .before .before .names .ensures) ∙ ap checkedTold (c .before .b .given .1)))
 
 enum-told-2 : tie.Need-enum-told-2
 enum-told-2 c = search needs
@@ -41,7 +42,7 @@ enum-known-d c = search needs
 
 returns-3 : tie.Need-returns-3
 unfolding contentsCheck
-returns-3 c = met-by _ _ _ (sym (c .before .before .before .before .before .before .before .before .before .sizes .ensures) ∙ c .before .before .before .before .before .before .before .enum-told .given .1) (met-by _ _ _ (sym (c .before .before .before .before .before .before .names .ensures) ∙ c .before .before .before .before .enum-told2 .given .1) (unmet-by _ _ _ (sym (c .before .before .before .grid .ensures) ∙ c .before .d .given .1)))
+returns-3 c = met-by _ _ _ (sym (c .before .before .before .before .before .before .before .before .before .sizes .ensures) ∙ ap checkedTold (c .before .before .before .before .before .before .before .enum-told .given .1)) (met-by _ _ _ (sym (c .before .before .before .before .before .before .names .ensures) ∙ ap checkedTold (c .before .before .before .before .enum-told2 .given .1)) (unmet-by _ _ _ (sym (c .before .before .before .grid .ensures) ∙ ap checkedTold (c .before .d .given .1))))
 
 enum-told-3 : tie.Need-enum-told-3
 enum-told-3 c = search needs
@@ -54,7 +55,7 @@ enum-known-e c = search needs
 
 returns-4 : tie.Need-returns-4
 unfolding contentsCheck
-returns-4 c = met-by _ _ _ (sym (c .before .before .before .before .before .before .before .before .before .before .before .before .sizes .ensures) ∙ c .before .before .before .before .before .before .before .before .before .before .enum-told .given .1) (met-by _ _ _ (sym (c .before .before .before .before .before .before .before .before .before .names .ensures) ∙ c .before .before .before .before .before .before .before .enum-told2 .given .1) (met-by _ _ _ (sym (c .before .before .before .before .before .before .grid .ensures) ∙ c .before .before .before .before .enum-told3 .given .1) (unmet-by _ _ _ (sym (c .before .before .before .chunks .ensures) ∙ c .before .e .given .1))))
+returns-4 c = met-by _ _ _ (sym (c .before .before .before .before .before .before .before .before .before .before .before .before .sizes .ensures) ∙ ap checkedTold (c .before .before .before .before .before .before .before .before .before .before .enum-told .given .1)) (met-by _ _ _ (sym (c .before .before .before .before .before .before .before .before .before .names .ensures) ∙ ap checkedTold (c .before .before .before .before .before .before .before .enum-told2 .given .1)) (met-by _ _ _ (sym (c .before .before .before .before .before .before .grid .ensures) ∙ ap checkedTold (c .before .before .before .before .enum-told3 .given .1)) (unmet-by _ _ _ (sym (c .before .before .before .chunks .ensures) ∙ ap checkedTold (c .before .e .given .1)))))
 
 enum-told-4 : tie.Need-enum-told-4
 enum-told-4 c = search needs
@@ -64,7 +65,7 @@ groups-requires c κs = rw (c .before .before .before .before .before .before .b
 
 returns-5 : tie.Need-returns-5
 unfolding contentsCheck
-returns-5 c = c .groups .ensures ∙ met-by _ _ _ (sym (c .before .before .before .before .before .before .before .before .before .before .before .before .sizes .ensures) ∙ c .before .before .before .before .before .before .before .before .before .before .enum-told .given .1) (met-by _ _ _ (sym (c .before .before .before .before .before .before .before .before .before .names .ensures) ∙ c .before .before .before .before .before .before .before .enum-told2 .given .1) (met-by _ _ _ (sym (c .before .before .before .before .before .before .grid .ensures) ∙ c .before .before .before .before .enum-told3 .given .1) (met-by _ _ _ (sym (c .before .before .before .chunks .ensures) ∙ c .before .enum-told4 .given .1) (none-left _))))
+returns-5 c = c .groups .ensures ∙ met-by _ _ _ (sym (c .before .before .before .before .before .before .before .before .before .before .before .before .sizes .ensures) ∙ ap checkedTold (c .before .before .before .before .before .before .before .before .before .before .enum-told .given .1)) (met-by _ _ _ (sym (c .before .before .before .before .before .before .before .before .before .names .ensures) ∙ ap checkedTold (c .before .before .before .before .before .before .before .enum-told2 .given .1)) (met-by _ _ _ (sym (c .before .before .before .before .before .before .grid .ensures) ∙ ap checkedTold (c .before .before .before .before .enum-told3 .given .1)) (met-by _ _ _ (sym (c .before .before .before .chunks .ensures) ∙ ap checkedTold (c .before .enum-told4 .given .1)) (none-left _))))
 
 pub contents-spec : {M : Type 1} → statement M
 contents-spec =

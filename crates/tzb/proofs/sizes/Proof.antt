@@ -1,6 +1,7 @@
 -- `tzb::sizes` meets its contract: 19 and 20, one part after the other.
 -- Assumes nothing.
-use mathlib.Core.Path.{sym, _∙_}
+use mathlib.Core.Path.{sym, _∙_, ap}
+use Rattle.answer.specs.Answers.{checkedTold}
 use Rattle.answer.specs.CheckLaws.{met-by, unmet-by, none-left}
 use Rattle.tzb.specs.Opening.{sizesCheck}
 use borrow.Author.Needs.{needs}
@@ -15,7 +16,7 @@ enum-known-a c = search needs
 
 returns : tie.Need-returns
 unfolding sizesCheck
-returns c = unmet-by _ _ _ (sym (c .before .before .before .zone-length .ensures) ∙ c .before .a .given .1)
+returns c = unmet-by _ _ _ (sym (c .before .before .before .zone-length .ensures) ∙ ap checkedTold (c .before .a .given .1))
 
 enum-told : tie.Need-enum-told
 enum-told c = search needs
@@ -28,7 +29,7 @@ enum-known-b c = search needs
 
 returns-2 : tie.Need-returns-2
 unfolding sizesCheck
-returns-2 c = met-by _ _ _ (sym (c .before .before .before .before .before .before .zone-length .ensures) ∙ c .before .before .before .before .enum-told .given .1) (unmet-by _ _ _ (sym (c .before .before .before .lengths .ensures) ∙ c .before .b .given .1))
+returns-2 c = met-by _ _ _ (sym (c .before .before .before .before .before .before .zone-length .ensures) ∙ ap checkedTold (c .before .before .before .before .enum-told .given .1)) (unmet-by _ _ _ (sym (c .before .before .before .lengths .ensures) ∙ ap checkedTold (c .before .b .given .1)))
 
 enum-told-2 : tie.Need-enum-told-2
 enum-told-2 c = search needs
@@ -38,7 +39,7 @@ counts-requires c κs = search needs
 
 returns-3 : tie.Need-returns-3
 unfolding sizesCheck
-returns-3 c = c .counts .ensures ∙ met-by _ _ _ (sym (c .before .before .before .before .before .before .zone-length .ensures) ∙ c .before .before .before .before .enum-told .given .1) (met-by _ _ _ (sym (c .before .before .before .lengths .ensures) ∙ c .before .enum-told2 .given .1) (none-left _))
+returns-3 c = c .counts .ensures ∙ met-by _ _ _ (sym (c .before .before .before .before .before .before .zone-length .ensures) ∙ ap checkedTold (c .before .before .before .before .enum-told .given .1)) (met-by _ _ _ (sym (c .before .before .before .lengths .ensures) ∙ ap checkedTold (c .before .enum-told2 .given .1)) (none-left _))
 
 pub sizes-spec : {M : Type 1} → statement M
 sizes-spec =

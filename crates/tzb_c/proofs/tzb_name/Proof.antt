@@ -3,6 +3,7 @@
 use mathlib.Core.Path.{sym, ap, _∙_}
 use lib.ListN.{length}
 use mir.Syntax.{w32}
+use Rattle.answer.specs.Answers.{checkedTold}
 use Rattle.tzb_core.proofs.Decoded.{outcome-no, outcome-fine}
 use Rattle.basics.specs.Signed.{back}
 use Rattle.tzb_asked.specs.Asked.{endsAsked}
@@ -31,7 +32,7 @@ returns c =
     let d = c .before .before .before .before .before .before in
     let a = d .before .before .before .before .before .args in
     let x = endsAsked (a .«record» .now) (a .file .now) (a .zone) (length (a .ends .now)) in (
-      back w32 _ (c .refusal-code .ok) ∙ c .refusal-code .ensures ∙ ap doneCode (outcome-no x _ (sym (c .before .before .a .given .1) ∙ d .name-ends .ensures .0)),
+      back w32 _ (c .refusal-code .ok) ∙ c .refusal-code .ensures ∙ ap doneCode (outcome-no x _ (sym (ap checkedTold (c .before .before .a .given .1)) ∙ d .name-ends .ensures .0)),
       d .name-ends .ensures .1,
     )
 
@@ -43,7 +44,7 @@ returns-2 c =
     let d = c .before .before .before .before in
     let a = d .before .before .before .before .before .args in
     let x = endsAsked (a .«record» .now) (a .file .now) (a .zone) (length (a .ends .now)) in (
-      ap doneCode (outcome-fine x (sym (c .enum-told .given .1) ∙ d .name-ends .ensures .0) .1),
+      ap doneCode (outcome-fine x (sym (ap checkedTold (c .enum-told .given .1)) ∙ d .name-ends .ensures .0) .1),
       d .name-ends .ensures .1,
     )
 

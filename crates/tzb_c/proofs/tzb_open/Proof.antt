@@ -2,10 +2,9 @@
 -- Assumes nothing.
 use mathlib.Core.Path.{sym, ap, _∙_}
 use mir.Syntax.{w32}
-use Rattle.answer.specs.declared.Checked.{Checked}
 use Rattle.basics.specs.Signed.{back}
 use Rattle.tzb.specs.Opening.{told}
-use Rattle.tzb_codes.specs.Codes.{doneCode, checkedTold, done-outcome}
+use Rattle.tzb_codes.specs.Codes.{doneCode, done-outcome}
 use Rattle.tzb_c.specs.Opens.{openInto, open-barred, open-room, kept-no, kept-room}
 use borrow.Author.Needs.{needs}
 use Rattle.tzb_c.proofs.tzb_open.Statement.{statement}
@@ -47,7 +46,7 @@ returns-2 c =
     let room = o .before .before .before .args .«record» .now in
     let opened = sym (ap told (w .before .before .before .a2 .given .1)) ∙ o .«open» .ensures in (
       back w32 _ (c .done-code .ok) ∙ c .done-code .ensures
-          ∙ ap (λ (y : Checked). doneCode (checkedTold y)) (w .write-record .ensures .0 ∙ open-room s room _ opened) ∙ done-outcome (openInto s room),
+          ∙ ap doneCode (w .write-record .ensures .0 ∙ open-room s room _ opened) ∙ done-outcome (openInto s room),
       w .write-record .ensures .1 ∙ kept-room s room _ opened,
     )
 

@@ -4,7 +4,8 @@ use mathlib.Core.Path.{sym, ap, _∙_}
 use mir.Syntax.{w32}
 use Rattle.answer.specs.declared.Checked.{Checked}
 use Rattle.basics.specs.Signed.{back}
-use Rattle.tzb_codes.specs.Codes.{doneCode, checkedTold}
+use Rattle.answer.specs.Answers.{checkedTold}
+use Rattle.tzb_codes.specs.Codes.{doneCode}
 use borrow.Author.Needs.{needs}
 use Rattle.tzb_codes.proofs.done_code.Statement.{statement}
 use Rattle.tzb_codes.proofs.done_code.Tie as tie
