@@ -5,7 +5,7 @@ use native.Mathlib.Omega.{arith}
 use mathlib.Core.Path.{_≡_, refl, sym, ap, subst, _∙_}
 use mathlib.Core.Bool.{Bool, true, false, false≢true}
 use mathlib.Core.List.{List}
-use mathlib.Core.Logic.{_↔_}
+use mathlib.Core.Logic.{_↔_, _⊎_, inl, inr}
 use lib.IntN.{ℤ, pos}
 use lib.ListN.{take}
 use Rattle.plane.specs.Segment.{seg}
@@ -116,9 +116,14 @@ module _ (file : List ℕ) where
       neither true f = absurd (f refl)
       neither false f = refl
 
+      which : (b : Bool) → r ≡ insideCode (ok b) → (r ≡ pos 1) ⊎ (r ≡ pos 0)
+      which true e = inl e
+      which false e = inr e
+
       exactly : OneOrZero r (InZone (point x y) (shapeOf file zone))
       exactly =
           record {
+            either = which says answered;
             one = (λ e. in-words .0 (yes says (sym answered ∙ e)), λ z. answered ∙ ap (λ (b : Bool). insideCode (ok b)) (in-words .1 z));
             zero = (λ e z. not-yes says (sym answered ∙ e) (in-words .1 z), λ f. answered ∙ neither says (λ t. f (in-words .0 t)));
           }

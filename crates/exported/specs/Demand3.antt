@@ -11,7 +11,7 @@
 use Prim.Native.Nat.{ℕ, _≤_, _<_}
 use mathlib.Core.Path.{_≡_}
 use mathlib.Core.List.{List}
-use mathlib.Core.Logic.{_↔_}
+use mathlib.Core.Logic.{_↔_, _⊎_}
 use lib.IntN.{ℤ, pos}
 use lib.ListN.{take}
 use Rattle.tzb_core.specs.Points.{point}
@@ -21,8 +21,9 @@ use Rattle.demands.specs.Words.{InZone}
 use Rattle.exported.specs.Calls.{Tzb-open, Tzb-full-check, Tzb-zone-count, Tzb-contains}
 use Rattle.exported.specs.Words.{refusing, shapeOf}
 
--- the answer is 1 exactly when it lies inside, and 0 exactly when it does not
+-- the answer is 1 or 0: 1 exactly when it lies inside, and 0 exactly when it does not
 pub record OneOrZero (r : ℤ) (inside : Type 0) : Type 0 where
+  pub either : (r ≡ pos 1) ⊎ (r ≡ pos 0)
   pub one : (r ≡ pos 1) ↔ inside
   pub zero : (r ≡ pos 0) ↔ (inside → ⊥)
 
