@@ -1,9 +1,9 @@
--- Any two answers that a promise allows are equal: stated over the contracts themselves. Of a part of the file that is handed back, its bytes are.
+-- Any two answers that a promise allows are equal: stated over the contracts themselves. A part of the file that is handed back is fixed by its bytes and its place.
 -- Assumes nothing.
 use mathlib.Core.Path.{_≡_, sym, ap, ap₂, _∙_}
 use Prim.Native.Nat.{ℕ}
 use mathlib.Core.List.{List}
-use denote.Ref.{RefT, now}
+use denote.Ref.{RefT, now, ptr}
 use Rattle.basics.specs.Determined.{Determined}
 use Rattle.reader_names.proofs.names.Reads as names-reads
 use Rattle.answer.specs.Answers.{Answer, checked-one}
@@ -17,12 +17,12 @@ use Rattle.reader_names.proofs.name_refusal.Reads as name-refusal-reads
 pub names : Determined names-reads.Learnt
 names κ a r r' e e' p q = checked-one r r' (p ∙ sym q)
 
--- the same for a promise whose answer is lent: any two that it allows have the same bytes
-abbrev pub SameBytes : {K : Type 0} {A E : K → Type 0} → ((κ : K) → A κ → RefT (List ℕ) → E κ → Type 0) → Type 0
-SameBytes {K} {A} {E} promise = (κ : K) (a : A κ) (r r' : RefT (List ℕ)) (e e' : E κ) → promise κ a r e → promise κ a r' e' → now r ≡ now r'
+-- the same for a promise whose answer is lent: any two that it allows are the same bytes at the same place in memory. (Of a reference the logic also has a name, by which proofs follow it; no code sees it.)
+abbrev pub SamePart : {K : Type 0} {A E : K → Type 0} → ((κ : K) → A κ → RefT (List ℕ) → E κ → Type 0) → Type 0
+SamePart {K} {A} {E} promise = (κ : K) (a : A κ) (r r' : RefT (List ℕ)) (e e' : E κ) → promise κ a r e → promise κ a r' e' → (now r ≡ now r') × (ptr r ≡ ptr r')
 
-pub name : SameBytes name-reads.Learnt
-name κ a r r' e e' p q = p ∙ sym q
+pub name : SamePart name-reads.Learnt
+name κ a r r' e e' p q = (p .0 ∙ sym (q .0), p .1 ∙ sym (q .1))
 
 pub name-refusal : Determined name-refusal-reads.Learnt
 name-refusal κ a r r' e e' p q = p ∙ sym q

@@ -15,7 +15,7 @@ use Rattle.answer.specs.Checks.{atMost, below}
 use Rattle.answer.specs.CheckLaws.{at-le, le-at, gt-at, lt-below, ge-below}
 use Rattle.reader_opened.specs.declared.Opened.{Opened}
 use Rattle.reader_names.specs.Names.{edge}
-use Rattle.reader_names.specs.Asked.{boundsAt, partAt, nameAt, orEmpty, nameOr, refusalOf}
+use Rattle.reader_names.specs.Asked.{boundsAt, partAt, nameAt, orEmpty, orStart, nameFrom, behind, nameOr, refusalOf}
 
 pub edge-is : (s : List ℕ) (at n i at' n' i' x : ℕ) → at' ≡ at → n' ≡ n → i' ≡ i → x ≡ le 4 s (at' + 4 + 4 * i') → at' + 8 + 4 * n' + x ≡ edge s at n i
 edge-is s at n i at' n' i' x ea en ei e = rw (e, ea, en, ei)
@@ -83,6 +83,10 @@ module _ (o : Opened) (s : List ℕ) (zone : ℕ) where
     unfolding nameOr
     name-given = ap orEmpty name-is
 
+    pub place-given : (b i : ℕ) → _≡_ {A = ℕ × ℕ} (b, from + i) (behind (b, i) (nameFrom o s zone))
+    unfolding nameFrom behind
+    place-given b i = ap (λ (x : Answer (ℕ × ℕ)). (b, orStart x + i)) e
+
     pub number-none : 0 ≡ refusalOf (nameAt o s zone)
     unfolding refusalOf
     number-none = ap refusalOf name-is
@@ -95,6 +99,12 @@ module _ (o : Opened) (s : List ℕ) (zone : ℕ) where
     pub name-none : [] ≡ nameOr o s zone
     unfolding nameOr
     name-none = ap orEmpty name-not
+
+    pub place-none : (b i : ℕ) → _≡_ {A = ℕ × ℕ} (b, i) (behind (b, i) (nameFrom o s zone))
+    unfolding nameFrom behind
+    place-none b i =
+        let none : i ≡ 0 + i = omega arith in
+        ap (λ (j : ℕ). (b, j)) none ∙ ap (λ (x : Answer (ℕ × ℕ)). (b, orStart x + i)) e
 
     pub number-given : k .number ≡ refusalOf (nameAt o s zone)
     unfolding refusalOf

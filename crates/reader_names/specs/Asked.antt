@@ -35,6 +35,18 @@ orEmpty (refused k) = []
 unfoldable pub nameOr : Opened → List ℕ → ℕ → List ℕ
 nameOr o s zone = orEmpty (nameAt o s zone)
 
+-- That part begins so many bytes into the lent file: at the name's first, at the file's own where it is refused.
+abbrev pub orStart : Answer (ℕ × ℕ) → ℕ
+orStart (ok b) = b .0
+orStart (refused k) = 0
+
+unfoldable pub nameFrom : Opened → List ℕ → ℕ → ℕ
+nameFrom o s zone = orStart (boundsAt s (o .names .off) (o .zones .count) zone)
+
+-- the place n bytes behind another: a place is a block of memory and how far into it
+unfoldable pub behind : ℕ × ℕ → ℕ → ℕ × ℕ
+behind place n = (place .0, n + place .1)
+
 -- A second question gives its number or 0.
 unfoldable pub refusalOf : Answer (List ℕ) → ℕ
 refusalOf (ok name) = 0

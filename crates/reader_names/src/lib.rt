@@ -2,10 +2,11 @@
 ghost use mathlib.Core.Path.{_≡_};
 ghost use Prim.Native.Nat.{_+_, _≤_, _<_};
 ghost use lib.ListN.{length};
+ghost use denote.Ref.{ptr};
 ghost use Rattle.answer.specs.Answers.{checkedTold};
 ghost use Rattle.answer.specs.Checks.{each};
 ghost use Rattle.reader_names.specs.Names.{offsetAt, Shaped, Ordered, shapeCheck, offsetRule, offsetCheck, textCheck, textAt, namesCheck};
-ghost use Rattle.reader_names.specs.Asked.{boundsAt, told, nameOr, refusalOf, nameAt};
+ghost use Rattle.reader_names.specs.Asked.{boundsAt, told, nameOr, nameFrom, behind, refusalOf, nameAt};
 use answer::Checked;
 use answer::Refusal;
 use reader_opened::Opened;
@@ -148,9 +149,10 @@ pub fn name_bounds(s: &[u8], names: u32, zones: u32, zone: u32) -> Bounds
     Bounds::Refused(answer::refuse(44))
 }
 
-// A zone's name as that part of the lent file, empty where it is refused.
+// A zone's name as that part of the lent file, empty where it is refused: its bytes, and the place in memory at which they stand.
 pub fn name(o: Opened, s: &[u8], zone: u32) -> &[u8]
     ensures { λ r. ⌜ now r ≡ nameOr o (now (s .entry)) zone ⌝ }
+    ensures place { λ r. ⌜ ptr r ≡ behind (ptr (s .entry)) (nameFrom o (now (s .entry)) zone) ⌝ }
 {
     let b = name_bounds(s, o.names.off, o.zones.count, zone);
     if let Bounds::At(from, to) = b {

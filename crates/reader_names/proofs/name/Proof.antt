@@ -2,7 +2,7 @@
 -- Assumes nothing.
 use mathlib.Core.Path.{sym, ap, _∙_}
 use Rattle.reader_names.specs.Asked.{told}
-use Rattle.reader_names.proofs.Places.{name-given, name-none, bounds-good}
+use Rattle.reader_names.proofs.Places.{name-given, name-none, place-given, place-none, bounds-good}
 use borrow.Author.Needs.{needs}
 use Rattle.reader_names.proofs.name.Statement.{statement}
 use Rattle.reader_names.proofs.name.Tie as tie
@@ -23,7 +23,9 @@ part-result-end : tie.Need-part-result-end
 part-result-end c = bounds-good _ _ _ _ _ _ (sym (ap told (c .before .b .given .1)) ∙ c .before .before .before .name-bounds .ensures) .1
 
 returns : tie.Need-returns
-returns c = name-given _ _ _ _ _ (sym (ap told (c .before .before .b .given .1)) ∙ c .before .before .before .before .name-bounds .ensures)
+returns c =
+    let e = sym (ap told (c .before .before .b .given .1)) ∙ c .before .before .before .before .name-bounds .ensures in
+    (name-given _ _ _ _ _ e, place-given _ _ _ _ _ e _ _)
 
 enum-told : tie.Need-enum-told
 enum-told c = search needs
@@ -32,7 +34,9 @@ slice-aggregate-result : tie.Need-slice-aggregate-result
 slice-aggregate-result c = search needs
 
 returns-2 : tie.Need-returns-2
-returns-2 c = name-none _ _ _ _ (sym (ap told (c .before .enum-told .given .1)) ∙ c .before .before .before .name-bounds .ensures)
+returns-2 c =
+    let e = sym (ap told (c .before .enum-told .given .1)) ∙ c .before .before .before .name-bounds .ensures in
+    (name-none _ _ _ _ e, place-none _ _ _ _ e _ _)
 
 pub name-spec : {M : Type 1} → statement M
 name-spec =

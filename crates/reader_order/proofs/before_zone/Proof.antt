@@ -13,7 +13,7 @@ comes-before-requires : tie.Need-comes-before-requires
 comes-before-requires c κs = search needs
 
 returns : tie.Need-returns
-returns c = c .comes-before .ensures ∙ ap (comesBefore _) (c .before .name .ensures)
+returns c = c .comes-before .ensures ∙ ap (comesBefore _) (c .before .name .ensures .0)
 
 pub before-zone-spec : {M : Type 1} → statement M
 before-zone-spec = tie.close (tie.spec name-requires comes-before-requires returns)

@@ -39,8 +39,8 @@ move-up-requires : tie.Need-move-up-requires Inv-loop μ-loop
 move-up-requires c κs =
     let t = c .before .before .before .before .before in
     let p = c .before in (
-      fits _ _ _ _ _ _ _ (t .before .loop .inv) (t .loop-test .taken) _ (p .before .before .name .ensures) _ (p .place-for .ensures),
-      room-above _ _ _ _ _ _ _ (t .before .loop .inv) (t .loop-test .taken) _ (p .before .before .name .ensures) _ (p .place-for .ensures),
+      fits _ _ _ _ _ _ _ (t .before .loop .inv) (t .loop-test .taken) _ (p .before .before .name .ensures .0) _ (p .place-for .ensures),
+      room-above _ _ _ _ _ _ _ (t .before .loop .inv) (t .loop-test .taken) _ (p .before .before .name .ensures .0) _ (p .place-for .ensures),
     )
 
 sub-j : tie.Need-sub-j Inv-loop μ-loop
@@ -51,21 +51,21 @@ add-zones c =
     let p = c .before .before .before .before in
     let t = p .before .before .before .before in
     let start = t .before .before .before .before .before in
-    omega (arith, t .loop-test .taken, inside _ _ _ _ _ _ _ (t .before .loop .inv) (t .loop-test .taken) _ (p .before .before .name .ensures) _ (p .place-for .ensures), t .before .loop .inv .same, start .good)
+    omega (arith, t .loop-test .taken, inside _ _ _ _ _ _ _ (t .before .loop .inv) (t .loop-test .taken) _ (p .before .before .name .ensures .0) _ (p .place-for .ensures), t .before .loop .inv .same, start .good)
 
 mul-zones : tie.Need-mul-zones Inv-loop μ-loop
 mul-zones c =
     let p = c .before .before .before .before in
     let t = p .before .before .before .before in
     let start = t .before .before .before .before .before in
-    omega (arith, t .loop-test .taken, inside _ _ _ _ _ _ _ (t .before .loop .inv) (t .loop-test .taken) _ (p .before .before .name .ensures) _ (p .place-for .ensures), t .before .loop .inv .same, start .good)
+    omega (arith, t .loop-test .taken, inside _ _ _ _ _ _ _ (t .before .loop .inv) (t .loop-test .taken) _ (p .before .before .name .ensures .0) _ (p .place-for .ensures), t .before .loop .inv .same, start .good)
 
 slice-write-zones : tie.Need-slice-write-zones Inv-loop μ-loop
 slice-write-zones c =
     let p = c .before .before .before .before in
     let t = p .before .before .before .before in
     let start = t .before .before .before .before .before in
-    omega (arith, t .loop-test .taken, inside _ _ _ _ _ _ _ (t .before .loop .inv) (t .loop-test .taken) _ (p .before .before .name .ensures) _ (p .place-for .ensures), t .before .loop .inv .same, start .good)
+    omega (arith, t .loop-test .taken, inside _ _ _ _ _ _ _ (t .before .loop .inv) (t .loop-test .taken) _ (p .before .before .name .ensures .0) _ (p .place-for .ensures), t .before .loop .inv .same, start .good)
 
 loop-less : tie.Need-loop-less Inv-loop μ-loop
 loop-less c = search needs
@@ -74,7 +74,7 @@ loop-again : tie.Need-loop-again Inv-loop μ-loop
 loop-again c =
     let p = c .before .before .before .before in
     let t = p .before .before .before .before in
-    merge-on _ _ _ _ _ _ _ (t .before .loop .inv) (t .loop-test .taken) _ (p .before .before .name .ensures) _ (p .place-for .ensures) _ (c .before .before .move-up .ensures)
+    merge-on _ _ _ _ _ _ _ (t .before .loop .inv) (t .loop-test .taken) _ (p .before .before .name .ensures .0) _ (p .place-for .ensures) _ (c .before .before .move-up .ensures)
 
 same-length : tie.Need-same-length Inv-loop μ-loop
 same-length c = c .before .loop .inv .same

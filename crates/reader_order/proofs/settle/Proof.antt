@@ -44,7 +44,7 @@ returns : tie.Need-returns
 returns c =
     let p = c .before .before .before .before in
     let start = p .before .before .before .before .before .before in
-    settled _ _ _ (start .pre .0) _ (p .before .before .name .ensures) _ (p .place-for .ensures) _ (c .before .before .move-up .ensures)
+    settled _ _ _ (start .pre .0) _ (p .before .before .name .ensures .0) _ (p .place-for .ensures) _ (c .before .before .move-up .ensures)
 
 pub settle-spec : {M : Type 1} → statement M
 settle-spec =

@@ -1,0 +1,101 @@
+-- Answers whose refusals have numbers up to 47, as numbers: which number tells what.
+-- Assumes nothing.
+use Prim.Native.Nat.{ℕ, _+_, _≤_, _<_}
+use native.Mathlib.Omega.{arith}
+use mathlib.Core.Path.{_≡_, refl, sym, ap, _∙_}
+use mathlib.Core.Bool.{Bool, true, false}
+use mathlib.Core.List.{List}
+use mathlib.Core.Logic.{_⊎_, inl, inr}
+use lib.IntN.{ℤ, pos, negsuc}
+use Rattle.answer.specs.declared.Refusal.{Refusal}
+use Rattle.answer.specs.Refusals.{refusal}
+use Rattle.answer.specs.Answers.{Answer, ok, refused, no}
+use Rattle.reader_lookup.specs.Asking.{Sought, nowhere, inZone}
+use Rattle.reader_grid.specs.Asked.{Chosen, none, all, listed}
+use Rattle.tzb_codes.specs.Codes.{refusalCode, doneCode, kindCode, insideCode, zoneCode, code-small}
+use Rattle.tzb_c.specs.Exports.{numberCode, startCode, endCode}
+use Rattle.exported.specs.Words.{refusing, Refuses}
+use Rattle.exported.specs.Words as W
+use Rattle.exported.specs.Demand1.{NumberOrRefusal, NumberOrAsItWas, DoneOrAsItWas}
+use Rattle.exported.specs.Answers.{Tells, yesNo, zoneNumber}
+use Rattle.exported.proofs.Tabled.{Numbered, Tabled, number-of}
+
+-- ---- numbers apart
+pub apart : (n m : ℕ) → pos n ≡ negsuc m → ⊥
+apart n m e = let z : _≡_ {A = ℕ} 0 1 = cc in omega arith
+
+pub refusal-below : (n : ℕ) (k : Refusal) → pos n ≡ refusalCode k → ⊥
+unfolding refusalCode
+refusal-below n k e = apart n _ e
+
+pub same-number : (n m : ℕ) → pos n ≡ pos m → n ≡ m
+same-number n m e = cc
+
+same-below : (n m : ℕ) → negsuc n ≡ negsuc m → n ≡ m
+same-below n m e = cc
+
+pub same-refusing : (n m : ℕ) → refusing n ≡ refusing m → n ≡ m
+same-refusing n m e = let h : 999 + n ≡ 999 + m = same-below (999 + n) (999 + m) e in omega arith
+
+-- ---- a refusal
+pub code-is : (k : Refusal) → Numbered 47 k → refusalCode k ≡ refusing (k .number)
+code-is k h = sym (code-small k (omega (arith, h .greatest)))
+
+pub refuses : (k : Refusal) → Numbered 47 k → Refuses (refusalCode k)
+refuses k h = record { number = k .number; least = h .least; greatest = h .greatest; tells = code-is k h }
+
+-- ---- answers
+module _ {A : Type 0} where
+  pub done-told : (x : Answer A) → Tabled 47 x → (doneCode x ≡ pos 0) ⊎ Refuses (doneCode x)
+  done-told (ok a) h = inl refl
+  done-told (refused k) h = inr (refuses k (h .by))
+
+pub number-told : (x : Answer ℕ) → Tabled 47 x → NumberOrRefusal (numberCode x)
+number-told (ok n) h = inl (n, refl)
+number-told (refused k) h = inr (refuses k (h .by))
+
+pub start-told : (x : Answer (ℕ × ℕ)) → Tabled 47 x → NumberOrRefusal (startCode x)
+start-told (ok b) h = inl (b .0, refl)
+start-told (refused k) h = inr (refuses k (h .by))
+
+pub end-told : (x : Answer (ℕ × ℕ)) → Tabled 47 x → NumberOrRefusal (endCode x)
+end-told (ok b) h = inl (b .1, refl)
+end-told (refused k) h = inr (refuses k (h .by))
+
+pub kind-told : (x : Answer Chosen) → Tabled 47 x → NumberOrRefusal (kindCode x)
+kind-told (ok none) h = inl (0, refl)
+kind-told (ok (all n)) h = inl (1, refl)
+kind-told (ok (listed n place)) h = inl (2, refl)
+kind-told (refused k) h = inr (refuses k (h .by))
+
+pub inside-told : (x : Answer Bool) → Tabled 47 x → ((insideCode x ≡ pos 1) ⊎ (insideCode x ≡ pos 0)) ⊎ Refuses (insideCode x)
+inside-told (ok true) h = inl (inl refl)
+inside-told (ok false) h = inl (inr refl)
+inside-told (refused k) h = inr (refuses k (h .by))
+
+pub zone-told : (bound : ℕ) (x : Answer Sought) → Tabled 47 x → ((zone : ℕ) → ok (inZone zone) ≡ x → zone < bound)
+    → ((zone : ℕ) × (zone < bound) × (zoneCode x ≡ pos zone)) ⊎ ((zoneCode x ≡ W.none) ⊎ Refuses (zoneCode x))
+zone-told bound (ok nowhere) h g = inr (inl refl)
+zone-told bound (ok (inZone zone)) h g = inl (zone, g zone refl, refl)
+zone-told bound (refused k) h g = inr (inr (refuses k (h .by)))
+
+-- ---- the answer in words
+pub inside-tells : (x : Answer Bool) → Tabled 47 x → Tells yesNo x (insideCode x)
+inside-tells x t = record { value = value x; refusal = refusal-told x t }
+  where
+    value : (x : Answer Bool) (b : Bool) → ok b ≡ x → insideCode x ≡ yesNo b
+    value x true e = ap insideCode (sym e)
+    value x false e = ap insideCode (sym e)
+
+    refusal-told : (x : Answer Bool) → Tabled 47 x → (n : ℕ) → no n ≡ x → insideCode x ≡ refusing n
+    refusal-told x t n e = ap insideCode (sym e) ∙ code-is (refusal n) (number-of x (refusal n) e t)
+
+pub zone-tells : (x : Answer Sought) → Tabled 47 x → Tells zoneNumber x (zoneCode x)
+zone-tells x t = record { value = value x; refusal = refusal-told x t }
+  where
+    value : (x : Answer Sought) (z : Sought) → ok z ≡ x → zoneCode x ≡ zoneNumber z
+    value x nowhere e = ap zoneCode (sym e)
+    value x (inZone zone) e = ap zoneCode (sym e)
+
+    refusal-told : (x : Answer Sought) → Tabled 47 x → (n : ℕ) → no n ≡ x → zoneCode x ≡ refusing n
+    refusal-told x t n e = ap zoneCode (sym e) ∙ code-is (refusal n) (number-of x (refusal n) e t)

@@ -1,0 +1,11 @@
+-- The demands, proved of the exports.
+pub mod Meaning
+pub mod Tabled
+pub mod Opening
+pub mod Questions
+pub mod Room
+pub mod Checks
+pub mod Codes
+pub mod Demand1
+pub mod Demand3
+pub mod Answers

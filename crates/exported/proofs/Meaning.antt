@@ -1,0 +1,85 @@
+-- What each contract says of a call, in plain lists and numbers.
+-- Assumes nothing.
+use Prim.Native.Nat.{ℕ}
+use mathlib.Core.Path.{_≡_, subst}
+use mathlib.Core.List.{List}
+use lib.IntN.{ℤ}
+use lib.Ieee.{Float}
+use lib.ListN.{length}
+use Rattle.tzb_core.specs.Points.{point}
+use Rattle.tzb.specs.FullCheck.{fullCheckOf}
+use Rattle.tzb_core.specs.Decode.{filled}
+use Rattle.tzb_asked.specs.Asked.{zonesAsked, nameAsked, endsAsked, endsAfter, choiceAsked, candidateAsked, containsAsked, decodeAsked, lookupAsked, listAsked, placesAfter, howMany}
+use Rattle.tzb_codes.specs.Codes.{doneCode, kindCode, insideCode, zoneCode, checkCode, ruleOf}
+use Rattle.tzb_c.specs.Opens.{openInto, keptIn, lookupOnce}
+use Rattle.tzb_c.specs.Exports.{numberCode, startCode, endCode}
+use Rattle.exported.specs.Calls.{Call, Tzb-open, Tzb-full-check, Tzb-full-check-rule, Tzb-zone-count, Tzb-contains, Tzb-lookup, Tzb-ask, Tzb-ask-all, Tzb-decode, Tzb-name, Tzb-name-start, Tzb-name-end, Tzb-choice, Tzb-candidate}
+
+-- what holds of all that a contract allows holds of a call
+pub by-contract : {W K : Type 0} {A R E : K → Type 0} {promise : (κ : K) → A κ → R κ → E κ → Type 0} {seen : (κ : K) → A κ → R κ → E κ → W}
+    → (P : W → Type 0) → ((κ : K) (a : A κ) (r : R κ) (e : E κ) → promise κ a r e → P (seen κ a r e)) → {w : W} → Call W promise seen w → P w
+by-contract P h c = subst P (c .is) (h (c .κ) (c .a) (c .r) (c .e) (c .allowed))
+
+module _ {file : List ℕ} where
+  module _ {memory after : List ℕ} {r : ℤ} where
+    pub open-answer : Tzb-open file memory r after → r ≡ doneCode (openInto file memory)
+    open-answer c = by-contract (λ (v : List ℕ × List ℕ × ℤ × List ℕ). v .2 ≡ doneCode (openInto (v .0) (v .1))) (λ κ a r e p. p .0) c
+
+    pub open-memory : Tzb-open file memory r after → after ≡ keptIn memory (openInto file memory)
+    open-memory c = by-contract (λ (v : List ℕ × List ℕ × ℤ × List ℕ). v .3 ≡ keptIn (v .1) (openInto (v .0) (v .1))) (λ κ a r e p. p .1) c
+
+  pub full-check-answer : {r : ℤ} → Tzb-full-check file r → r ≡ checkCode (fullCheckOf file)
+  full-check-answer c = by-contract (λ (v : List ℕ × ℤ). v .1 ≡ checkCode (fullCheckOf (v .0))) (λ κ a r e p. p) c
+
+  pub rule-answer : {r : ℕ} → Tzb-full-check-rule file r → r ≡ ruleOf (fullCheckOf file)
+  rule-answer c = by-contract (λ (v : List ℕ × ℕ). v .1 ≡ ruleOf (fullCheckOf (v .0))) (λ κ a r e p. p) c
+
+  pub lookup-answer : {lng lat : Float} {r : ℤ} → Tzb-lookup file lng lat r → r ≡ zoneCode (lookupOnce file lng lat)
+  lookup-answer c = by-contract (λ (v : List ℕ × Float × Float × ℤ). v .3 ≡ zoneCode (lookupOnce (v .0) (v .1) (v .2))) (λ κ a r e p. p) c
+
+  module _ {held : List ℕ} where
+    pub contains-answer : {zone : ℕ} {x y r : ℤ} → Tzb-contains held file zone x y r → r ≡ insideCode (containsAsked held file zone (point x y))
+    contains-answer c = by-contract (λ (v : List ℕ × List ℕ × ℕ × ℤ × ℤ × ℤ). v .5 ≡ insideCode (containsAsked (v .0) (v .1) (v .2) (point (v .3) (v .4)))) (λ κ a r e p. p) c
+
+    pub ask-answer : {lng lat : Float} {r : ℤ} → Tzb-ask held file lng lat r → r ≡ zoneCode (lookupAsked held file lng lat)
+    ask-answer c = by-contract (λ (v : List ℕ × List ℕ × Float × Float × ℤ). v .4 ≡ zoneCode (lookupAsked (v .0) (v .1) (v .2) (v .3))) (λ κ a r e p. p) c
+
+    module _ {lng lat : Float} where
+      pub choice-answer : {r : ℤ} → Tzb-choice held file lng lat r → r ≡ kindCode (choiceAsked held file lng lat)
+      choice-answer c = by-contract (λ (v : List ℕ × List ℕ × Float × Float × ℤ). v .4 ≡ kindCode (choiceAsked (v .0) (v .1) (v .2) (v .3))) (λ κ a r e p. p) c
+
+      module _ {places after : List ℕ} {r : ℤ} where
+        pub all-answer : Tzb-ask-all held file lng lat places r after → r ≡ numberCode (howMany (listAsked held file lng lat (length places)))
+        all-answer c =
+            by-contract (λ (v : List ℕ × List ℕ × Float × Float × List ℕ × ℤ × List ℕ). v .5 ≡ numberCode (howMany (listAsked (v .0) (v .1) (v .2) (v .3) (length (v .4))))) (λ κ a r e p. p .0) c
+
+        pub all-memory : Tzb-ask-all held file lng lat places r after → after ≡ placesAfter places (listAsked held file lng lat (length places))
+        all-memory c =
+            by-contract (λ (v : List ℕ × List ℕ × Float × Float × List ℕ × ℤ × List ℕ). v .6 ≡ placesAfter (v .4) (listAsked (v .0) (v .1) (v .2) (v .3) (length (v .4)))) (λ κ a r e p. p .1) c
+
+    module _ {chunk : ℕ} {numbers after : List ℤ} {r : ℤ} where
+      pub decode-answer : Tzb-decode held file chunk numbers r after → r ≡ numberCode (howMany (decodeAsked held file chunk numbers))
+      decode-answer c = by-contract (λ (v : List ℕ × List ℕ × ℕ × List ℤ × ℤ × List ℤ). v .4 ≡ numberCode (howMany (decodeAsked (v .0) (v .1) (v .2) (v .3)))) (λ κ a r e p. p .0) c
+
+      pub decode-memory : Tzb-decode held file chunk numbers r after → after ≡ filled numbers (decodeAsked held file chunk numbers)
+      decode-memory c = by-contract (λ (v : List ℕ × List ℕ × ℕ × List ℤ × ℤ × List ℤ). v .5 ≡ filled (v .3) (decodeAsked (v .0) (v .1) (v .2) (v .3))) (λ κ a r e p. p .1) c
+
+    module _ {zone : ℕ} where
+      module _ {ends after : List ℕ} {r : ℤ} where
+        pub name-answer : Tzb-name held file zone ends r after → r ≡ doneCode (endsAsked held file zone (length ends))
+        name-answer c = by-contract (λ (v : List ℕ × List ℕ × ℕ × List ℕ × ℤ × List ℕ). v .4 ≡ doneCode (endsAsked (v .0) (v .1) (v .2) (length (v .3)))) (λ κ a r e p. p .0) c
+
+        pub name-memory : Tzb-name held file zone ends r after → after ≡ endsAfter ends (endsAsked held file zone (length ends))
+        name-memory c = by-contract (λ (v : List ℕ × List ℕ × ℕ × List ℕ × ℤ × List ℕ). v .5 ≡ endsAfter (v .3) (endsAsked (v .0) (v .1) (v .2) (length (v .3)))) (λ κ a r e p. p .1) c
+
+      pub start-answer : {r : ℤ} → Tzb-name-start held file zone r → r ≡ startCode (nameAsked held file zone)
+      start-answer c = by-contract (λ (v : List ℕ × List ℕ × ℕ × ℤ). v .3 ≡ startCode (nameAsked (v .0) (v .1) (v .2))) (λ κ a r e p. p) c
+
+      pub end-answer : {r : ℤ} → Tzb-name-end held file zone r → r ≡ endCode (nameAsked held file zone)
+      end-answer c = by-contract (λ (v : List ℕ × List ℕ × ℕ × ℤ). v .3 ≡ endCode (nameAsked (v .0) (v .1) (v .2))) (λ κ a r e p. p) c
+
+    pub candidate-answer : {place : ℕ} {r : ℤ} → Tzb-candidate held file place r → r ≡ numberCode (candidateAsked held file place)
+    candidate-answer c = by-contract (λ (v : List ℕ × List ℕ × ℕ × ℤ). v .3 ≡ numberCode (candidateAsked (v .0) (v .1) (v .2))) (λ κ a r e p. p) c
+
+pub zone-count-answer : {held : List ℕ} {r : ℤ} → Tzb-zone-count held r → r ≡ numberCode (zonesAsked held)
+zone-count-answer c = by-contract (λ (v : List ℕ × ℤ). v .1 ≡ numberCode (zonesAsked (v .0))) (λ κ a r e p. p) c

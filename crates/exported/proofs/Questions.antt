@@ -1,0 +1,380 @@
+-- Every refusal of a question has a number from 1 to 46.
+-- Assumes nothing.
+use Prim.Native.Nat.{ℕ, zero, suc, _+_, _-_, _*_, _%_}
+use mathlib.Core.Path.{refl}
+use mathlib.Core.Bool.{Bool, true, false, _||_, not}
+use mathlib.Core.List.{List, [], _∷_}
+use lib.IntN.{ℤ, _+ℤ_}
+use lib.Dec.{leb, ltb, eqb}
+use lib.Ieee.{Float}
+use lib.ListN.{length, getD}
+use Rattle.plane.specs.declared.Point.{Point}
+use Rattle.plane.specs.declared.I32Point.{I32Point}
+use Rattle.plane.specs.Domain.{inDomain}
+use Rattle.plane.specs.Segment as S
+use Rattle.boxes.specs.Box.{contains, relevant, right}
+use Rattle.fields.specs.Loads as F
+use Rattle.fields.specs.Loads.{loadAt}
+use Rattle.answer.specs.Checks as C
+use Rattle.answer.specs.Checks.{atMost, same}
+use Rattle.answer.specs.Answers.{Answer, ok}
+use Rattle.answer.specs.Walks.{Walk}
+use Rattle.tzb_core.specs.Delta.{fits32, addDelta}
+use Rattle.tzb_core.specs.Varint.{digits, numberAt, atEnd}
+use Rattle.tzb_core.specs.Points.{numbersAt, movedBy, inside, firstOf, nextAt}
+use Rattle.tzb_core.specs.Scan.{stepAt, onward, scanOf}
+use Rattle.tzb_core.specs.Decode.{pointsFrom, pointsOf}
+use Rattle.tzb_core.specs.Ray.{pointOf, rayOf}
+use Rattle.reader_opened.specs.declared.Directory.{Directory}
+use Rattle.reader_opened.specs.declared.Grid.{Grid}
+use Rattle.reader_opened.specs.declared.Opened.{Opened}
+use Rattle.reader_names.specs.Names.{edge}
+use Rattle.reader_names.specs.Asked.{boundsAt, nameAt}
+use Rattle.reader_grid.specs.Asked.{Chosen, none, all, listed, onEarth, inGrid, cellCandidates, candidatesOf, zoneBelow, candidateAt}
+use Rattle.reader_records.specs.declared.ChunkRecord.{ChunkRecord}
+use Rattle.reader_records.specs.declared.GroupRecord.{GroupRecord}
+use Rattle.reader_records.specs.declared.RingRecord.{RingRecord}
+use Rattle.reader_records.specs.declared.ListRecord.{ListRecord}
+use Rattle.reader_records.specs.Records.{place, recordAt, ruled, listAt, ringAt, countRule, opAt, groupAt, chunkAt}
+use Rattle.reader_chunks.specs.Chunks.{endOf, span, bytesOf, firstIn, scanIn, decodeBy, decodeIn}
+use Rattle.reader_groups.specs.Groups.{nextFirst, skipTo, scanTo, joinedTo, passAt, lastIn, lastAt, chunksFrom, groupOf}
+use Rattle.reader_rings.specs.declared.Turned.{Turned}
+use Rattle.reader_rings.specs.declared.Round.{Round}
+use Rattle.reader_rings.specs.Rings.{turnedAt, jointOf, groupWalk, turnWalk, opStep, opsFrom, ringEnd, ringRest, ringOf, ringContains}
+use Rattle.reader_rings.specs.Zones.{seek, polyOf, zoneOf, containsAt}
+use Rattle.reader_lookup.specs.Asking.{Sought, nowhere, inZone, scaled, unlooked, candidateOf, hitAt, orElse, firstHit, lookupAmong, lookupOf, allHits, hitsAmong, hitsOf, namesRead, placed, listFor, listOf}
+use Rattle.tzb_record.specs.Layout.{recordOf}
+use Rattle.exported.proofs.Tabled.{Tabled, TabledWalk, TabledCheck, given, need-t, then-t, either-way, walked, must-t, past-t, verdict-t, go-t, yields-t, fine-t, and-t, outcome-t, before-t}
+
+-- 1 to 46
+abbrev Q : {A : Type 0} → Answer A → Type 0
+Q x = Tabled 46 x
+
+abbrev W : {A : Type 0} → Walk A → Type 0
+W w = TabledWalk 46 w
+
+pub record-q : (held : List ℕ) → Q (recordOf held)
+unfolding recordOf
+record-q held = need-t 44 (same (length held) 84) _ refl (given _)
+
+load : (n : ℕ) (s : List ℕ) (p : ℕ) → Q (loadAt n s p)
+unfolding loadAt
+load n s p = need-t 44 (F.inside n s p) _ refl (given _)
+
+-- ---- names
+pub bounds-q : (s : List ℕ) (at n zone : ℕ) → Q (boundsAt s at n zone)
+unfolding boundsAt
+bounds-q s at n zone =
+    need-t 45 (C.below zone n) _ refl
+    (need-t 44 (atMost (at + 4 + 4 * zone + 8) (length s)) _ refl
+    (need-t 23 (atMost (edge s at n zone) (edge s at n (zone + 1))) _ refl
+    (need-t 44 (atMost (edge s at n (zone + 1)) (length s)) _ refl
+    (given _))))
+
+-- ---- candidates
+module _ (o : Opened) (s : List ℕ) where
+  name-q : (zone : ℕ) → Q (nameAt o s zone)
+  unfolding nameAt
+  name-q zone = then-t _ _ (bounds-q s _ _ zone) (λ b. given _)
+
+  cell : (g : Grid) (column row : ℤ) → Q (cellCandidates s g column row)
+  unfolding cellCandidates
+  cell g column row = either-way Q (inGrid g column row) _ _ (then-t _ _ (load 4 s _) (λ w. given _)) (given _)
+
+  pub candidates-q : (lng lat : Float) → Q (candidatesOf o s lng lat)
+  unfolding candidatesOf
+  candidates-q lng lat = either-way Q (onEarth lng lat) _ _ (either-way Q (same (o .flags % 2) 0) _ _ (given _) (cell (o .grid) _ _)) (given _)
+
+  below : (zones zone : ℕ) → Q (zoneBelow zones zone)
+  unfolding zoneBelow
+  below zones zone = need-t 31 (C.below zone zones) _ refl (given _)
+
+  pub candidate-q : (place : ℕ) → Q (candidateAt o s place)
+  unfolding candidateAt
+  candidate-q place = need-t 30 (C.below place (o .grid .total)) _ refl (then-t _ _ (load 2 s _) (below (o .zones .count)))
+
+-- ---- records
+record-at : (s : List ℕ) (d : Directory) (w i : ℕ) → Q (recordAt s d w i)
+unfolding recordAt
+record-at s d w i = need-t 34 (ltb i (d .count)) _ refl (need-t 44 (F.inside w s (place d w i)) _ refl (given _))
+
+ruled-34 : {A : Type 0} (at : Answer ℕ) (read : ℕ → A) (rule : A → Bool) → Q at → Q (ruled at read rule 34)
+unfolding ruled
+ruled-34 at read rule h = then-t _ _ h (λ p. need-t 34 (rule (read p)) _ refl (given _))
+
+ruled-35 : {A : Type 0} (at : Answer ℕ) (read : ℕ → A) (rule : A → Bool) → Q at → Q (ruled at read rule 35)
+unfolding ruled
+ruled-35 at read rule h = then-t _ _ h (λ p. need-t 35 (rule (read p)) _ refl (given _))
+
+list : (s : List ℕ) (d : Directory) (below i : ℕ) → Q (listAt s d below i)
+unfolding listAt
+list s d below i = ruled-34 _ _ _ (record-at s d 24 i)
+
+module _ (o : Opened) (s : List ℕ) (i : ℕ) where
+  ring : Q (ringAt o s i)
+  unfolding ringAt
+  ring = ruled-34 _ _ _ (record-at s (o .rings) 28 i)
+
+  op : Q (opAt o s i)
+  unfolding opAt
+  op = ruled-35 _ _ _ (record-at s (o .ops) 4 i)
+
+  group : Q (groupAt o s i)
+  unfolding groupAt
+  group = ruled-34 _ _ _ (record-at s (o .groups) 44 i)
+
+  chunk : Q (chunkAt o s i)
+  unfolding chunkAt
+  chunk = ruled-34 _ _ _ (record-at s (o .chunks) 24 i)
+
+-- ---- numbers and points
+digit : (k : ℕ) (only : Bool) (s : List ℕ) (p : ℕ) → Q (digits k only s p)
+unfolding digits
+digit zero only s p =
+    need-t 38 (ltb p (length s)) _ refl
+    (need-t 40 (leb (getD s p 0) 15) _ refl
+    (need-t 39 (only || not (eqb (getD s p 0) 0)) _ refl (given _)))
+digit (suc k) only s p =
+    need-t 38 (ltb p (length s)) _ refl
+    (either-way Q (ltb (getD s p 0) 128) _ _
+    (need-t 39 (only || not (eqb (getD s p 0) 0)) _ refl (given _))
+    (then-t _ _ (digit k false s (p + 1)) (λ t. given _)))
+
+module _ (s : List ℕ) where
+  number : (p : ℕ) → Q (numberAt s p)
+  unfolding numberAt
+  number p = then-t _ _ (digit 4 true s p) (λ t. given _)
+
+  numbers : (p : ℕ) → Q (numbersAt s p)
+  unfolding numbersAt
+  numbers p = then-t _ _ (number p) (λ x. then-t _ _ (number (x .1)) (λ y. given _))
+
+  delta : (a d : ℤ) → Q (addDelta a d)
+  unfolding addDelta
+  delta a d = need-t 41 (fits32 (a +ℤ d)) _ refl (given _)
+
+  moved : (q d : I32Point) → Q (movedBy q d)
+  unfolding movedBy
+  moved q d = then-t _ _ (delta (q .x) (d .x)) (λ x. then-t _ _ (delta (q .y) (d .y)) (λ y. given _))
+
+  within : (q : I32Point) (p : ℕ) → Q (inside q p)
+  unfolding inside
+  within q p = need-t 42 (inDomain q) _ refl (given _)
+
+  first-point : Q (firstOf s)
+  unfolding firstOf
+  first-point = then-t _ _ (numbers 0) (λ t. within (t .0) (t .1))
+
+  next-point : (q : I32Point) (p : ℕ) → Q (nextAt s q p)
+  unfolding nextAt
+  next-point q p = then-t _ _ (numbers p) (λ d. then-t _ _ (moved q (d .0)) (λ t. within t (d .1)))
+
+  points-from : (n : ℕ) (q : I32Point) (k : ℕ) → Q (pointsFrom s n q k)
+  unfolding pointsFrom
+  points-from zero q k = need-t 43 (atEnd s k) _ refl (given _)
+  points-from (suc n) q k = then-t _ _ (next-point q k) (λ t. then-t _ _ (points-from n (t .0) (t .1)) (λ l. given _))
+
+  points : (n : ℕ) → Q (pointsOf s n)
+  unfolding pointsOf
+  points n = need-t 32 (ltb 0 n) _ refl (then-t _ _ first-point (λ t. then-t _ _ (points-from (n - 1) (t .0) (t .1)) (λ l. given _)))
+
+  module _ (p : Point) where
+    step : (q : I32Point) (k : ℕ) → W (stepAt s p q k)
+    unfolding stepAt
+    step q k = yields-t _ _ (next-point q k) (λ t. past-t (rayOf q (t .0) p) t)
+
+    onward-w : (n : ℕ) (q : I32Point) (k : ℕ) → W (onward s p n q k)
+    unfolding onward
+    onward-w zero q k = must-t 43 (atEnd s k) _ refl (walked _ _)
+    onward-w (suc n) q k = go-t _ _ (step q k) (λ t. onward-w n (t .0) (t .1))
+
+    scan : (n : ℕ) → W (scanOf s n p)
+    unfolding scanOf
+    scan n = must-t 32 (ltb 0 n) _ refl (yields-t _ _ first-point (λ t. onward-w (n - 1) (t .0) (t .1)))
+
+-- ---- chunks
+module _ (s : List ℕ) where
+  span-q : (a e : ℕ) → Q (span s a e)
+  unfolding span
+  span-q a e = need-t 37 (ltb a e) _ refl (need-t 44 (leb e (length s)) _ refl (given _))
+
+  first-in : (a e : ℕ) → Q (firstIn s a e)
+  unfolding firstIn
+  first-in a e = then-t _ _ (span-q a e) (λ b. then-t _ _ (first-point b) (λ t. given _))
+
+  scan-in : (n : ℕ) (p : Point) (a e : ℕ) → W (scanIn s n p a e)
+  unfolding scanIn
+  scan-in n p a e = yields-t _ _ (span-q a e) (λ b. scan b p n)
+
+module _ (o : Opened) (s : List ℕ) where
+  end-q : (i : ℕ) → Q (endOf o s i)
+  unfolding endOf
+  end-q i = either-way Q (ltb (i + 1) (o .chunks .count)) _ _ (then-t _ _ (chunk o s (i + 1)) (λ v. given _)) (given _)
+
+  bytes : (i : ℕ) (v : ChunkRecord) → Q (bytesOf o s i v)
+  unfolding bytesOf
+  bytes i v = then-t _ _ (end-q i) (λ e. span-q s _ e)
+
+  pub decode-q : (i : ℕ) (out : List ℤ) → Q (decodeIn o s i out)
+  unfolding decodeIn decodeBy
+  decode-q i out = then-t _ _ (chunk o s i) (λ v. need-t 32 (ltb 0 (v .count)) _ refl (need-t 46 (leb (2 * v .count) (length out)) _ refl (then-t _ _ (bytes i v) (λ b. points b (v .count)))))
+
+  -- ---- groups
+  next-first : (i : ℕ) (n : ChunkRecord) → Q (nextFirst o s i n)
+  unfolding nextFirst
+  next-first i n = then-t _ _ (end-q (i + 1)) (λ e. first-in s _ e)
+
+  module _ (p : Point) where
+    module _ (i : ℕ) (v : ChunkRecord) where
+      skip : (n : ChunkRecord) → W (skipTo o s p i v n)
+      unfolding skipTo
+      skip n = yields-t _ _ (first-in s _ _) (λ a. yields-t _ _ (next-first i n) (λ b. walked _ _))
+
+      scan-to : (n : ChunkRecord) → W (scanTo o s p i v n)
+      unfolding scanTo
+      scan-to n = go-t _ _ (scan-in s _ p _ _) (λ q. yields-t _ _ (next-first i n) (λ b. past-t (rayOf q b p) tt))
+
+      joined : (n : ChunkRecord) → W (joinedTo o s p i v n)
+      unfolding joinedTo
+      joined n = either-way W (relevant (v .bbox) p) _ _ (either-way W (right (v .bbox) p) _ _ (skip n) (scan-to n)) (walked _ _)
+
+      pass : W (passAt o s p i v)
+      unfolding passAt
+      pass = yields-t _ _ (chunk o s (i + 1)) (λ n. go-t _ _ (joined n) (λ t. walked _ _))
+
+      last-in : (x : I32Point) (e : ℕ) → W (lastIn o s p i v x e)
+      unfolding lastIn
+      last-in x e = either-way W (right (v .bbox) p) _ _ (yields-t _ _ (first-in s _ e) (λ a. walked _ _)) (go-t _ _ (scan-in s _ p _ e) (λ q. walked _ _))
+
+      last : (x : I32Point) → W (lastAt o s p i v x)
+      unfolding lastAt
+      last x = either-way W (relevant (v .bbox) p) _ _ (yields-t _ _ (end-q i) (λ e. last-in x e)) (walked _ _)
+
+    chunks-from : (x : I32Point) (n i : ℕ) (v : ChunkRecord) → W (chunksFrom o s p x n i v)
+    unfolding chunksFrom
+    chunks-from x zero i v = last i v x
+    chunks-from x (suc n) i v = go-t _ _ (pass i v) (λ w. chunks-from x n (i + 1) w)
+
+    group-of : (g : GroupRecord) → W (groupOf o s p g)
+    unfolding groupOf
+    group-of g = yields-t _ _ (chunk o s (g .first)) (λ v. chunks-from (g .exit) _ (g .first) v)
+
+    -- ---- rings
+    group-walk : (g : GroupRecord) → W (groupWalk o s p g)
+    unfolding groupWalk
+    group-walk g = either-way W (relevant (g .bbox) p) _ _ (either-way W (right (g .bbox) p) _ _ (walked _ _) (group-of g)) (walked _ _)
+
+    joint : (a b : I32Point) → W (jointOf p a b)
+    unfolding jointOf
+    joint a b = either-way W (S.same a b) _ _ (walked _ _) (past-t (rayOf a b p) tt)
+
+    turn : (a : I32Point) (t : Turned) → W (turnWalk o s p a t)
+    unfolding turnWalk
+    turn a t = go-t _ _ (joint a (t .entry)) (λ u. group-walk (t .group))
+
+    turned : (i : ℕ) → Q (turnedAt o s i)
+    unfolding turnedAt
+    turned i = then-t _ _ (op o s i) (λ w. then-t _ _ (group o s _) (λ g. given _))
+
+    op-step : (i : ℕ) (z : Round) → W (opStep o s p i z)
+    unfolding opStep
+    op-step i z = yields-t _ _ (turned i) (λ t. go-t _ _ (turn (z .exit) t) (λ u. walked _ _))
+
+    ops : (n i : ℕ) (z : Round) → W (opsFrom o s p n i z)
+    unfolding opsFrom
+    ops zero i z = walked _ _
+    ops (suc n) i z = go-t _ _ (op-step i z) (λ w. ops n (i + 1) w)
+
+    ring-end : (r : RingRecord) (start : I32Point) (z : Round) → W (ringEnd p r start z)
+    unfolding ringEnd
+    ring-end r start z = must-t 36 (countRule r (z .sum)) _ refl (joint (z .exit) start)
+
+    ring-rest : (r : RingRecord) (t : Turned) → W (ringRest o s p r t)
+    unfolding ringRest
+    ring-rest r t = go-t _ _ (ops _ _ _) (λ z. ring-end r (t .entry) z)
+
+    ring-of : (r : RingRecord) → W (ringOf o s p r)
+    unfolding ringOf
+    ring-of r = yields-t _ _ (turned (r .first)) (λ t. go-t _ _ (group-walk (t .group)) (λ u. ring-rest r t))
+
+    ring-contains : (edge : Bool) (i : ℕ) → Q (ringContains o s p edge i)
+    unfolding ringContains
+    ring-contains edge i = then-t _ _ (ring o s i) (λ r. either-way Q (contains (r .bbox) p) _ _ (verdict-t edge _ (ring-of r)) (given _))
+
+    -- ---- zones
+    sought : (f : ℕ → Answer Bool) (found other : Bool) → ((i : ℕ) → Q (f i)) → (n i : ℕ) → Q (seek f found other n i)
+    unfolding seek
+    sought f found other h zero i = given _
+    sought f found other h (suc n) i = then-t _ _ (h i) (λ b. either-way Q b _ _ (given _) (sought f found other h n (i + 1)))
+
+    poly : (i : ℕ) → Q (polyOf o s p i)
+    unfolding polyOf
+    poly i =
+        then-t _ _ (list s (o .polys) _ i) (λ q.
+        either-way Q (contains (q .bbox) p) _ _
+        (then-t _ _ (ring-contains true (q .first)) (λ b. either-way Q b _ _ (sought (ringContains o s p false) false true (ring-contains false) (q .count - 1) (q .first + 1)) (given _)))
+        (given _))
+
+    zone-q : (i : ℕ) → Q (zoneOf o s p i)
+    unfolding zoneOf
+    zone-q i = then-t _ _ (list s (o .zones) _ i) (λ z. either-way Q (contains (z .bbox) p) _ _ (sought (polyOf o s p) true false poly (z .count) (z .first)) (given _))
+
+  pub contains-q : (zone : ℕ) (q : I32Point) → Q (containsAt o s zone q)
+  unfolding containsAt
+  contains-q zone q = need-t 45 (ltb zone (o .zones .count)) _ refl (either-way Q (inDomain q) _ _ (zone-q (pointOf q) zone) (given _))
+
+  -- ---- lookups
+  candidate-of : (grid : Bool) (place : ℕ) → Q (candidateOf o s grid place)
+  unfolding candidateOf
+  candidate-of grid place = either-way Q grid _ _ (candidate-q o s place) (given _)
+
+  hit : (p : Point) (grid : Bool) (place : ℕ) → Q (hitAt o s p grid place)
+  unfolding hitAt
+  hit p grid place = then-t _ _ (candidate-of grid place) (λ zone. then-t _ _ (zone-q p zone) (λ b. given _))
+
+  or-else : (z : Sought) (x : Answer Sought) → Q x → Q (orElse z x)
+  or-else nowhere x h = h
+  or-else (inZone zone) x h = given _
+
+  first-hit : (f : ℕ → Answer Sought) → ((i : ℕ) → Q (f i)) → (n i : ℕ) → Q (firstHit f n i)
+  unfolding firstHit
+  first-hit f h zero i = given _
+  first-hit f h (suc n) i = then-t _ _ (h i) (λ z. or-else z _ (first-hit f h n (i + 1)))
+
+  among : (lng lat : Float) (c : Chosen) → Q (lookupAmong o s lng lat c)
+  unfolding lookupAmong
+  among lng lat none = given _
+  among lng lat (all n) = first-hit _ (hit (scaled lng lat) false) n 0
+  among lng lat (listed n place) = either-way Q (unlooked o n lng lat) _ _ (then-t _ _ (candidate-q o s place) (λ zone. given _)) (first-hit _ (hit (scaled lng lat) true) n place)
+
+  pub lookup-q : (lng lat : Float) → Q (lookupOf o s lng lat)
+  unfolding lookupOf
+  lookup-q lng lat = then-t _ _ (candidates-q o s lng lat) (among lng lat)
+
+  all-hits : (f : ℕ → Answer Sought) → ((i : ℕ) → Q (f i)) → (n i : ℕ) → Q (allHits f n i)
+  unfolding allHits
+  all-hits f h zero i = given _
+  all-hits f h (suc n) i = then-t _ _ (h i) (λ z. then-t _ _ (all-hits f h n (i + 1)) (λ l. given _))
+
+  hits-among : (p : Point) (c : Chosen) → Q (hitsAmong o s p c)
+  unfolding hitsAmong
+  hits-among p none = given _
+  hits-among p (all n) = all-hits _ (hit p false) n 0
+  hits-among p (listed n place) = all-hits _ (hit p true) n place
+
+  hits : (lng lat : Float) → Q (hitsOf o s lng lat)
+  unfolding hitsOf
+  hits lng lat = then-t _ _ (candidates-q o s lng lat) (hits-among _)
+
+  names-read : (l : List ℕ) → TabledCheck 46 (namesRead o s l)
+  unfolding namesRead
+  names-read [] = fine-t
+  names-read (zone ∷ l) = and-t _ _ (outcome-t _ (name-q o s zone)) (names-read l)
+
+  list-for : (places : ℕ) (l : List ℕ) → Q (listFor o s places l)
+  unfolding listFor placed
+  list-for places l = before-t _ _ (names-read l) (need-t 46 (atMost (length l) places) _ refl (given _))
+
+  pub list-q : (lng lat : Float) (places : ℕ) → Q (listOf o s lng lat places)
+  unfolding listOf
+  list-q lng lat places = then-t _ _ (hits lng lat) (list-for places)

@@ -1,0 +1,6 @@
+-- The demands, said of the exports.
+pub mod Calls
+pub mod Words
+pub mod Demand1
+pub mod Demand3
+pub mod Answers
