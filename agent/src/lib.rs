@@ -46,8 +46,8 @@
 //!
 //! # Stack
 //!
-//! Opening and the full check want some 90 KB of stack, a question at most some 10 KB; `include/tzb.h` says it for each.
-//! Threads of Rust's have 2 MB where nothing else is said.
+//! Opening and the full check want 96 KB of stack, a question 8 KB; `include/tzb.h` says it for each export. Threads of
+//! Rust's have 2 MB where nothing else is said.
 
 #![cfg_attr(not(test), warn(clippy::unwrap_used, clippy::expect_used, clippy::panic))]
 
