@@ -1,7 +1,7 @@
 //! Reading a file whole, and never more of it than an index can have.
 
 use std::fs::File;
-use std::io::{self, ErrorKind, Read};
+use std::io::{self, ErrorKind, Read, Take};
 use std::path::Path;
 
 use crate::Refusal;
@@ -9,6 +9,8 @@ use crate::refusal::BAD_LENGTH;
 
 /// The longest file that an index can be, in bytes.
 const LONGEST: u64 = 4_294_967_295;
+/// What is read at first, at the least.
+const FIRST: u64 = 8192;
 
 /// Reads a file whole, to be opened; but one that is too long to be an index is not read.
 ///
@@ -34,16 +36,28 @@ pub fn read(path: impl AsRef<Path>) -> io::Result<Vec<u8>> {
     read_up_to(LONGEST, length, file)
 }
 
-/// The length is what the source says of itself: the first bytes may be more, or fewer.
+/// The length is what the source says of itself: what comes may be more, or less.
 fn read_up_to(limit: u64, length: u64, source: impl Read) -> io::Result<Vec<u8>> {
     let too_long = || io::Error::new(ErrorKind::FileTooLarge, Refusal::new(BAD_LENGTH));
     if length > limit {
         return Err(too_long());
     }
     let mut bytes = Vec::new();
-    bytes.try_reserve_exact(usize::try_from(length).unwrap_or(usize::MAX))?;
-    source.take(limit.saturating_add(1)).read_to_end(&mut bytes)?;
+    let mut source = source.take(limit.saturating_add(1));
+    // A byte more than it says: where that is right, the end is seen at once.
+    let mut piece = FIRST.max(length.saturating_add(1));
+    while read_piece(&mut source, piece, &mut bytes)? {
+        piece = bytes.len() as u64;
+    }
     if bytes.len() as u64 > limit { Err(too_long()) } else { Ok(bytes) }
+}
+
+/// Reads so many bytes, and tells whether there may be more. No more room is made than for these.
+fn read_piece(source: &mut Take<impl Read>, size: u64, bytes: &mut Vec<u8>) -> io::Result<bool> {
+    let size = size.min(source.limit());
+    bytes.try_reserve_exact(usize::try_from(size).unwrap_or(usize::MAX))?;
+    let read = source.by_ref().take(size).read_to_end(bytes)?;
+    Ok(size > 0 && read as u64 == size)
 }
 
 #[cfg(test)]
@@ -90,6 +104,21 @@ mod tests {
         assert_eq!(read_up_to(1000, 10, [7; 12].as_slice()).unwrap(), [7; 12]);
         assert_eq!(read_up_to(1000, 1000, [7; 12].as_slice()).unwrap(), [7; 12]);
         assert_eq!(refused(read_up_to(1000, 10, [7; 1001].as_slice())), 1);
+        let long: Vec<u8> = (0..100_000).map(|n| n as u8).collect();
+        for length in [0, 10, 8191, 8192, 50_000, 99_999, 100_000, 200_000] {
+            assert_eq!(read_up_to(LONGEST, length, long.as_slice()).unwrap(), long, "{length}");
+        }
+    }
+
+    /// Room is never made for more than the limit and a byte.
+    #[test]
+    fn room_stays_below_the_limit() {
+        for limit in [1000, 8191, 8192, 16_384, 100_000] {
+            let mut bytes = Vec::new();
+            let mut source = Endless(0).take(limit + 1);
+            while read_piece(&mut source, FIRST.max(bytes.len() as u64), &mut bytes).unwrap() {}
+            assert_eq!((bytes.len(), bytes.capacity()), (limit as usize + 1, limit as usize + 1));
+        }
     }
 
     /// A few bytes without a length cost a small buffer, whatever the limit is.
