@@ -1,8 +1,5 @@
 //! Finds the proved archive `libtzb_c.a`, or has it built, and names it to the linker.
 //!
-//! For another machine than x86-64 with Linux it says in a line that there is no archive, and does not fail: a crate that
-//! depends on this one can be checked and documented there. Only what is linked wants the archive.
-//!
 //! `TZB_LIB` is the folder that holds it; a relative one counts from the repository's root. Without it the archive is
 //! `target/staticlib/libtzb_c.a` there. Where that is missing, `rt staticlib tzb_c` proves the code and writes it.
 
@@ -28,7 +25,8 @@ fn main() {
     println!("cargo::rustc-link-lib=static=tzb_c");
 }
 
-/// For a machine that the archive is not written for: what to say to whoever links, in a line.
+/// For a machine that the archive is not written for: what to say of it, in a line. That is no failure: a crate that depends
+/// on this one can be checked and documented there, and only what is linked wants the archive.
 pub fn elsewhere(arch: &str, os: &str) -> Option<String> {
     let line = format!(
         "{ARCHIVE} is x86-64 code for Linux: for {arch} on {os} this crate can be checked and documented, but not linked. \
