@@ -14,17 +14,25 @@ fn main() {
     // set by './tzb', which tells by content whether a part of the command has changed
     println!("cargo::rerun-if-env-changed=TZB_MADE_OF");
     println!("cargo::rerun-if-changed=build.rs");
-    let target = [set("CARGO_CFG_TARGET_ARCH"), set("CARGO_CFG_TARGET_OS")];
-    if target != ["x86_64", "linux"] {
-        stop(&format!(
-            "{ARCHIVE} is x86-64 code for Linux, and this build is for {} on {}.\n\
-             Build for x86_64-unknown-linux-gnu; on another machine './tzb' in the repository's root does so, and runs it under an emulator.",
-            target[0], target[1]
-        ));
+    if let Some(why) = elsewhere(&set("CARGO_CFG_TARGET_ARCH"), &set("CARGO_CFG_TARGET_OS")) {
+        println!("cargo::warning={why}");
+        // Named without a folder: checking does not look for it, and whoever links is told that it is not there.
+        println!("cargo::rustc-link-lib=static=tzb_c");
+        return;
     }
     let folder = archive_folder();
     println!("cargo::rustc-link-search=native={}", folder.display());
     println!("cargo::rustc-link-lib=static=tzb_c");
+}
+
+/// For a machine that the archive is not written for: what to say of it, in a line. That is no failure: a crate that depends
+/// on this one can be checked and documented there, and only what is linked wants the archive.
+pub fn elsewhere(arch: &str, os: &str) -> Option<String> {
+    let line = format!(
+        "{ARCHIVE} is x86-64 code for Linux: for {arch} on {os} this crate can be checked and documented, but not linked. \
+         Build for x86_64-unknown-linux-gnu; './tzb' in the repository's root does so on Arm, and runs it under an emulator."
+    );
+    ([arch, os] != ["x86_64", "linux"]).then_some(line)
 }
 
 /// The folder that holds the archive, which is there when this returns.

@@ -20,6 +20,15 @@
  *
  * A record is numbers only, little-endian: it holds no pointer, and may be kept or copied. It is not trusted: one
  * that was made by hand, or from another file, is answered by what it says, or refused.
+ *
+ * Stack: a call wants so much of it, in KB of 1,024 bytes, from the caller's stack pointer on. Measured, bounded by the
+ * machine code, and rounded up; no theorem speaks of it (docs/PROMISES.md). Signal handlers on the same stack come on top.
+ *
+ *     96 KB  tzb_open tzb_lookup tzb_full_check tzb_full_check_rule
+ *     24 KB  tzb_crc32
+ *     8 KB  tzb_contains tzb_decode tzb_ask tzb_ask_all
+ *     4 KB  tzb_zone_count tzb_name_start tzb_name_end tzb_name tzb_choice tzb_listed tzb_candidate
+ *     4 KB  tzb_number tzb_number_length tzb_box_contains tzb_box_relevant tzb_utf8 tzb_ray tzb_parity tzb_next_up
  */
 #ifndef TZB_H
 #define TZB_H

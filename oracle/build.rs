@@ -35,6 +35,7 @@ fn main() {
         stop(&format!("{} is not there: run 'rt staticlib tzb_c' first", library.display()));
     }
     println!("cargo:rerun-if-changed={}", library.display());
+    println!("cargo:rustc-env=TZB_ARCHIVE={}", library.display());
     println!("cargo:rerun-if-changed=shims/tzb");
     println!("cargo:rustc-link-search=native={}", archive.display());
     println!("cargo:rustc-link-lib=static=tzb_c");

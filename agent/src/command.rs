@@ -17,7 +17,7 @@ use std::process::ExitCode;
 use failure::{Failure, Status};
 use found::{Found, Shown};
 use position::Position;
-use tzb::Index;
+use tzb::{Index, Refusal};
 use words::{Request, Task, Wanted};
 
 /// Runs the command, and gives its exit status.
@@ -55,17 +55,22 @@ fn perform(words: impl Iterator<Item = OsString>, out: &mut impl Write) -> Resul
 
 fn carry_out(request: &Request, out: &mut impl Write) -> Result<Status, Failure> {
     let path = &request.file;
-    let bytes = std::fs::read(path).map_err(|why| Failure::Unreadable(path.clone(), why))?;
     let refused = |refusal| Failure::Refused(path.clone(), refusal);
-    let open = || Index::open(&bytes).map_err(refused);
+    let bytes = tzb::read(path).map_err(|why| match why.downcast::<Refusal>() {
+        Ok(refusal) => refused(refusal),
+        Err(why) => Failure::Unreadable(path.clone(), why),
+    })?;
+    if request.task == Task::Check {
+        return check(path, &bytes, out).map_err(Failure::Output);
+    }
+    let index = Index::open(bytes).map_err(refused)?;
     match request.task {
-        Task::Check => return check(path, &bytes, out).map_err(Failure::Output),
-        Task::Zone | Task::Zones => return ask(request, &open()?, out),
         Task::Names => {
-            let all = Found::all(&open()?).map_err(refused)?;
+            let all = Found::all(&index).map_err(refused)?;
             all.write_lines(out, request.numbered)
         }
-        Task::Info => info::write(&open()?, out),
+        Task::Info => info::write(&index, out),
+        _ => return ask(request, &index, out),
     }
     .map_err(Failure::Output)?;
     Ok(Status::Answered)
@@ -74,15 +79,34 @@ fn carry_out(request: &Request, out: &mut impl Write) -> Result<Status, Failure>
 /// The zones of the position that was given, or of all those on standard input.
 fn ask(request: &Request, index: &Index, out: &mut impl Write) -> Result<Status, Failure> {
     let found = |position| Found::at(index, request.task, position);
-    match request.position {
+    let judged = judge(request, index)?;
+    let asked = match request.position {
         Some(position) => {
             let refused = |refusal| Failure::Refused(request.file.clone(), refusal);
             let zones = found(position).map_err(refused)?;
-            tell(&zones, position, request.numbered, out).map_err(Failure::Output)
+            tell(&zones, position, request.numbered, out).map_err(Failure::Output)?
         }
         None => {
             let input = BufReader::new(io::stdin().lock());
-            lines::answer(input, out, request.numbered, found)
+            lines::answer(input, out, request.numbered, found)?
+        }
+    };
+    Ok(asked.max(judged))
+}
+
+/// Makes the full check where it is asked for, and once before positions come from standard input. What it does not
+/// accept is refused where it is asked for, and else told in a line.
+fn judge(request: &Request, index: &Index) -> Result<Status, Failure> {
+    if !request.checked && request.position.is_some() {
+        return Ok(Status::Answered);
+    }
+    match tzb::full_check(index.file()) {
+        Ok(()) => Ok(Status::Answered),
+        Err(refusal) if request.checked => Err(Failure::Refused(request.file.clone(), refusal)),
+        Err(refusal) => {
+            let name = request.file.to_string_lossy();
+            say(&format_args!("{}: not accepted: {refusal}", Shown(&name)));
+            Ok(Status::No)
         }
     }
 }

@@ -7,7 +7,9 @@ use crate::{Refusal, sys};
 
 /// An index file that was opened: opened once, asked often.
 ///
-/// It borrows the file's bytes and keeps 84 bytes of its own. No question changes it, so threads may share it.
+/// It holds the file's bytes as they are handed to it: its own (`Index<Vec<u8>>`, which `Index` alone stands for),
+/// borrowed (`Index<&[u8]>`), shared (`Index<Arc<[u8]>>`) or mapped into memory; and a record of 84 bytes beside them. No
+/// question changes it, so threads may share it.
 ///
 /// Positions are longitude first, then latitude, in degrees, as in tzf-rs. Any float may be asked: a position that is
 /// not finite, or outside ±180 and ±90, lies in no zone.
@@ -20,26 +22,85 @@ use crate::{Refusal, sys};
 /// # Ok(())
 /// # }
 /// ```
+///
+/// One that owns its bytes can be a field, and be replaced while the program runs. Where the new file is refused, the old
+/// index stays:
+///
+/// ```
+/// use std::error::Error;
+///
+/// struct Places {
+///     index: tzb::Index,
+/// }
+///
+/// impl Places {
+///     fn load(path: &str) -> Result<Self, Box<dyn Error>> {
+///         Ok(Self { index: tzb::Index::open_checked(tzb::read(path)?)? })
+///     }
+///
+///     fn reload(&mut self, path: &str) -> Result<(), Box<dyn Error>> {
+///         self.index = tzb::Index::open_checked(tzb::read(path)?)?;
+///         Ok(())
+///     }
+/// }
+///
+/// # fn main() -> Result<(), Box<dyn Error>> {
+/// let mut places = Places::load("../sample/real-ne.tzb")?;
+/// assert!(places.reload("Cargo.toml").is_err());
+/// assert_eq!(places.index.name_at(8.68, 50.11)?, Some("Germany"));
+/// # Ok(())
+/// # }
+/// ```
+///
+/// # Bytes that change
+///
+/// The record is made of the bytes that [`as_ref`](AsRef::as_ref) gives at opening, and every question asks for the bytes
+/// again. What the standard library has gives the same each time. A type of one's own may give others: then a question is
+/// answered for the record and the bytes of that moment. It gets a zone, none or a refusal as ever, since the reader is
+/// proved for any record and any bytes; what opening or the full check said of the first bytes no longer counts.
 #[derive(Clone)]
-pub struct Index<'a> {
-    file: &'a [u8],
+pub struct Index<B = Vec<u8>> {
+    file: B,
     record: sys::Record,
 }
 
 /// The most points that a chunk can have: its record counts them in 16 bits.
 const POINTS_OF_A_CHUNK: usize = 65_535;
 
-impl<'a> Index<'a> {
+impl<B: AsRef<[u8]>> Index<B> {
     /// Opens a file: looks at its header, sections, names, grid, chunks and groups, and at its checksum.
     ///
-    /// Opening does not look at every record and point. [`full_check`](crate::full_check) does, and on a file that it
-    /// accepts no question is refused but for a number that is too large.
+    /// Opening does not look at every record, point and box. [`open_checked`](Self::open_checked) does. Of a file that was
+    /// only opened every question gets a zone, none or a refusal; but where its boxes do not cover what lies in them, it
+    /// can be the wrong zone, or none.
     ///
     /// # Errors
     /// Refusals 1 to 34, the first that applies.
-    pub fn open(file: &'a [u8]) -> Result<Self, Refusal> {
-        let mut record = [0; sys::RECORD];
-        Refusal::of_code(sys::open(file, &mut record).into())?;
+    pub fn open(file: B) -> Result<Self, Refusal> {
+        let record = opened(file.as_ref())?;
+        Ok(Self { file, record })
+    }
+
+    /// Opens a file that the [full check](crate::full_check) accepts, and no other.
+    ///
+    /// Then no question is refused but for a number that is too large, and containment at points of whole
+    /// hundred-thousandths of a degree is that of exact geometry. Both are proved.
+    ///
+    /// ```
+    /// # fn main() -> Result<(), Box<dyn std::error::Error>> {
+    /// let index = tzb::Index::open_checked(tzb::read("../sample/real-ne.tzb")?)?;
+    /// assert_eq!(index.name_at(8.68, 50.11)?, Some("Germany"));
+    /// # Ok(())
+    /// # }
+    /// ```
+    ///
+    /// # Errors
+    /// Refusals 1 to 34, as [`open`](Self::open) has them; or 47, with the lowest broken [`rule`](Refusal::rule).
+    pub fn open_checked(file: B) -> Result<Self, Refusal> {
+        // One slice for both, whatever `as_ref` gives the next time.
+        let bytes = file.as_ref();
+        crate::full_check(bytes)?;
+        let record = opened(bytes)?;
         Ok(Self { file, record })
     }
 
@@ -48,7 +109,7 @@ impl<'a> Index<'a> {
     /// # Errors
     /// A refusal where the file's records or points are broken: never on a file that the full check accepts.
     pub fn zone(&self, lng: f64, lat: f64) -> Result<Option<u32>, Refusal> {
-        match sys::ask(&self.record, self.file, lng, lat) {
+        match sys::ask(&self.record, self.file(), lng, lat) {
             -1 => Ok(None),
             code => Refusal::of_code(code).map(|zone| Some(zone as u32)),
         }
@@ -75,7 +136,7 @@ impl<'a> Index<'a> {
     pub fn zones(&self, lng: f64, lat: f64) -> Result<Vec<u32>, Refusal> {
         // A cell of a GRID has at most 15 candidates; without one, all zones can be asked for.
         into_room(15, self.zone_count() as usize, |room| {
-            sys::ask_all(&self.record, self.file, lng, lat, room)
+            sys::ask_all(&self.record, self.file(), lng, lat, room)
         })
     }
 
@@ -83,7 +144,7 @@ impl<'a> Index<'a> {
     ///
     /// # Errors
     /// As for [`zone`](Self::zone).
-    pub fn name_at(&self, lng: f64, lat: f64) -> Result<Option<&'a str>, Refusal> {
+    pub fn name_at(&self, lng: f64, lat: f64) -> Result<Option<&str>, Refusal> {
         self.zone(lng, lat)?.map(|zone| self.name(zone)).transpose()
     }
 
@@ -91,7 +152,7 @@ impl<'a> Index<'a> {
     ///
     /// # Errors
     /// As for [`zone`](Self::zone).
-    pub fn names_at(&self, lng: f64, lat: f64) -> Result<Vec<&'a str>, Refusal> {
+    pub fn names_at(&self, lng: f64, lat: f64) -> Result<Vec<&str>, Refusal> {
         self.zones(lng, lat)?.into_iter().map(|zone| self.name(zone)).collect()
     }
 
@@ -106,11 +167,12 @@ impl<'a> Index<'a> {
     ///
     /// # Errors
     /// Refusal 45 for a zone number that is too large.
-    pub fn name(&self, zone: u32) -> Result<&'a str, Refusal> {
+    pub fn name(&self, zone: u32) -> Result<&str, Refusal> {
         let mut ends = [0; 2];
-        Refusal::of_code(sys::name(&self.record, self.file, zone, &mut ends).into())?;
+        let file = self.file();
+        Refusal::of_code(sys::name(&self.record, file, zone, &mut ends).into())?;
         // Opening has looked at both already. Looking again is cheap, and needs no `unsafe`.
-        let name = self.file.get(ends[0] as usize..ends[1] as usize);
+        let name = file.get(ends[0] as usize..ends[1] as usize);
         let name = name.ok_or(Refusal::new(PAST_THE_END))?;
         std::str::from_utf8(name).map_err(|_| Refusal::new(NAME_NOT_UTF8))
     }
@@ -126,7 +188,7 @@ impl<'a> Index<'a> {
     /// # Ok(())
     /// # }
     /// ```
-    pub fn names(&self) -> impl ExactSizeIterator<Item = Result<&'a str, Refusal>> {
+    pub fn names(&self) -> impl ExactSizeIterator<Item = Result<&str, Refusal>> {
         // Zone numbers have 16 bits, and a range of them knows its length.
         let count = u16::try_from(self.zone_count()).unwrap_or(u16::MAX);
         (0..count).map(|zone| self.name(zone.into()))
@@ -141,7 +203,7 @@ impl<'a> Index<'a> {
     /// # Errors
     /// Refusal 45 for a zone number that is too large; else as for [`zone`](Self::zone).
     pub fn contains(&self, zone: u32, x: i32, y: i32) -> Result<bool, Refusal> {
-        let code = sys::contains(&self.record, self.file, zone, x, y);
+        let code = sys::contains(&self.record, self.file(), zone, x, y);
         Refusal::of_code(code.into()).map(|inside| inside == 1)
     }
 
@@ -151,21 +213,34 @@ impl<'a> Index<'a> {
     /// Refusal 34 for a chunk number that is too large; else a refusal where the chunk's bytes are broken.
     pub fn decode(&self, chunk: u32) -> Result<Vec<[i32; 2]>, Refusal> {
         into_room(256, POINTS_OF_A_CHUNK, |room: &mut [[i32; 2]]| {
-            sys::decode(&self.record, self.file, chunk, room.as_flattened_mut())
+            sys::decode(&self.record, self.file(), chunk, room.as_flattened_mut())
         })
     }
 
-    /// The file's bytes, as they were lent.
+    /// The file's bytes.
     #[must_use]
-    pub fn file(&self) -> &'a [u8] {
+    pub fn file(&self) -> &[u8] {
+        self.file.as_ref()
+    }
+
+    /// The file's bytes, as they were handed in.
+    #[must_use]
+    pub fn into_file(self) -> B {
         self.file
     }
 }
 
-impl fmt::Debug for Index<'_> {
+/// The record of a file, 84 bytes.
+fn opened(file: &[u8]) -> Result<sys::Record, Refusal> {
+    let mut record = [0; sys::RECORD];
+    Refusal::of_code(sys::open(file, &mut record).into())?;
+    Ok(record)
+}
+
+impl<B: AsRef<[u8]>> fmt::Debug for Index<B> {
     fn fmt(&self, f: &mut fmt::Formatter<'_>) -> fmt::Result {
         f.debug_struct("Index")
-            .field("bytes", &self.file.len())
+            .field("bytes", &self.file().len())
             .field("zones", &self.zone_count())
             .finish()
     }

@@ -62,10 +62,10 @@ pub struct Grid {
     pub candidates: u32,
 }
 
-impl<'a> Index<'a> {
+impl<B: AsRef<[u8]>> Index<B> {
     /// The version that the file says its data has, as `2026c`; it may be empty.
     #[must_use]
-    pub fn data_version(&self) -> &'a str {
+    pub fn data_version(&self) -> &str {
         let field = self.file().get(24..40).unwrap_or_default();
         let text = field.split(|&byte| byte == 0).next().unwrap_or_default();
         std::str::from_utf8(text).unwrap_or_default()

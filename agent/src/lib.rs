@@ -1,13 +1,14 @@
 //! Which zone a position is in, from a time-zone index file (`.tzb`), by a reader that is proved.
 //!
-//! The reader itself is `libtzb_c.a`: x86-64 code, proved right on any bytes and any position. This crate lends it Rust's
-//! slices and hands back Rust's types. It has no dependency, keeps no global state, and never panics on what it reads.
+//! The reader itself is `libtzb_c.a`: x86-64 code. Of any bytes and any position it is proved to answer what the index
+//! format's rules say of these bytes: a zone, none, or one numbered refusal. Of a file that the full check accepts it is
+//! proved to refuse no question, and to be exact. This crate lends it Rust's slices and hands back Rust's types. It has no
+//! dependency, keeps no global state, and never panics on what it reads.
 //!
 //! ```
 //! # fn main() -> Result<(), Box<dyn std::error::Error>> {
-//! let file = std::fs::read("../sample/real-ne.tzb")?;
-//! tzb::full_check(&file)?; // once, for a file from outside
-//! let index = tzb::Index::open(&file)?;
+//! let file = tzb::read("../sample/real-ne.tzb")?;
+//! let index = tzb::Index::open_checked(file)?; // once, with the full check
 //! match index.zone(8.68, 50.11)? {
 //!     Some(zone) => println!("{}", index.name(zone)?),
 //!     None => println!("no zone"),
@@ -20,7 +21,7 @@
 //!
 //! | tzf-rs | here |
 //! |---|---|
-//! | `EmbeddedFinder::from_tzb(data)?` | [`Index::open(&data)?`](Index::open) |
+//! | `EmbeddedFinder::from_tzb(data)?` | [`Index::open(data)?`](Index::open), of bytes owned or borrowed |
 //! | `get_tz_name(lng, lat)`, `""` for none | [`name_at(lng, lat)?`](Index::name_at), `None` for none |
 //! | `get_tz_names(lng, lat)` | [`names_at(lng, lat)?`](Index::names_at) |
 //! | `get_tz_index(lng, lat)` | [`zone(lng, lat)?`](Index::zone) |
@@ -35,23 +36,34 @@
 //! ```no_run
 //! use std::sync::LazyLock;
 //!
-//! static FILE: LazyLock<Vec<u8>> = LazyLock::new(|| std::fs::read("zones.tzb").expect("zones.tzb"));
-//! static INDEX: LazyLock<tzb::Index> =
-//!     LazyLock::new(|| tzb::Index::open(&FILE).expect("zones.tzb opens"));
+//! static INDEX: LazyLock<tzb::Index> = LazyLock::new(|| {
+//!     let file = tzb::read("zones.tzb").expect("zones.tzb is read");
+//!     tzb::Index::open_checked(file).expect("zones.tzb is accepted")
+//! });
 //! ```
+//!
+//! One that is to be replaced while the program runs is a field like any other: see [`Index`].
+//!
+//! # Stack
+//!
+//! Opening and the full check want 96 KB of stack, a question 8 KB; `include/tzb.h` says it for each export. Threads of
+//! Rust's have 2 MB where nothing else is said.
 
 #![cfg_attr(not(test), warn(clippy::unwrap_used, clippy::expect_used, clippy::panic))]
 
 mod index;
 mod layout;
+mod read;
 mod refusal;
 mod sys;
 
 pub use index::Index;
 pub use layout::{Grid, Section};
+pub use read::read;
 pub use refusal::Refusal;
 
 /// Looks at everything in the file: all that opening looks at, every record, every chunk's points, every box.
+/// [`Index::open_checked`] makes it and opens.
 ///
 /// On a file that it accepts, no question is refused but for a number that is too large, and containment at points of
 /// whole hundred-thousandths of a degree is that of exact geometry. Both are proved.

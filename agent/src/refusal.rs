@@ -19,6 +19,7 @@ pub struct Refusal {
     rule: u32,
 }
 
+pub(crate) const BAD_LENGTH: u32 = 1;
 pub(crate) const NAME_NOT_UTF8: u32 = 25;
 pub(crate) const PAST_THE_END: u32 = 44;
 pub(crate) const NO_ROOM: u32 = 46;

@@ -3,12 +3,13 @@
 mod common;
 
 use std::env;
+use std::fs::File;
 use std::io::{BufRead, BufReader, Write};
 use std::process::{Child, Command, Stdio};
 use std::sync::mpsc;
 use std::time::Duration;
 
-use common::{CHUNKDIR, RINGDIR, Squares, words};
+use common::{CHUNKDIR, RINGDIR, Squares, TZDIR, words};
 
 const SAMPLE: &str = "../sample/real-ne.tzb";
 
@@ -36,10 +37,10 @@ fn ended(child: Child) -> Said {
     (output.status.code(), text(output.stdout), text(output.stderr))
 }
 
-fn run(arguments: &[&str], input: &str) -> Said {
+fn run(arguments: &[&str], input: impl AsRef<[u8]>) -> Said {
     let mut child = tzb(arguments).spawn().unwrap();
     // A command that does not read its input may have ended by now.
-    let _ = child.stdin.take().unwrap().write_all(input.as_bytes());
+    let _ = child.stdin.take().unwrap().write_all(input.as_ref());
     ended(child)
 }
 
@@ -109,9 +110,7 @@ fn several_zones_stand_on_one_line() {
 #[test]
 fn a_bad_line_is_told_by_its_number() {
     let input = b"8.68 50.11\neast north\n\nnan 1\n\xff\xfe\n139.7 35.7\n";
-    let mut child = tzb(&["zone", SAMPLE]).spawn().unwrap();
-    child.stdin.take().unwrap().write_all(input).unwrap();
-    let (status, out, err) = ended(child);
+    let (status, out, err) = run(&["zone", SAMPLE], input);
     assert_eq!((status, out.as_str()), (Some(2), "Germany\n\n\n\n\nJapan\n"));
     let lines: Vec<&str> = err.lines().map(|line| line.split(" is ").next().unwrap()).collect();
     let told = [
@@ -132,7 +131,8 @@ fn a_refusal_is_status_1() {
     assert!(err.contains("broken.tzb: refusal 36: A ring's point count"), "{err}");
     let (status, out, err) = run(&["zones", &broken.0], "0.5 0.5\n5 5\n");
     assert_eq!((status, out.as_str()), (Some(1), "\n\n"));
-    assert!(err.starts_with("tzb: line 1: refusal 36: ") && err.lines().count() == 1, "{err}");
+    let told: Vec<&str> = err.lines().collect();
+    assert!(told.len() == 2 && told[1].starts_with("tzb: line 1: refusal 36: "), "{err}");
     for task in ["zone", "zones", "names", "info"] {
         let (status, out, err) = run(&[task, "Cargo.toml"], "1 1\n");
         assert_eq!((status, out.as_str()), (Some(1), ""), "{task}");
@@ -152,6 +152,72 @@ fn the_full_check() {
     let (status, out, _) = run(&["check", "Cargo.toml"], "");
     assert_eq!(status, Some(1));
     assert!(out.starts_with("Cargo.toml: not accepted: refusal 2: "), "{out}");
+}
+
+/// A square whose zone has a box that is too small: a question by its right edge is answered wrongly.
+fn small_box(name: &str) -> Kept {
+    Kept::new(name, &Squares::new(&["A"]).with(TZDIR, 16, &words(&[10])))
+}
+
+#[test]
+fn with_check_a_file_that_is_not_accepted_is_refused() {
+    let right = ["zone", "--check", SAMPLE, "8.68", "50.11"];
+    assert_eq!(run(&right, ""), answered("Germany\n"));
+    assert_eq!(run(&["zones", "-c", SAMPLE], "8.68 50.11\n"), answered("Germany\n"));
+    let unsound = small_box("check.tzb");
+    let wrong = (Some(1), String::new(), "tzb: no zone at 0.5 0.5\n".to_string());
+    assert_eq!(run(&["zone", &unsound.0, "0.5", "0.5"], ""), wrong);
+    let asked: [&[&str]; 3] = [
+        &["zone", "--check", &unsound.0, "0.5", "0.5"],
+        &["zones", &unsound.0, "-c", "0.5", "0.5"],
+        &["zone", "-c", &unsound.0],
+    ];
+    for words in asked {
+        let (status, out, err) = run(words, "0.5 0.5\n");
+        assert_eq!((status, out.as_str()), (Some(1), ""), "{words:?}");
+        let line = format!("tzb: {}: refusal 47: ", unsound.0);
+        assert!(err.starts_with(&line) && err.contains("Rule 6 is broken"), "{err}");
+        assert_eq!(err.lines().count(), 1, "{err}");
+    }
+    let (status, out, err) = run(&["zone", "--check", "Cargo.toml", "1", "1"], "");
+    assert_eq!((status, out.as_str()), (Some(1), ""));
+    assert!(err.starts_with("tzb: Cargo.toml: refusal 2: "), "{err}");
+}
+
+/// Many positions: what the full check says is told once, the answers come, and the status is not 0.
+#[test]
+fn standard_input_tells_once_that_a_file_is_not_accepted() {
+    let unsound = small_box("told-once.tzb");
+    let (status, out, err) = run(&["zone", &unsound.0], "0.00005 0.5\n0.5 0.5\n0.00005 0.1\n");
+    assert_eq!((status, out.as_str()), (Some(1), "A\n\nA\n"));
+    let line = format!("tzb: {}: not accepted: refusal 47: ", unsound.0);
+    assert!(err.starts_with(&line) && err.contains("Rule 6 is broken"), "{err}");
+    assert_eq!(err.lines().count(), 1, "{err}");
+    let (status, out, _) = run(&["zone", &unsound.0], "0.00005 0.5\n");
+    assert_eq!((status, out.as_str()), (Some(1), "A\n"));
+}
+
+/// A length above the limit is refused at once: the file has no bytes to read, and the memory is not there.
+#[test]
+fn a_file_that_is_too_long_is_not_read() {
+    let long = Kept::new("long.tzb", b"");
+    File::options().write(true).open(&long.0).unwrap().set_len(1 << 40).unwrap();
+    let refusal = format!("{}: refusal 1: The file is shorter", long.0);
+    for words in [&["zone", &long.0, "1", "1"][..], &["check", &long.0], &["info", &long.0]] {
+        let (status, out, err) = run(words, "");
+        assert_eq!((status, out.as_str()), (Some(1), ""), "{words:?}");
+        assert!(err.starts_with(&format!("tzb: {refusal}")), "{err}");
+    }
+}
+
+/// What has no length is read to its end.
+#[test]
+fn an_index_from_a_pipe() {
+    let file = Squares::new(&["A"]).bytes;
+    assert_eq!(run(&["zone", "/dev/stdin", "0.5", "0.5"], &file), answered("A\n"));
+    assert_eq!(run(&["check", "/dev/stdin"], &file), answered("/dev/stdin: accepted\n"));
+    let (status, _, err) = run(&["zone", "/dev/stdin", "0.5", "0.5"], &file[..60]);
+    assert!(status == Some(1) && err.starts_with("tzb: /dev/stdin: refusal 1: "), "{err}");
 }
 
 #[test]

@@ -13,6 +13,7 @@ mod port;
 mod random;
 mod rules;
 mod scene;
+mod stack;
 mod voice;
 
 use std::path::Path;
@@ -29,6 +30,7 @@ oracle compare exact [SECONDS [SEED]]
 oracle compare exact FILE.tzb [SECONDS [SEED]]
 oracle compare wide [SECONDS [SEED]]
 oracle load [INPUTS [SEED]] [--from NUMBER]
+oracle stack [SEED]
 oracle short [SECONDS [SEED]]
 oracle lists FOLDER
 oracle bench [FILE.tzb [ROWS]]
@@ -66,6 +68,8 @@ fn main() {
         ["compare", seconds, seed] => compare::run(number(seconds), number(seed)),
         ["load", ref rest @ .., "--from", from] => load_from(rest, number(from)),
         ["load", ref rest @ ..] => load_from(rest, 0),
+        ["stack"] => stack::run(random::fresh_seed()),
+        ["stack", seed] => stack::run(number(seed)),
         ["short"] => short(4, random::fresh_seed()),
         ["short", seconds] => short(number(seconds), random::fresh_seed()),
         ["short", seconds, seed] => short(number(seconds), number(seed)),
@@ -89,13 +93,14 @@ fn timed(one: &str, rest: &[&str], small: fn(u64, u64), large: fn(&Path, u64, u6
     large(one.as_ref(), seconds, seed(rest.get(1)));
 }
 
-/// Each comparison for so many seconds, without the long fixed lists, and then some load.
+/// Each comparison for so many seconds, without the long fixed lists, then some load, and the stack.
 fn short(seconds: u64, seed: u64) {
     println!("seed {seed}, each comparison for {seconds} s");
     compare::short(seconds, seed);
     compare::wide::short(seconds, seed);
     compare::asking::short(seconds, seed);
     load::short(5000 * seconds, seed);
+    stack::short(seed);
 }
 
 /// [INPUTS [SEED]], from this number on.

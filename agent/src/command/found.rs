@@ -14,7 +14,7 @@ pub struct Found<'a>(Vec<(u32, &'a str)>);
 
 impl<'a> Found<'a> {
     /// At a position: for `zones` all, else the one that the reader answers, if any.
-    pub fn at(index: &Index<'a>, task: Task, position: Position) -> Result<Self, Refusal> {
+    pub fn at(index: &'a Index, task: Task, position: Position) -> Result<Self, Refusal> {
         let Position { lng, lat } = position;
         let zones = match task {
             Task::Zones => index.zones(lng, lat)?,
@@ -25,7 +25,7 @@ impl<'a> Found<'a> {
     }
 
     /// All that the index has, by number.
-    pub fn all(index: &Index<'a>) -> Result<Self, Refusal> {
+    pub fn all(index: &'a Index) -> Result<Self, Refusal> {
         let named = index.names().zip(0..).map(|(name, zone)| Ok((zone, name?)));
         named.collect::<Result<_, _>>().map(Self)
     }

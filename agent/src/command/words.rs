@@ -52,6 +52,8 @@ pub struct Request {
     pub file: PathBuf,
     /// Zone numbers are written before the names.
     pub numbered: bool,
+    /// A file that the full check does not accept is refused.
+    pub checked: bool,
     /// For a task that takes one. None: positions come from standard input.
     pub position: Option<Position>,
 }
@@ -74,6 +76,7 @@ pub fn read(mut words: impl Iterator<Item = OsString>) -> Result<Wanted, Failure
 
 fn of_task(task: Task, words: impl Iterator<Item = OsString>) -> Result<Wanted, Failure> {
     let mut numbered = false;
+    let mut checked = false;
     let mut options = true;
     let mut plain = Vec::new();
     for word in words {
@@ -81,13 +84,15 @@ fn of_task(task: Task, words: impl Iterator<Item = OsString>) -> Result<Wanted, 
             Some("--") => options = false,
             Some("-h" | "--help") => return Ok(Wanted::Help(Some(task))),
             Some("-n" | "--number") if task.takes_number() => numbered = true,
+            Some("-c" | "--check") if task.takes_a_position() => checked = true,
             Some(text) if is_option(text) => {
                 return Err(Failure::Usage(Some(task), format!("there is no option {word:?}")));
             }
             _ => plain.push(word),
         }
     }
-    request(task, numbered, plain).map(Wanted::Do).map_err(|why| Failure::Usage(Some(task), why))
+    let request = request(task, plain).map_err(|why| Failure::Usage(Some(task), why))?;
+    Ok(Wanted::Do(Request { numbered, checked, ..request }))
 }
 
 /// A minus before a digit or a dot starts a number, and one alone stands for standard input.
@@ -97,7 +102,7 @@ fn is_option(text: &str) -> bool {
 }
 
 /// The file, and what stands behind it.
-fn request(task: Task, numbered: bool, plain: Vec<OsString>) -> Result<Request, String> {
+fn request(task: Task, plain: Vec<OsString>) -> Result<Request, String> {
     let mut plain = plain.into_iter();
     let file = plain.next().ok_or("which index file?")?.into();
     let rest: Vec<OsString> = plain.collect();
@@ -110,7 +115,7 @@ fn request(task: Task, numbered: bool, plain: Vec<OsString>) -> Result<Request, 
             Some(Position::read(&text.to_string_lossy()).map_err(|why| why.to_string())?)
         }
     };
-    Ok(Request { task, file, numbered, position })
+    Ok(Request { task, file, numbered: false, checked: false, position })
 }
 
 #[cfg(test)]
@@ -147,6 +152,9 @@ mod tests {
     fn options_stand_anywhere_and_end_at_two_dashes() {
         assert!(asked("names --number a.tzb").numbered);
         assert!(asked("zones a.tzb 1 2 -n").numbered);
+        let both = asked("zone --check a.tzb -n 1 2");
+        assert!(both.checked && both.numbered);
+        assert!(asked("zones a.tzb -c").checked && !asked("zones a.tzb").checked);
         assert_eq!(asked("info -- --help").file, PathBuf::from("--help"));
         assert_eq!(read_line("zone a.tzb --help").unwrap(), Wanted::Help(Some(Task::Zone)));
         assert_eq!(read_line("-h").unwrap(), Wanted::Help(None));
@@ -170,6 +178,8 @@ mod tests {
             "check a.tzb b.tzb",
             "check -n a.tzb",
             "info -n a.tzb",
+            "names --check a.tzb",
+            "check --check a.tzb",
             "names a.tzb 1 2",
         ];
         for line in lines {

@@ -1,0 +1,109 @@
+//! An index holds its bytes in any form: its own, lent, shared; as a field that is replaced; and bytes that change.
+
+mod common;
+
+use std::cell::Cell;
+use std::sync::Arc;
+
+use common::{Squares, TZDIR, sample, words};
+use tzb::{Index, Refusal, full_check};
+
+/// What a service keeps: the index of the day, and how often it was replaced.
+struct Places {
+    index: Index,
+    loads: u32,
+}
+
+impl Places {
+    /// Puts a new file in the place of the old one, unless it is refused.
+    fn reload(&mut self, file: Vec<u8>) -> Result<(), Refusal> {
+        self.index = Index::open_checked(file)?;
+        self.loads += 1;
+        Ok(())
+    }
+
+    fn name(&self, lng: f64, lat: f64) -> Option<&str> {
+        self.index.name_at(lng, lat).unwrap()
+    }
+}
+
+#[test]
+fn a_field_that_is_replaced() {
+    let squares = Squares::new(&["A"]);
+    let mut places = Places { index: Index::open(squares.bytes.clone()).unwrap(), loads: 0 };
+    assert_eq!((places.name(0.5, 0.5), places.name(8.68, 50.11)), (Some("A"), None));
+    assert_eq!(places.reload(sample()), Ok(()));
+    assert_eq!(places.name(8.68, 50.11), Some("Germany"));
+    let unsound = squares.with(TZDIR, 16, &words(&[10]));
+    assert_eq!(places.reload(unsound).unwrap_err().rule(), Some(6));
+    assert_eq!(places.reload(vec![0; 10]).unwrap_err().number(), 1);
+    assert_eq!((places.name(8.68, 50.11), places.loads), (Some("Germany"), 1));
+}
+
+#[test]
+fn every_form_of_bytes() {
+    fn name<B: AsRef<[u8]>>(file: B) -> Option<String> {
+        let index = Index::open_checked(file).unwrap();
+        index.name_at(0.5, 0.5).unwrap().map(str::to_string)
+    }
+    let bytes = Squares::new(&["A"]).bytes;
+    let a = Some("A".to_string());
+    assert_eq!(name(bytes.as_slice()), a);
+    assert_eq!(name(&bytes), a);
+    assert_eq!(name(Arc::<[u8]>::from(bytes.as_slice())), a);
+    assert_eq!(name(bytes.clone().into_boxed_slice()), a);
+    assert_eq!(name(std::borrow::Cow::from(&bytes)), a);
+    assert_eq!(Index::open(bytes.clone()).unwrap().into_file(), bytes);
+}
+
+#[test]
+fn open_checked_refuses_what_the_full_check_does_not_accept() {
+    let squares = Squares::new(&["A"]);
+    for (at, new) in [(16, 10), (4, 0), (0, 7)] {
+        let file = squares.with(TZDIR, at, &words(&[new]));
+        let refusal = full_check(&file).unwrap_err();
+        assert_eq!(Index::open_checked(&file).unwrap_err(), refusal);
+        assert_eq!(Index::open(&file).is_ok(), refusal.number() == 47);
+    }
+    assert_eq!(Index::open_checked(&squares.bytes).unwrap().zone_count(), 1);
+}
+
+/// Gives other bytes from a turn on.
+struct Changing {
+    turn: Cell<u32>,
+    from: u32,
+    before: Vec<u8>,
+    after: Vec<u8>,
+}
+
+impl AsRef<[u8]> for Changing {
+    fn as_ref(&self) -> &[u8] {
+        self.turn.set(self.turn.get() + 1);
+        if self.turn.get() > self.from { &self.after } else { &self.before }
+    }
+}
+
+/// A record is asked with bytes that it was not made of: every question is answered or refused, and nothing panics.
+#[test]
+fn bytes_that_change_are_answered_for_what_they_are() {
+    let before = Squares::new(&["A", "B"]).bytes;
+    let afters = [vec![], before[..before.len() / 2].to_vec(), vec![0xff; before.len()], sample()];
+    for (after, from) in afters.iter().flat_map(|after| [1, 2, 3].map(|from| (after, from))) {
+        let (before, after, turn) = (before.clone(), after.clone(), Cell::new(0));
+        let index = Index::open_checked(Changing { turn, from, before, after }).unwrap();
+        assert_eq!(index.zone_count(), 2);
+        for zone in 0..3 {
+            let told = [
+                index.name(zone).map(|_| ()),
+                index.zone(0.5, 0.5).map(|_| ()),
+                index.zones(0.5, 0.5).map(|_| ()),
+                index.contains(zone, 50_000, 50_000).map(|_| ()),
+                index.decode(zone).map(|_| ()),
+            ];
+            let numbers = told.iter().filter_map(|one| one.err()).map(|refusal| refusal.number());
+            assert!(numbers.into_iter().all(|number| (1..=47).contains(&number)), "{told:?}");
+        }
+        assert!(index.data_version().len() <= 16 && index.sections().count() < 100);
+        assert!(index.grid().is_none() || index.file().len() > 1_000_000);
+    }
+}

@@ -1,0 +1,214 @@
+//! Inputs that take each way through the exports that takes stack, and each as a call.
+
+use super::own::Call;
+use crate::file::damage::Aim;
+use crate::file::{self, Chunks, Draft, Op, Part, Shape, tables};
+use crate::port::exports::{Export, Exports, PORT};
+use crate::port::opening::SIZE;
+use crate::random::Random;
+
+const SAMPLE: &str = concat!(env!("CARGO_MANIFEST_DIR"), "/../sample/real-ne.tzb");
+
+/// Memory that is lent for writing.
+pub struct Lent {
+    record: Vec<u8>,
+    ends: Vec<u64>,
+    points: Vec<i32>,
+    zones: Vec<u32>,
+}
+
+impl Lent {
+    pub fn new() -> Self {
+        let record = vec![0; SIZE];
+        Self { record, ends: vec![0; 2], points: vec![0; 2 * 65_535], zones: vec![0; 65_535] }
+    }
+}
+
+/// Hands every call of every input on, with the place of its export.
+pub fn all(
+    random: &mut Random,
+    turns: usize,
+    lent: &mut Lent,
+    each: &mut impl FnMut(usize, &Call),
+) {
+    let fixed = fixed(random);
+    for file in &fixed {
+        of_file(random, file, 4, lent, each);
+    }
+    let sample = std::fs::read(SAMPLE).expect("the sample is read");
+    of_file(random, &sample, turns, lent, each);
+    for _ in 0..turns {
+        let valid = match random.below(3) {
+            0 => file::some(random).lay(),
+            1 => file::on_lattice(random).lay(),
+            _ => tables::valid(random),
+        };
+        of_file(random, &valid, 4, lent, each);
+        let aim = Aim::at(&valid);
+        for count in 1..4 {
+            let damaged = aim.damage(random, &valid, count);
+            of_file(random, &damaged, 2, lent, each);
+        }
+        let wrong = random.below(4);
+        let table = tables::table(random, false, wrong);
+        of_file(random, &table, 1, lent, each);
+    }
+    for _ in 0..100 * (1 + turns) {
+        parts(random, each);
+    }
+}
+
+/// Each way that takes stack of its own.
+fn fixed(random: &mut Random) -> Vec<Vec<u8>> {
+    let mut files = vec![Vec::new(), vec![0; 68]];
+    files.extend(file::bases());
+    files.extend(file::cases().into_iter().map(|(_, file)| file));
+    files.extend(file::broken::files().into_iter().map(|(_, file)| file));
+    files.extend(file::chunks().into_iter().map(|(_, file)| file));
+    files.extend(file::departing().into_iter().map(|(_, file)| file));
+    // Many zones at a point, more than the 16 that are kept, and more than the 256 of a block.
+    files.extend([17, 300, 1000].map(many_zones));
+    // Chunks of more points than the 256 that are kept, behind each other.
+    files.extend(
+        [(256, 1), (257, 1), (3000, 2), (300, 9)].map(|(points, count)| long_chunks(points, count)),
+    );
+    // Long tables in files of more than 16 KB: the map, and sixteen tables of the sum.
+    for wrong in [0, 0, 1, 3] {
+        files.push(tables::table(random, true, wrong));
+        files.push(padded(random, 20_000));
+    }
+    files
+}
+
+/// A square that each of so many zones has.
+fn many_zones(count: usize) -> Vec<u8> {
+    let corners = [(-1000, -1000), (1000, -1000), (1000, 1000), (-1000, 1000), (-1000, -1000)];
+    let mut parts = one_ring(Chunks(vec![corners.to_vec()]));
+    let zones = parts.iter_mut().find(|part| part.typ == file::TZDIR).unwrap();
+    zones.bytes = zones.bytes.repeat(count);
+    let names: Vec<Vec<u8>> = (0..count).rev().map(|n| format!("Zone/{n:04}").into()).collect();
+    parts.push(Part { typ: file::NAMES, bytes: file::names(&[], &names), gap: 0 });
+    Draft::new(count as u32, parts).lay()
+}
+
+fn one_ring(chunks: Chunks) -> Vec<Part> {
+    let mut shape = Shape::default();
+    let group = shape.add_group(chunks);
+    shape.zones.push(vec![vec![vec![Op { group, turned: false }]]]);
+    shape.parts()
+}
+
+/// A line that turns between two corners round the middle, in so many chunks of so many points.
+fn long_chunks(points: usize, count: usize) -> Vec<u8> {
+    let point = |i: usize| if i.is_multiple_of(2) { (-1000, -1000) } else { (1000, 1000) };
+    let chunk = |c: usize| (c * points..(c + 1) * points).map(point).collect();
+    let mut parts = one_ring(Chunks((0..count).map(chunk).collect()));
+    parts.push(Part { typ: file::NAMES, bytes: file::names(&[], &[b"Z".to_vec()]), gap: 0 });
+    Draft::new(1, parts).lay()
+}
+
+/// A valid file with a long table, and so many bytes more before its sum.
+fn padded(random: &mut Random, bytes: usize) -> Vec<u8> {
+    let mut file = tables::valid(random);
+    file.resize(file.len() + bytes, 0);
+    file::seal(&mut file);
+    file
+}
+
+fn of_file(
+    random: &mut Random,
+    file: &[u8],
+    turns: usize,
+    lent: &mut Lent,
+    each: &mut impl FnMut(usize, &Call),
+) {
+    let Exports { open, lookup, full_check, full_check_rule, crc32, utf8, .. } = PORT;
+    let (f, length) = (file.as_ptr() as u64, file.len() as u64);
+    let mut call = |export: Export, at: *const (), words: &[u64], floats| {
+        let mut all = [0; 8];
+        all[..words.len()].copy_from_slice(words);
+        each(export as usize, &Call { export: at, words: all, floats });
+    };
+    let none = [0.0; 2];
+    lent.record.fill(0);
+    let record = lent.record.as_mut_ptr() as u64;
+    call(Export::FullCheck, full_check as *const (), &[f, length], none);
+    call(Export::FullCheckRule, full_check_rule as *const (), &[f, length], none);
+    call(Export::Crc32, crc32 as *const (), &[f, length], none);
+    call(Export::Utf8, utf8 as *const (), &[f, length], none);
+    call(Export::Open, open as *const (), &[f, length, record, 0], none);
+    call(Export::Open, open as *const (), &[f, length, record, SIZE as u64], none);
+    for turn in 0..turns {
+        let at = position(random, turn);
+        if turn < 4 {
+            call(Export::Lookup, lookup as *const (), &[f, length], at);
+        }
+        questions(random, [record, SIZE as u64, f, length], at, lent, &mut call);
+    }
+}
+
+/// The middle, where most small files have their zones, then near it, on the earth, and anywhere.
+fn position(random: &mut Random, turn: usize) -> [f64; 2] {
+    match turn % 4 {
+        0 => [0.0, 0.0],
+        1 => [random.part() * 1e-3, random.part() * 1e-3],
+        2 => [random.part() * 360.0 - 180.0, random.part() * 180.0 - 90.0],
+        _ => [f64::from_bits(random.bits()), random.part() * 90.0],
+    }
+}
+
+/// Every question over a record.
+fn questions(
+    random: &mut Random,
+    lent_in: [u64; 4],
+    at: [f64; 2],
+    lent: &mut Lent,
+    call: &mut impl FnMut(Export, *const (), &[u64], [f64; 2]),
+) {
+    let Exports { zone_count, name_start, name_end, name, choice, listed, .. } = PORT;
+    let Exports { candidate, contains, decode, ask, ask_all, .. } = PORT;
+    let with = |more: &[u64]| [&lent_in[..], more].concat();
+    let none = [0.0; 2];
+    let number = random.pick(&[0, 0, 1, 2, 100, u32::MAX]).into();
+    let many = random.pick(&[0, 1, 16, 65_535]);
+    call(Export::ZoneCount, zone_count as *const (), &lent_in[..2], none);
+    call(Export::NameStart, name_start as *const (), &with(&[number]), none);
+    call(Export::NameEnd, name_end as *const (), &with(&[number]), none);
+    let ends = lent.ends.as_mut_ptr() as u64;
+    call(Export::Name, name as *const (), &with(&[number, ends, 2]), none);
+    call(Export::Choice, choice as *const (), &with(&[]), at);
+    call(Export::Listed, listed as *const (), &with(&[]), at);
+    call(Export::Candidate, candidate as *const (), &with(&[number]), none);
+    let [x, y] = at.map(|degrees| (degrees * 1e5) as i32 as u64);
+    call(Export::Contains, contains as *const (), &with(&[number, x, y]), none);
+    let points = lent.points.as_mut_ptr() as u64;
+    call(Export::Decode, decode as *const (), &with(&[number, points, 2 * many]), none);
+    call(Export::Decode, decode as *const (), &with(&[0, points, 2 * 65_535]), none);
+    call(Export::Ask, ask as *const (), &with(&[]), at);
+    let zones = lent.zones.as_mut_ptr() as u64;
+    call(Export::AskAll, ask_all as *const (), &with(&[zones, many]), at);
+    call(Export::AskAll, ask_all as *const (), &with(&[zones, 65_535]), at);
+}
+
+/// The parts that take no file: any numbers and floats, and any bytes.
+fn parts(random: &mut Random, each: &mut impl FnMut(usize, &Call)) {
+    let Exports { number, number_length, box_contains, box_relevant, ray, parity, next_up, .. } =
+        PORT;
+    let length = random.below(8);
+    let bytes = random.bytes(length);
+    let mut call = |export: Export, at: *const (), words: [u64; 8], floats| {
+        each(export as usize, &Call { export: at, words, floats });
+    };
+    let words = [bytes.as_ptr() as u64, length as u64, random.below(9) as u64, 0, 0, 0, 0, 0];
+    call(Export::Number, number as *const (), words, [0.0; 2]);
+    call(Export::NumberLength, number_length as *const (), words, [0.0; 2]);
+    let near = random.below(2) == 0;
+    let mut corner = || if near { random.from_to(-2, 2) } else { random.bits() as i32 };
+    let words = [(); 8].map(|()| corner() as u32 as u64);
+    let floats = if near { [0.0, 1.0] } else { [(); 2].map(|()| f64::from_bits(random.bits())) };
+    call(Export::BoxContains, box_contains as *const (), words, floats);
+    call(Export::BoxRelevant, box_relevant as *const (), words, floats);
+    call(Export::Ray, ray as *const (), words, floats);
+    call(Export::Parity, parity as *const (), words, floats);
+    call(Export::NextUp, next_up as *const (), words, floats);
+}
