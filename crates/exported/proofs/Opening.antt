@@ -4,9 +4,7 @@ use Prim.Native.Nat.{ℕ, _+_, _*_, _-_, _%_}
 use mathlib.Core.Path.{refl}
 use mathlib.Core.Bool.{cond, not, _||_}
 use mathlib.Core.List.{List, [], _∷_}
-use Rattle.answer.specs.declared.Checked.{Checked}
-use Rattle.answer.specs.declared.Checked.the-variants.{Fine}
-use Rattle.answer.specs.Answers.{Answer, ok}
+use Rattle.answer.specs.Answers.{Answer, ok, Check, fine}
 use Rattle.answer.specs.Checks.{same}
 use Rattle.reader_head.specs.Head.{startCheck, fieldsCheck, versionCheck, boundsCheck, headCheck}
 use Rattle.reader_table.specs.Table.{apartAt, placedCheck, typedCheck, entryCheck, entriesCheck, sections}
@@ -23,11 +21,11 @@ use Rattle.reader_records.specs.declared.ChunkRecord.{ChunkRecord}
 use Rattle.reader_records.specs.declared.GroupRecord.{GroupRecord}
 use Rattle.reader_dirs.specs.Dirs.{chunkCheck, chunkCheckAt, chunksCheck, groupCheck, groupCheckAt, groupsCheck}
 use Rattle.tzb.specs.Opening.{tableCheck, sizesCheck, namesIn, gridIn, contentsCheck, gridIs, openedIs, openOf}
-use Rattle.exported.proofs.Tabled.{Tabled, TabledCheck, given, fine-t, claim-t, deny-t, next-t, end-t, each-t, before-t, either-way}
+use Rattle.exported.proofs.Tabled.{Tabled, given, fine-t, claim-t, deny-t, next-t, end-t, each-t, before-t, either-way}
 
 -- 1 to 34
-abbrev C : Checked → Type 0
-C c = TabledCheck 34 c
+abbrev C : Check → Type 0
+C c = Tabled 34 c
 
 module _ (s : List ℕ) where
   -- ---- 1 to 11
@@ -168,7 +166,7 @@ module _ (s : List ℕ) (o : Opened) where
   contents p g =
       next-t _ _ (sizes p)
       (next-t _ _ (names s (p .names .off) (p .zones) (p .names .len))
-      (next-t _ _ (either-way C (same (p .flags % 2) 0) Fine (gridCheck s (p .gridpart) g (p .zones)) fine-t (grid s (p .gridpart) g (p .zones)))
+      (next-t _ _ (either-way C (same (p .flags % 2) 0) fine (gridCheck s (p .gridpart) g (p .zones)) fine-t (grid s (p .gridpart) g (p .zones)))
       (next-t _ _ chunks (next-t _ _ groups end-t))))
 
 pub open-tabled : (s : List ℕ) → Tabled 34 (openOf s)

@@ -17,13 +17,15 @@ use Rattle.fields.specs.Loads as F
 use Rattle.fields.specs.Loads.{loadAt}
 use Rattle.answer.specs.Checks as C
 use Rattle.answer.specs.Checks.{atMost, same}
-use Rattle.answer.specs.Answers.{Answer, ok}
+use Rattle.answer.specs.declared.Refusal.{Refusal}
+use Rattle.answer.specs.Answers.{Answer, ok, refused}
 use Rattle.answer.specs.Walks.{Walk}
 use Rattle.tzb_core.specs.Delta.{fits32, addDelta}
 use Rattle.tzb_core.specs.Varint.{digits, numberAt, atEnd}
 use Rattle.tzb_core.specs.Points.{numbersAt, movedBy, inside, firstOf, nextAt}
-use Rattle.tzb_core.specs.Scan.{stepAt, onward, scanOf}
-use Rattle.tzb_core.specs.Decode.{pointsFrom, pointsOf}
+use Rattle.tzb_core.specs.Along.{Walker, follow, along, walkOf}
+use Rattle.tzb_core.specs.Scan.{scanner, scanOf}
+use Rattle.tzb_core.specs.Decode.{decoder, pointsOf}
 use Rattle.tzb_core.specs.Ray.{pointOf, rayOf}
 use Rattle.reader_opened.specs.declared.Directory.{Directory}
 use Rattle.reader_opened.specs.declared.Grid.{Grid}
@@ -44,7 +46,7 @@ use Rattle.reader_rings.specs.Rings.{turnedAt, jointOf, groupWalk, turnWalk, op
 use Rattle.reader_rings.specs.Zones.{seek, polyOf, zoneOf, containsAt}
 use Rattle.reader_lookup.specs.Asking.{Sought, nowhere, inZone, scaled, unlooked, candidateOf, hitAt, orElse, firstHit, lookupAmong, lookupOf, allHits, hitsAmong, hitsOf, namesRead, placed, listFor, listOf}
 use Rattle.tzb_record.specs.Layout.{recordOf}
-use Rattle.exported.proofs.Tabled.{Tabled, TabledWalk, TabledCheck, given, need-t, then-t, either-way, walked, must-t, past-t, verdict-t, go-t, yields-t, fine-t, and-t, outcome-t, before-t}
+use Rattle.exported.proofs.Tabled.{Numbered, Tabled, TabledWalk, given, need-t, then-t, either-way, walked, must-t, past-t, verdict-t, go-t, yields-t, fine-t, and-t, outcome-t, before-t}
 
 -- 1 to 46
 abbrev Q : {A : Type 0} → Answer A → Type 0
@@ -169,28 +171,36 @@ module _ (s : List ℕ) where
   unfolding nextAt
   next-point q p = then-t _ _ (numbers p) (λ d. then-t _ _ (moved q (d .0)) (λ t. within t (d .1)))
 
-  points-from : (n : ℕ) (q : I32Point) (k : ℕ) → Q (pointsFrom s n q k)
-  unfolding pointsFrom
-  points-from zero q k = need-t 43 (atEnd s k) _ refl (given _)
-  points-from (suc n) q k = then-t _ _ (next-point q k) (λ t. then-t _ _ (points-from n (t .0) (t .1)) (λ l. given _))
+  -- the walk along a chunk's points, whoever walks
+  module _
+      {R : Type 0}
+      (P : R → Type 0)
+      (w : Walker R)
+      (stops : (k : Refusal) → Numbered 46 k → P (w .stop k))
+      (lasts : (q : I32Point) → P (w .last q))
+      (points : (q : I32Point) (x : R) → P x → P (w .point q x))
+      (segments : (q t : I32Point) (x : R) → P x → P (w .segment q t x))
+      where
+    followed : {A : Type 0} (x : Answer A) (f : A → R) → Q x → ((a : A) → P (f a)) → P (follow w x f)
+    followed (ok a) f h g = g a
+    followed (refused k) f h g = stops k (h .by)
+
+    along-q : (n : ℕ) (q : I32Point) (k : ℕ) → P (along w s n q k)
+    unfolding along
+    along-q zero q k = followed _ _ (need-t 43 (atEnd s k) _ refl (given q)) lasts
+    along-q (suc n) q k = followed _ _ (next-point q k) (λ t. segments q (t .0) _ (points (t .0) _ (along-q n (t .0) (t .1))))
+
+    walk-q : (n : ℕ) → P (walkOf w s n)
+    unfolding walkOf
+    walk-q n = followed _ _ (need-t 32 (ltb 0 n) _ refl first-point) (λ t. points (t .0) _ (along-q (n - 1) (t .0) (t .1)))
 
   points : (n : ℕ) → Q (pointsOf s n)
   unfolding pointsOf
-  points n = need-t 32 (ltb 0 n) _ refl (then-t _ _ first-point (λ t. then-t _ _ (points-from (n - 1) (t .0) (t .1)) (λ l. given _)))
+  points n = walk-q (λ (x : Answer (List I32Point)). Q x) decoder (λ k h. record { by = h }) (λ q. given _) (λ q x h. then-t _ _ h (λ l. given _)) (λ q t x h. h) n
 
-  module _ (p : Point) where
-    step : (q : I32Point) (k : ℕ) → W (stepAt s p q k)
-    unfolding stepAt
-    step q k = yields-t _ _ (next-point q k) (λ t. past-t (rayOf q (t .0) p) t)
-
-    onward-w : (n : ℕ) (q : I32Point) (k : ℕ) → W (onward s p n q k)
-    unfolding onward
-    onward-w zero q k = must-t 43 (atEnd s k) _ refl (walked _ _)
-    onward-w (suc n) q k = go-t _ _ (step q k) (λ t. onward-w n (t .0) (t .1))
-
-    scan : (n : ℕ) → W (scanOf s n p)
-    unfolding scanOf
-    scan n = must-t 32 (ltb 0 n) _ refl (yields-t _ _ first-point (λ t. onward-w (n - 1) (t .0) (t .1)))
+  scan : (p : Point) (n : ℕ) → W (scanOf s n p)
+  unfolding scanOf
+  scan p n = walk-q (λ (x : Walk I32Point). W x) (scanner p) (λ k h. record { by = h }) (λ q. walked _ _) (λ q x h. h) (λ q t x h. go-t _ _ (past-t (rayOf q t p) t) (λ u. h)) n
 
 -- ---- chunks
 module _ (s : List ℕ) where
@@ -366,7 +376,7 @@ module _ (o : Opened) (s : List ℕ) where
   unfolding hitsOf
   hits lng lat = then-t _ _ (candidates-q o s lng lat) (hits-among _)
 
-  names-read : (l : List ℕ) → TabledCheck 46 (namesRead o s l)
+  names-read : (l : List ℕ) → Tabled 46 (namesRead o s l)
   unfolding namesRead
   names-read [] = fine-t
   names-read (zone ∷ l) = and-t _ _ (outcome-t _ (name-q o s zone)) (names-read l)

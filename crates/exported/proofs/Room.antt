@@ -6,8 +6,7 @@ use mathlib.Core.Path.{_≡_, refl, sym, ap, _∙_}
 use mathlib.Core.Bool.{Bool, true, false}
 use mathlib.Core.List.{List}
 use lib.ListN.{length}
-use Rattle.answer.specs.declared.Checked.{Checked}
-use Rattle.answer.specs.Answers.{Answer, ok, refused, no, _then_, _before_, then-inv, zero-one}
+use Rattle.answer.specs.Answers.{Answer, ok, refused, no, Check, _then_, _before_, then-inv, zero-one}
 use Rattle.answer.specs.Checks.{claim, atMost}
 use Rattle.answer.specs.CheckLaws.{yes, nay, at-le, le-at, gt-at}
 use Rattle.reader_opened.specs.declared.Opened.{Opened}
@@ -49,11 +48,11 @@ module _ (file memory : List ℕ) (o : Opened) where
 
     pub room-in : 84 ≤ length memory → ok o ≡ openInto file memory
     unfolding roomFor
-    room-in h = sym (ap (λ (c : Checked). c before ok o) (yes 46 (atMost 84 (length memory)) (le-at 84 (length memory) h))) ∙ into-is
+    room-in h = sym (ap (λ (c : Check). c before ok o) (yes 46 (atMost 84 (length memory)) (le-at 84 (length memory) h))) ∙ into-is
 
     pub room-short : length memory < 84 → no 46 ≡ openInto file memory
     unfolding roomFor
-    room-short h = sym (ap (λ (c : Checked). c before ok o) (nay 46 (atMost 84 (length memory)) (gt-at 84 (length memory) h))) ∙ into-is
+    room-short h = sym (ap (λ (c : Check). c before ok o) (nay 46 (atMost 84 (length memory)) (gt-at 84 (length memory) h))) ∙ into-is
 
 -- its refusals are opening's and 46
 pub into-tabled : (file memory : List ℕ) → Tabled 47 (openInto file memory)

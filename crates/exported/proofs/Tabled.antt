@@ -8,13 +8,10 @@ use mathlib.Core.List.{List, [], _∷_}
 use lib.Dec.{leb}
 use borrow.Author.Tests.{leb-true}
 use Rattle.basics.specs.Truth.{and-l, and-r}
-use Rattle.plane.specs.declared.Seen.{Seen}
-use Rattle.plane.specs.declared.Seen.the-variants.{On, Off}
+use Rattle.plane.specs.Sight.{Sight, On, Off}
 use Rattle.answer.specs.declared.Refusal.{Refusal}
-use Rattle.answer.specs.declared.Checked.{Checked}
-use Rattle.answer.specs.declared.Checked.the-variants.{Fine, Refused}
 use Rattle.answer.specs.Refusals.{refusal}
-use Rattle.answer.specs.Answers.{Answer, ok, refused, no, need, _then_, _before_}
+use Rattle.answer.specs.Answers.{Answer, ok, refused, no, need, Check, fine, _then_, _before_}
 use Rattle.answer.specs.Walks.{Walk, broken, on, off, add, _go_, _yields_, must, verdict}
 use Rattle.answer.specs.Checks.{claim, deny, andThen, first, each}
 use Rattle.tzb_core.specs.Decode.{outcome}
@@ -95,7 +92,7 @@ module _ {top : ℕ} {A : Type 0} where
   must-t n true w f h = h
   must-t n false w f h = record { by = numbered top n f }
 
-  pub past-t : (z : Seen) (a : A) → TabledWalk top (past z a)
+  pub past-t : (z : Sight) (a : A) → TabledWalk top (past z a)
   past-t On a = record { by = tt }
   past-t (Off b) a = record { by = tt }
 
@@ -114,49 +111,42 @@ module _ {top : ℕ} {A B : Type 0} where
   yields-t (ok a) f h g = g a
   yields-t (refused k) f h g = record { by = h .by }
 
--- ---- checks
-abbrev pub CheckBy : ℕ → Checked → Type 0
-CheckBy top Fine = Unit {0}
-CheckBy top (Refused k) = Numbered top k
-
-pub record TabledCheck (top : ℕ) (c : Checked) : Type 0 where
-  pub by : CheckBy top c
-
+-- ---- checks: answers with nothing to tell
 module _ {top : ℕ} where
-  pub fine-t : TabledCheck top Fine
+  pub fine-t : Tabled top fine
   fine-t = record { by = tt }
 
-  pub claim-t : (n : ℕ) (b : Bool) → Fit top n → TabledCheck top (claim n b)
+  pub claim-t : (n : ℕ) (b : Bool) → Fit top n → Tabled top (claim n b)
   unfolding claim
   claim-t n true f = record { by = tt }
   claim-t n false f = record { by = numbered top n f }
 
-  pub deny-t : (n : ℕ) (b : Bool) → Fit top n → TabledCheck top (deny n b)
+  pub deny-t : (n : ℕ) (b : Bool) → Fit top n → Tabled top (deny n b)
   unfolding deny
   deny-t n b f = claim-t n (not b) f
 
-  pub and-t : (a b : Checked) → TabledCheck top a → TabledCheck top b → TabledCheck top (andThen a b)
+  pub and-t : (a b : Check) → Tabled top a → Tabled top b → Tabled top (andThen a b)
   unfolding andThen
-  and-t Fine b f h = h
-  and-t (Refused k) b f h = f
+  and-t (ok u) b f h = h
+  and-t (refused k) b f h = f
 
-  pub end-t : TabledCheck top (first [])
+  pub end-t : Tabled top (first [])
   unfolding first
   end-t = fine-t
 
-  pub next-t : (a : Checked) (l : List Checked) → TabledCheck top a → TabledCheck top (first l) → TabledCheck top (first (a ∷ l))
+  pub next-t : (a : Check) (l : List Check) → Tabled top a → Tabled top (first l) → Tabled top (first (a ∷ l))
   unfolding first
   next-t a l f h = and-t a (first l) f h
 
-  pub each-t : (f : ℕ → Checked) → ((i : ℕ) → TabledCheck top (f i)) → (n i : ℕ) → TabledCheck top (each f n i)
+  pub each-t : (f : ℕ → Check) → ((i : ℕ) → Tabled top (f i)) → (n i : ℕ) → Tabled top (each f n i)
   unfolding each
   each-t f h zero i = fine-t
   each-t f h (suc n) i = and-t (f i) (each f n (i + 1)) (h i) (each-t f h n (i + 1))
 
-  pub outcome-t : {A : Type 0} (x : Answer A) → Tabled top x → TabledCheck top (outcome x)
+  pub outcome-t : {A : Type 0} (x : Answer A) → Tabled top x → Tabled top (outcome x)
   outcome-t (ok a) h = record { by = tt }
   outcome-t (refused k) h = record { by = h .by }
 
-  pub before-t : {A : Type 0} (c : Checked) (x : Answer A) → TabledCheck top c → Tabled top x → Tabled top (c before x)
-  before-t Fine x f h = h
-  before-t (Refused k) x f h = record { by = f .by }
+  pub before-t : {A : Type 0} (c : Check) (x : Answer A) → Tabled top c → Tabled top x → Tabled top (c before x)
+  before-t (ok u) x f h = h
+  before-t (refused k) x f h = record { by = f .by }
