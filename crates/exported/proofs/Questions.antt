@@ -180,19 +180,19 @@ module _ (s : List ℕ) where
       (lasts : (q : I32Point) → P (w .last q))
       (points : (q : I32Point) (x : R) → P x → P (w .point q x))
       (segments : (q t : I32Point) (x : R) → P x → P (w .segment q t x))
-      where
-    followed : {A : Type 0} (x : Answer A) (f : A → R) → Q x → ((a : A) → P (f a)) → P (follow w x f)
-    followed (ok a) f h g = g a
-    followed (refused k) f h g = stops k (h .by)
+    where
+      followed : {A : Type 0} (x : Answer A) (f : A → R) → Q x → ((a : A) → P (f a)) → P (follow w x f)
+      followed (ok a) f h g = g a
+      followed (refused k) f h g = stops k (h .by)
 
-    along-q : (n : ℕ) (q : I32Point) (k : ℕ) → P (along w s n q k)
-    unfolding along
-    along-q zero q k = followed _ _ (need-t 43 (atEnd s k) _ refl (given q)) lasts
-    along-q (suc n) q k = followed _ _ (next-point q k) (λ t. segments q (t .0) _ (points (t .0) _ (along-q n (t .0) (t .1))))
+      along-q : (n : ℕ) (q : I32Point) (k : ℕ) → P (along w s n q k)
+      unfolding along
+      along-q zero q k = followed _ _ (need-t 43 (atEnd s k) _ refl (given q)) lasts
+      along-q (suc n) q k = followed _ _ (next-point q k) (λ t. segments q (t .0) _ (points (t .0) _ (along-q n (t .0) (t .1))))
 
-    walk-q : (n : ℕ) → P (walkOf w s n)
-    unfolding walkOf
-    walk-q n = followed _ _ (need-t 32 (ltb 0 n) _ refl first-point) (λ t. points (t .0) _ (along-q (n - 1) (t .0) (t .1)))
+      walk-q : (n : ℕ) → P (walkOf w s n)
+      unfolding walkOf
+      walk-q n = followed _ _ (need-t 32 (ltb 0 n) _ refl first-point) (λ t. points (t .0) _ (along-q (n - 1) (t .0) (t .1)))
 
   points : (n : ℕ) → Q (pointsOf s n)
   unfolding pointsOf
