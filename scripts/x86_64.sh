@@ -19,9 +19,12 @@ fail() {
   exit 2
 }
 
+# Whether there is a cargo that reads the command's manifest: one that is older than its edition does not, such as Debian's own.
+cargo_reads() { here cargo && cargo read-manifest --manifest-path "$(dirname "$0")/../agent/Cargo.toml" >/dev/null 2>&1; }
+
 # What is installed where the machine is not x86-64: Rust and its library, a linker, and the emulator.
 packages() {
-  here cargo || printf 'cargo-web '
+  cargo_reads || printf 'cargo-web '
   echo rustc-web libstd-rust-web-dev:amd64 gcc-x86-64-linux-gnu libc6-dev-amd64-cross qemu-user libc6:amd64 libgcc-s1:amd64
 }
 
@@ -32,11 +35,10 @@ setup() {
 
 # Whether a program can be built for x86-64 and run.
 equipped() {
-  here cargo || return 1
   if native; then
-    here cc
+    here cargo && here cc
   else
-    here x86_64-linux-gnu-gcc && here qemu-x86_64 && [ -e /lib64/ld-linux-x86-64.so.2 ] &&
+    cargo_reads && here x86_64-linux-gnu-gcc && here qemu-x86_64 && [ -e /lib64/ld-linux-x86-64.so.2 ] &&
       debian_rust rustc >/dev/null 2>&1 && dpkg -L libstd-rust-web-dev:amd64 >/dev/null 2>&1
   fi
 }
