@@ -7,4 +7,3 @@ pub mod Demand3
 pub mod Hits
 pub mod Lookups
 pub mod NeverRefused
-pub mod Example

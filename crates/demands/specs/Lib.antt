@@ -4,4 +4,3 @@ pub mod Words
 pub mod Demand3
 pub mod NeverRefused
 pub mod Lookups
-pub mod Example

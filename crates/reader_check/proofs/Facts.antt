@@ -3,9 +3,9 @@
 use Prim.Native.Nat.{ℕ, _+_, _-_, _≤_, _<_}
 use native.Mathlib.Omega.{arith}
 use mathlib.Core.Path.{_≡_}
-use mathlib.Core.Bool.{Bool, true}
-use mathlib.Core.List.{List}
-use Rattle.basics.specs.Truth.{and-l, and-r, and3, and4}
+use mathlib.Core.Bool.{true}
+use mathlib.Core.List.{List, _∷_}
+use Rattle.basics.specs.Truth.{and-l, and-r}
 use Rattle.plane.specs.declared.I32Point.{I32Point}
 use Rattle.plane.specs.Segment.{same}
 use Rattle.plane.specs.Lines.{every, lastOf}
@@ -18,34 +18,49 @@ use Rattle.reader_records.specs.declared.GroupRecord.{GroupRecord}
 use Rattle.reader_records.specs.declared.ChunkRecord.{ChunkRecord}
 use Rattle.reader_records.specs.Records.{zoneAt, polyAt, ringAt, opAt, groupAt, chunkAt, countRule}
 use Rattle.reader_chunks.specs.Chunks.{firstAt, chunkPoints}
-use Rattle.reader_cover.specs.Holds.{holds, answered, all, holds-at, held, answer-of, all-at}
+use Rattle.reader_cover.specs.Holds.{holds, all, holds-at, held, answer-of, all-at}
 use Rattle.reader_cover.specs.Cover.{opGroup, opPoints, pointsAdd, chunkCovers, jointCovers, jointsCover, chunkUnder, groupUnder, ringUnder, polyUnder, endsFit, groupCovers, ringCovers, polyCovers, zoneCovers}
-use Rattle.reader_check.specs.FullCheck.{recordsHold, chunksDecode, chunkBoxesCover, groupsCover, boxesCover}
+use Rattle.reader_check.specs.declared.Demand.{Demand}
+use Rattle.reader_check.specs.declared.Demand.the-variants as D
+use Rattle.reader_check.specs.FullCheck.{asked, met, allMet, recordsHold, chunksDecode, chunkBoxesCover, groupsCover, boxesCover}
 
--- a test that every record of a directory passes, at index i
-each : (P : ℕ → Bool) (n : ℕ) → all P n 0 ≡ true → (i : ℕ) → i < n → P i ≡ true
-each P n h i l = all-at P n 0 h i (omega arith) (omega arith)
+module _ (o : Opened) (s : List ℕ) where
+  -- of demands that are all met: the first, and the rest
+  one : (d : Demand) (l : List Demand) → allMet o s (d ∷ l) ≡ true → met o s d ≡ true
+  unfolding allMet
+  one d l h = and-l (met o s d) (allMet o s l) h
+
+  rest : (d : Demand) (l : List Demand) → allMet o s (d ∷ l) ≡ true → allMet o s l ≡ true
+  unfolding allMet
+  rest d l h = and-r (met o s d) (allMet o s l) h
+
+  -- what a demand that is met asks of record i
+  each : (d : Demand) → met o s d ≡ true → (i : ℕ) → i < asked o s d .count → asked o s d .test i ≡ true
+  unfolding met
+  each d h i l = all-at (asked o s d .test) (asked o s d .count) 0 h i (omega arith) (omega arith)
 
 -- ---- F2
 module _ (o : Opened) (s : List ℕ) (h : recordsHold o s ≡ true) where
-  parts : (all (λ i. answered (zoneAt o s i)) (o .zones .count) 0 ≡ true) × (all (λ i. answered (polyAt o s i)) (o .polys .count) 0 ≡ true)
-      × (all (λ i. answered (opAt o s i)) (o .ops .count) 0 ≡ true) × (all (λ i. holds (pointsAdd o s) (ringAt o s i)) (o .rings .count) 0 ≡ true)
+  parts : (met o s D.Zone ≡ true) × (met o s D.Polygon ≡ true) × (met o s D.Op ≡ true) × (met o s D.Ring ≡ true)
   unfolding recordsHold
-  parts = and4 (all (λ i. answered (zoneAt o s i)) (o .zones .count) 0) (all (λ i. answered (polyAt o s i)) (o .polys .count) 0) (all (λ i. answered (opAt o s i)) (o .ops .count) 0) (all (λ i. holds (pointsAdd o s) (ringAt o s i)) (o .rings .count) 0) h
+  parts =
+      let a = rest o s _ _ h in
+      let b = rest o s _ _ a in
+      (one o s _ _ h, one o s _ _ a, one o s _ _ b, one o s _ _ (rest o s _ _ b))
 
   module _ (i : ℕ) where
     pub zone-there : i < o .zones .count → (v : ListRecord) × (ok v ≡ zoneAt o s i)
-    zone-there l = answer-of (zoneAt o s i) (each (λ i. answered (zoneAt o s i)) (o .zones .count) (parts .0) i l)
+    zone-there l = answer-of (zoneAt o s i) (each o s D.Zone (parts .0) i l)
 
     pub poly-there : i < o .polys .count → (v : ListRecord) × (ok v ≡ polyAt o s i)
-    poly-there l = answer-of (polyAt o s i) (each (λ i. answered (polyAt o s i)) (o .polys .count) (parts .1) i l)
+    poly-there l = answer-of (polyAt o s i) (each o s D.Polygon (parts .1) i l)
 
     pub op-there : i < o .ops .count → (w : ℕ) × (ok w ≡ opAt o s i)
-    op-there l = answer-of (opAt o s i) (each (λ i. answered (opAt o s i)) (o .ops .count) (parts .2) i l)
+    op-there l = answer-of (opAt o s i) (each o s D.Op (parts .2) i l)
 
     module _ (l : i < o .rings .count) where
       ring-passes : holds (pointsAdd o s) (ringAt o s i) ≡ true
-      ring-passes = each (λ i. holds (pointsAdd o s) (ringAt o s i)) (o .rings .count) (parts .3) i l
+      ring-passes = each o s D.Ring (parts .3) i l
 
       pub ring-there : (v : RingRecord) × (ok v ≡ ringAt o s i)
       ring-there = let g = held (pointsAdd o s) (ringAt o s i) ring-passes in (g .0, g .1)
@@ -59,23 +74,23 @@ module _ (o : Opened) (s : List ℕ) (h : recordsHold o s ≡ true) where
 module _ (o : Opened) (s : List ℕ) (h : chunksDecode o s ≡ true) where
   pub chunk-decodes : (i : ℕ) → i < o .chunks .count → (l : List I32Point) × (ok l ≡ chunkPoints o s i)
   unfolding chunksDecode
-  chunk-decodes i m = answer-of (chunkPoints o s i) (each (λ i. answered (chunkPoints o s i)) (o .chunks .count) h i m)
+  chunk-decodes i m = answer-of (chunkPoints o s i) (each o s D.Decode (one o s _ _ h) i m)
 
 -- ---- F4
 module _ (o : Opened) (s : List ℕ) (h : chunkBoxesCover o s ≡ true) where
-  own : all (chunkCovers o s) (o .chunks .count) 0 ≡ true
+  own : met o s D.Chunk ≡ true
   unfolding chunkBoxesCover
-  own = and-l (all (chunkCovers o s) (o .chunks .count) 0) (all (λ i. holds (jointsCover o s) (groupAt o s i)) (o .groups .count) 0) h
+  own = one o s _ _ h
 
-  next : all (λ i. holds (jointsCover o s) (groupAt o s i)) (o .groups .count) 0 ≡ true
+  next : met o s D.Joints ≡ true
   unfolding chunkBoxesCover
-  next = and-r (all (chunkCovers o s) (o .chunks .count) 0) (all (λ i. holds (jointsCover o s) (groupAt o s i)) (o .groups .count) 0) h
+  next = one o s _ _ (rest o s _ _ h)
 
   pub chunk-covers : (i : ℕ) → i < o .chunks .count → (v : ChunkRecord) → ok v ≡ chunkAt o s i → (l : List I32Point) → ok l ≡ chunkPoints o s i → every (inBox (v .bbox)) l ≡ true
   unfolding chunkCovers
   chunk-covers i m v e l f =
       holds-at (every (inBox (v .bbox))) (chunkPoints o s i) l f
-      (holds-at (λ v. holds (every (inBox (v .bbox))) (chunkPoints o s i)) (chunkAt o s i) v e (each (chunkCovers o s) (o .chunks .count) own i m))
+      (holds-at (λ v. holds (every (inBox (v .bbox))) (chunkPoints o s i)) (chunkAt o s i) v e (each o s D.Chunk own i m))
 
   pub joint-covers : (i : ℕ) → i < o .groups .count → (g : GroupRecord) → ok g ≡ groupAt o s i → (j : ℕ) → g .first ≤ j → j + 1 < g .first + g .count
       → (v : ChunkRecord) → ok v ≡ chunkAt o s j → (q : I32Point) → ok q ≡ firstAt o s (j + 1) → inBox (v .bbox) q ≡ true
@@ -83,13 +98,13 @@ module _ (o : Opened) (s : List ℕ) (h : chunkBoxesCover o s ≡ true) where
   joint-covers i m g e j a b v f q k =
       holds-at (inBox (v .bbox)) (firstAt o s (j + 1)) q k
       (holds-at (λ v. holds (inBox (v .bbox)) (firstAt o s (j + 1))) (chunkAt o s j) v f
-      (all-at (jointCovers o s) (g .count - 1) (g .first) (holds-at (jointsCover o s) (groupAt o s i) g e (each (λ i. holds (jointsCover o s) (groupAt o s i)) (o .groups .count) next i m)) j a (omega arith)))
+      (all-at (jointCovers o s) (g .count - 1) (g .first) (holds-at (jointsCover o s) (groupAt o s i) g e (each o s D.Joints next i m)) j a (omega arith)))
 
 -- ---- F5
 module _ (o : Opened) (s : List ℕ) (h : groupsCover o s ≡ true) (i : ℕ) (m : i < o .groups .count) (g : GroupRecord) (e : ok g ≡ groupAt o s i) where
   passes : groupCovers o s g ≡ true
   unfolding groupsCover
-  passes = holds-at (groupCovers o s) (groupAt o s i) g e (each (λ i. holds (groupCovers o s) (groupAt o s i)) (o .groups .count) h i m)
+  passes = holds-at (groupCovers o s) (groupAt o s i) g e (each o s D.Group (one o s _ _ h) i m)
 
   ends : endsFit o s g ≡ true
   unfolding groupCovers
@@ -115,28 +130,29 @@ module _ (o : Opened) (s : List ℕ) (h : groupsCover o s ≡ true) (i : ℕ) (m
 
 -- ---- F6
 module _ (o : Opened) (s : List ℕ) (h : boxesCover o s ≡ true) where
-  levels : (all (λ i. holds (ringCovers o s) (ringAt o s i)) (o .rings .count) 0 ≡ true) × (all (λ i. holds (polyCovers o s) (polyAt o s i)) (o .polys .count) 0 ≡ true)
-      × (all (λ i. holds (zoneCovers o s) (zoneAt o s i)) (o .zones .count) 0 ≡ true)
+  levels : (met o s D.RingBox ≡ true) × (met o s D.PolygonBox ≡ true) × (met o s D.ZoneBox ≡ true)
   unfolding boxesCover
-  levels = and3 (all (λ i. holds (ringCovers o s) (ringAt o s i)) (o .rings .count) 0) (all (λ i. holds (polyCovers o s) (polyAt o s i)) (o .polys .count) 0) (all (λ i. holds (zoneCovers o s) (zoneAt o s i)) (o .zones .count) 0) h
+  levels =
+      let a = rest o s _ _ h in
+      (one o s _ _ h, one o s _ _ a, one o s _ _ (rest o s _ _ a))
 
   pub ring-covers : (i : ℕ) → i < o .rings .count → (v : RingRecord) → ok v ≡ ringAt o s i → (j : ℕ) → v .first ≤ j → j < v .first + v .count
       → (g : GroupRecord) → ok g ≡ opGroup o s j → covers (v .bbox) (g .bbox) ≡ true
   unfolding ringCovers groupUnder
   ring-covers i m v e j a b g f =
       holds-at (λ g. covers (v .bbox) (g .bbox)) (opGroup o s j) g f
-      (all-at (groupUnder o s (v .bbox)) (v .count) (v .first) (holds-at (ringCovers o s) (ringAt o s i) v e (each (λ i. holds (ringCovers o s) (ringAt o s i)) (o .rings .count) (levels .0) i m)) j a b)
+      (all-at (groupUnder o s (v .bbox)) (v .count) (v .first) (holds-at (ringCovers o s) (ringAt o s i) v e (each o s D.RingBox (levels .0) i m)) j a b)
 
   pub poly-covers : (i : ℕ) → i < o .polys .count → (v : ListRecord) → ok v ≡ polyAt o s i → (j : ℕ) → v .first ≤ j → j < v .first + v .count
       → (r : RingRecord) → ok r ≡ ringAt o s j → covers (v .bbox) (r .bbox) ≡ true
   unfolding polyCovers ringUnder
   poly-covers i m v e j a b r f =
       holds-at (λ r. covers (v .bbox) (r .bbox)) (ringAt o s j) r f
-      (all-at (ringUnder o s (v .bbox)) (v .count) (v .first) (holds-at (polyCovers o s) (polyAt o s i) v e (each (λ i. holds (polyCovers o s) (polyAt o s i)) (o .polys .count) (levels .1) i m)) j a b)
+      (all-at (ringUnder o s (v .bbox)) (v .count) (v .first) (holds-at (polyCovers o s) (polyAt o s i) v e (each o s D.PolygonBox (levels .1) i m)) j a b)
 
   pub zone-covers : (i : ℕ) → i < o .zones .count → (v : ListRecord) → ok v ≡ zoneAt o s i → (j : ℕ) → v .first ≤ j → j < v .first + v .count
       → (u : ListRecord) → ok u ≡ polyAt o s j → covers (v .bbox) (u .bbox) ≡ true
   unfolding zoneCovers polyUnder
   zone-covers i m v e j a b u f =
       holds-at (λ u. covers (v .bbox) (u .bbox)) (polyAt o s j) u f
-      (all-at (polyUnder o s (v .bbox)) (v .count) (v .first) (holds-at (zoneCovers o s) (zoneAt o s i) v e (each (λ i. holds (zoneCovers o s) (zoneAt o s i)) (o .zones .count) (levels .2) i m)) j a b)
+      (all-at (polyUnder o s (v .bbox)) (v .count) (v .first) (holds-at (zoneCovers o s) (zoneAt o s i) v e (each o s D.ZoneBox (levels .2) i m)) j a b)

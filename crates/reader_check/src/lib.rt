@@ -1,10 +1,10 @@
-// The full check after opening: F2 to F6, rule by rule, over every record of every directory.
+// The full check after opening: F2 to F6, demand by demand, over every record of every directory.
 ghost use mathlib.Core.Path.{_≡_};
 ghost use Rattle.reader_records.specs.Records.{zoneAt, polyAt, ringAt, opAt, groupAt};
 ghost use Rattle.reader_chunks.specs.Chunks.{chunkPoints};
 ghost use Rattle.reader_cover.specs.Holds.{holds, answered, all};
 ghost use Rattle.reader_cover.specs.Cover.{pointsAdd, chunkCovers, jointsCover, groupCovers, ringCovers, polyCovers, zoneCovers};
-ghost use Rattle.reader_check.specs.FullCheck.{demanded, recordsHold, chunksDecode, chunkBoxesCover, groupsCover, boxesCover, lowestBroken};
+ghost use Rattle.reader_check.specs.FullCheck.{asked, found, rule, lowestBroken};
 use reader_cover::Part;
 use reader_opened::Opened;
 use reader_records::GroupAt;
@@ -153,7 +153,7 @@ fn zone_holds(o: Opened, s: &[u8], index: usize) -> bool
 }
 
 fn is_met(o: Opened, s: &[u8], demand: Demand, index: usize) -> bool
-    ensures { λ r. ⌜ r ≡ demanded o (now (s .entry)) demand index ⌝ }
+    ensures { λ r. ⌜ r ≡ asked o (now (s .entry)) demand .test index ⌝ }
 {
     match demand {
         Demand::Zone => zone_there(o, s, index),
@@ -170,79 +170,37 @@ fn is_met(o: Opened, s: &[u8], demand: Demand, index: usize) -> bool
     }
 }
 
-// Every record of a directory.
-fn all_meet(o: Opened, s: &[u8], demand: Demand, count: u32) -> bool
-    ensures { λ r. ⌜ r ≡ all (demanded o (now (s .entry)) demand) count 0 ⌝ }
+// The number of a rule that is broken already. Else 0, or the number of this rule, where a record of the directory does not meet its demand.
+fn judge(o: Opened, s: &[u8], broken: u32, number: u32, demand: Demand, count: u32) -> u32
+    ensures { λ r. ⌜ r ≡ found broken (rule number (all (asked o (now (s .entry)) demand .test) count 0) 0) ⌝ }
 {
+    if broken != 0 {
+        return broken;
+    }
     let n = reader_head::wide(count);
     let mut i = 0;
     while i < n {
         if !is_met(o, s, demand, i) {
-            return false;
+            return number;
         }
         i += 1;
     }
-    true
+    0
 }
 
-// F2.
-fn records_hold(o: Opened, s: &[u8]) -> bool
-    ensures { λ r. ⌜ r ≡ recordsHold o (now (s .entry)) ⌝ }
-{
-    all_meet(o, s, Demand::Zone, o.zones.count)
-        & all_meet(o, s, Demand::Polygon, o.polys.count)
-        & all_meet(o, s, Demand::Op, o.ops.count)
-        & all_meet(o, s, Demand::Ring, o.rings.count)
-}
-
-// F3.
-fn chunks_decode(o: Opened, s: &[u8]) -> bool
-    ensures { λ r. ⌜ r ≡ chunksDecode o (now (s .entry)) ⌝ }
-{
-    all_meet(o, s, Demand::Decode, o.chunks.count)
-}
-
-// F4.
-fn chunk_boxes_cover(o: Opened, s: &[u8]) -> bool
-    ensures { λ r. ⌜ r ≡ chunkBoxesCover o (now (s .entry)) ⌝ }
-{
-    all_meet(o, s, Demand::Chunk, o.chunks.count) & all_meet(o, s, Demand::Joints, o.groups.count)
-}
-
-// F5.
-fn groups_cover(o: Opened, s: &[u8]) -> bool
-    ensures { λ r. ⌜ r ≡ groupsCover o (now (s .entry)) ⌝ }
-{
-    all_meet(o, s, Demand::Group, o.groups.count)
-}
-
-// F6.
-fn boxes_cover(o: Opened, s: &[u8]) -> bool
-    ensures { λ r. ⌜ r ≡ boxesCover o (now (s .entry)) ⌝ }
-{
-    all_meet(o, s, Demand::RingBox, o.rings.count)
-        & all_meet(o, s, Demand::PolygonBox, o.polys.count)
-        & all_meet(o, s, Demand::ZoneBox, o.zones.count)
-}
-
-// The lowest broken rule, 2 to 6; 0 where none is.
+// The lowest broken rule, 2 to 6; 0 where none is. A line for each demand, in the order in which they are judged: its rule's number, and how many records it is made of.
 pub fn broken_rule(o: Opened, s: &[u8]) -> u32
     ensures { λ r. ⌜ r ≡ lowestBroken o (now (s .entry)) ⌝ }
 {
-    if !records_hold(o, s) {
-        return 2;
-    }
-    if !chunks_decode(o, s) {
-        return 3;
-    }
-    if !chunk_boxes_cover(o, s) {
-        return 4;
-    }
-    if !groups_cover(o, s) {
-        return 5;
-    }
-    if !boxes_cover(o, s) {
-        return 6;
-    }
-    0
+    let r = judge(o, s, 0, 2, Demand::Zone, o.zones.count);
+    let r = judge(o, s, r, 2, Demand::Polygon, o.polys.count);
+    let r = judge(o, s, r, 2, Demand::Op, o.ops.count);
+    let r = judge(o, s, r, 2, Demand::Ring, o.rings.count);
+    let r = judge(o, s, r, 3, Demand::Decode, o.chunks.count);
+    let r = judge(o, s, r, 4, Demand::Chunk, o.chunks.count);
+    let r = judge(o, s, r, 4, Demand::Joints, o.groups.count);
+    let r = judge(o, s, r, 5, Demand::Group, o.groups.count);
+    let r = judge(o, s, r, 6, Demand::RingBox, o.rings.count);
+    let r = judge(o, s, r, 6, Demand::PolygonBox, o.polys.count);
+    judge(o, s, r, 6, Demand::ZoneBox, o.zones.count)
 }

@@ -1,63 +1,75 @@
--- `reader_check::broken_rule` meets its contract: one rule after another.
+-- `reader_check::broken_rule` meets its contract: one demand after another.
 -- Assumes nothing.
 use mathlib.Core.Path.{refl}
-use Rattle.answer.specs.CheckLaws.{told-yes, told-no}
-use Rattle.reader_check.specs.FullCheck.{lowestBroken, rule-broken, rule-met}
+use Rattle.reader_check.specs.FullCheck.{recordsHold, chunksDecode, chunkBoxesCover, groupsCover, boxesCover, lowestBroken}
+use Rattle.reader_check.proofs.Judging.{none-yet, next, last, all-found}
 use borrow.Author.Needs.{needs}
 use Rattle.reader_check.proofs.broken_rule.Statement.{statement}
 use Rattle.reader_check.proofs.broken_rule.Tie as tie
 
-records-hold-requires : tie.Need-records-hold-requires
-records-hold-requires c κs = search needs
+judge-requires : tie.Need-judge-requires
+judge-requires c κs = search needs
+
+judge-requires-2 : tie.Need-judge-requires-2
+judge-requires-2 c κs = search needs
+
+judge-requires-3 : tie.Need-judge-requires-3
+judge-requires-3 c κs = search needs
+
+judge-requires-4 : tie.Need-judge-requires-4
+judge-requires-4 c κs = search needs
+
+judge-requires-5 : tie.Need-judge-requires-5
+judge-requires-5 c κs = search needs
+
+judge-requires-6 : tie.Need-judge-requires-6
+judge-requires-6 c κs = search needs
+
+judge-requires-7 : tie.Need-judge-requires-7
+judge-requires-7 c κs = search needs
+
+judge-requires-8 : tie.Need-judge-requires-8
+judge-requires-8 c κs = search needs
+
+judge-requires-9 : tie.Need-judge-requires-9
+judge-requires-9 c κs = search needs
+
+judge-requires-10 : tie.Need-judge-requires-10
+judge-requires-10 c κs = search needs
+
+judge-requires-11 : tie.Need-judge-requires-11
+judge-requires-11 c κs = search needs
 
 returns : tie.Need-returns
-unfolding lowestBroken
-returns c = rule-broken _ _ _ (told-no _ _ (c .before .records-hold .ensures) (c .if1 .taken))
-
-chunks-decode-requires : tie.Need-chunks-decode-requires
-chunks-decode-requires c κs = search needs
-
-returns-2 : tie.Need-returns-2
-unfolding lowestBroken
-returns-2 c = rule-met _ _ _ (told-yes _ _ (c .before .before .before .records-hold .ensures) (c .before .before .if1 .left)) _ (rule-broken _ _ _ (told-no _ _ (c .before .chunks-decode .ensures) (c .if2 .taken)))
-
-chunk-boxes-cover-requires : tie.Need-chunk-boxes-cover-requires
-chunk-boxes-cover-requires c κs = search needs
-
-returns-3 : tie.Need-returns-3
-unfolding lowestBroken
-returns-3 c = rule-met _ _ _ (told-yes _ _ (c .before .before .before .before .before .records-hold .ensures) (c .before .before .before .before .if1 .left)) _ (rule-met _ _ _ (told-yes _ _ (c .before .before .before .chunks-decode .ensures) (c .before .before .if2 .left)) _ (rule-broken _ _ _ (told-no _ _ (c .before .chunk-boxes-cover .ensures) (c .if3 .taken))))
-
-groups-cover-requires : tie.Need-groups-cover-requires
-groups-cover-requires c κs = search needs
-
-returns-4 : tie.Need-returns-4
-unfolding lowestBroken
-returns-4 c = rule-met _ _ _ (told-yes _ _ (c .before .before .before .before .before .before .before .records-hold .ensures) (c .before .before .before .before .before .before .if1 .left)) _ (rule-met _ _ _ (told-yes _ _ (c .before .before .before .before .before .chunks-decode .ensures) (c .before .before .before .before .if2 .left)) _ (rule-met _ _ _ (told-yes _ _ (c .before .before .before .chunk-boxes-cover .ensures) (c .before .before .if3 .left)) _ (rule-broken _ _ _ (told-no _ _ (c .before .groups-cover .ensures) (c .if4 .taken)))))
-
-boxes-cover-requires : tie.Need-boxes-cover-requires
-boxes-cover-requires c κs = search needs
-
-returns-5 : tie.Need-returns-5
-unfolding lowestBroken
-returns-5 c = rule-met _ _ _ (told-yes _ _ (c .before .before .before .before .before .before .before .before .before .records-hold .ensures) (c .before .before .before .before .before .before .before .before .if1 .left)) _ (rule-met _ _ _ (told-yes _ _ (c .before .before .before .before .before .before .before .chunks-decode .ensures) (c .before .before .before .before .before .before .if2 .left)) _ (rule-met _ _ _ (told-yes _ _ (c .before .before .before .before .before .chunk-boxes-cover .ensures) (c .before .before .before .before .if3 .left)) _ (rule-met _ _ _ (told-yes _ _ (c .before .before .before .groups-cover .ensures) (c .before .before .if4 .left)) _ (rule-broken _ _ _ (told-no _ _ (c .before .boxes-cover .ensures) (c .if5 .taken))))))
-
-returns-6 : tie.Need-returns-6
-unfolding lowestBroken
-returns-6 c = rule-met _ _ _ (told-yes _ _ (c .before .before .before .before .before .before .before .before .before .records-hold .ensures) (c .before .before .before .before .before .before .before .before .if1 .left)) _ (rule-met _ _ _ (told-yes _ _ (c .before .before .before .before .before .before .before .chunks-decode .ensures) (c .before .before .before .before .before .before .if2 .left)) _ (rule-met _ _ _ (told-yes _ _ (c .before .before .before .before .before .chunk-boxes-cover .ensures) (c .before .before .before .before .if3 .left)) _ (rule-met _ _ _ (told-yes _ _ (c .before .before .before .groups-cover .ensures) (c .before .before .if4 .left)) _ (rule-met _ _ _ (told-yes _ _ (c .before .boxes-cover .ensures) (c .if5 .left)) _ (refl)))))
+unfolding lowestBroken recordsHold chunksDecode chunkBoxesCover groupsCover boxesCover
+returns c =
+    let start = c .before .before .before .before .before .before .before .before .before .before .before .before .args in
+    let h1 = next _ _ _ _ _ _ _ _ (none-yet (start .o) (start .s .now)) refl _ (c .before .before .before .before .before .before .before .before .before .before .judge .ensures) in
+    let h2 = next _ _ _ _ _ _ _ _ h1 refl _ (c .before .before .before .before .before .before .before .before .before .judge2 .ensures) in
+    let h3 = next _ _ _ _ _ _ _ _ h2 refl _ (c .before .before .before .before .before .before .before .before .judge3 .ensures) in
+    let h4 = last _ _ _ _ _ _ _ h3 refl _ (c .before .before .before .before .before .before .before .judge4 .ensures) in
+    let h5 = last _ _ _ _ _ _ _ h4 refl _ (c .before .before .before .before .before .before .judge5 .ensures) in
+    let h6 = next _ _ _ _ _ _ _ _ h5 refl _ (c .before .before .before .before .before .judge6 .ensures) in
+    let h7 = last _ _ _ _ _ _ _ h6 refl _ (c .before .before .before .before .judge7 .ensures) in
+    let h8 = last _ _ _ _ _ _ _ h7 refl _ (c .before .before .before .judge8 .ensures) in
+    let h9 = next _ _ _ _ _ _ _ _ h8 refl _ (c .before .before .judge9 .ensures) in
+    let h10 = next _ _ _ _ _ _ _ _ h9 refl _ (c .before .judge10 .ensures) in
+    let h11 = last _ _ _ _ _ _ _ h10 refl _ (c .judge11 .ensures) in
+    all-found _ _ h11
 
 pub broken-rule-spec : {M : Type 1} → statement M
 broken-rule-spec =
     tie.close
     (tie.spec
-    records-hold-requires
-    returns
-    chunks-decode-requires
-    returns-2
-    chunk-boxes-cover-requires
-    returns-3
-    groups-cover-requires
-    returns-4
-    boxes-cover-requires
-    returns-5
-    returns-6)
+    judge-requires
+    judge-requires-2
+    judge-requires-3
+    judge-requires-4
+    judge-requires-5
+    judge-requires-6
+    judge-requires-7
+    judge-requires-8
+    judge-requires-9
+    judge-requires-10
+    judge-requires-11
+    returns)

@@ -6,14 +6,14 @@ use mathlib.Core.Bool.{Bool}
 use mathlib.Core.List.{List}
 use Rattle.reader_opened.specs.declared.Opened.{Opened}
 use Rattle.reader_check.specs.declared.Demand.{Demand}
-use Rattle.reader_check.specs.FullCheck.{demanded}
+use Rattle.reader_check.specs.FullCheck.{asked}
 use borrow.Author.Needs.{needs}
 use Rattle.reader_check.proofs.is_met.Statement.{statement}
 use Rattle.reader_check.proofs.is_met.Tie as tie
 
 -- the demand that was matched
-as-matched : (o : Opened) (s : List ℕ) (d e : Demand) (i : ℕ) (r : Bool) → d ≡ e → r ≡ demanded o s e i → r ≡ demanded o s d i
-as-matched o s d e i r m h = h ∙ ap (λ (t : Demand). demanded o s t i) (sym m)
+as-matched : (o : Opened) (s : List ℕ) (d e : Demand) (i : ℕ) (r : Bool) → d ≡ e → r ≡ asked o s e .test i → r ≡ asked o s d .test i
+as-matched o s d e i r m h = h ∙ ap (λ (t : Demand). asked o s t .test i) (sym m)
 
 enum-told : tie.Need-enum-told
 enum-told c = search needs

@@ -39,15 +39,15 @@ use Rattle.reader_rings.specs.Zones.{containsAt}
 use Rattle.reader_exact.specs.Directories.{zoneRecord, polyRecord, ringRecord, opWord, groupRecord, chunkShape, directories}
 use Rattle.reader_cover.specs.Holds.{holds, answered, all}
 use Rattle.reader_cover.specs.Cover.{opGroup, opPoints, pointsAdd, chunkCovers, jointCovers, jointsCover, chunkUnder, groupUnder, ringUnder, polyUnder, endsFit, groupCovers, ringCovers, polyCovers, zoneCovers}
-use Rattle.reader_check.specs.FullCheck.{accepted, recordsHold, chunksDecode, chunkBoxesCover, groupsCover, boxesCover, rule, lowestBroken}
+use Rattle.reader_check.specs.FullCheck.{accepted, met, allMet, recordsHold, chunksDecode, chunkBoxesCover, groupsCover, boxesCover, rule, lowestBroken}
 use Rattle.reader_lookup.specs.Asking.{nowhere, inZone, scaled, lookupOf}
 use Rattle.tzb.specs.Opening as P
 use Rattle.tzb.specs.FullCheck.{fullCheckOf, full-accepted}
-use Rattle.demands.specs.Example.{file, opened}
+use Rattle.examples.specs.DrawnZone.{file, opened}
 use Rattle.demands.specs.Words.{Position}
 use Rattle.demands.specs.Lookups.{exactlyIn, candidateZones, firstThat, shortcut}
 use Rattle.demands.proofs.Demand3.{contains-is}
 use Rattle.demands.proofs.Lookups.{lookups-exact}
 
 -- F1
 pub opens : ok opened ≡ P.openOf file
@@ -56,7 +56,7 @@ opens = refl
 
 -- F2 to F6
 none-broken : 0 ≡ lowestBroken opened file
-unfolding file opened lowestBroken rule recordsHold chunksDecode chunkBoxesCover groupsCover boxesCover all run holds answered opGroup opPoints pointsAdd chunkCovers jointCovers jointsCover chunkUnder groupUnder ringUnder polyUnder endsFit groupCovers ringCovers polyCovers zoneCovers inBox covers same S.listAt S.ringAt S.opAt S.groupAt S.chunkAt S.ruled S.recordAt S.listIn S.listRule S.ringIn S.ringRule S.countRule S.opRule S.groupIn S.groupRule S.chunkIn S.chunkRule S.boxIn S.pointIn S.within L.inside E.le B.ordered B.boxInDomain A.inDomain chunkPoints bytesOf endOf span startOf firstIn firstAt pointsOf pointsFrom walkOf along Points.firstOf Points.nextAt Points.numbersAt Points.movedBy Points.inside Deltas.addDelta Deltas.fits32 numberAt digits
+unfolding file opened lowestBroken rule recordsHold chunksDecode chunkBoxesCover groupsCover boxesCover allMet met all run holds answered opGroup opPoints pointsAdd chunkCovers jointCovers jointsCover chunkUnder groupUnder ringUnder polyUnder endsFit groupCovers ringCovers polyCovers zoneCovers inBox covers same S.listAt S.ringAt S.opAt S.groupAt S.chunkAt S.ruled S.recordAt S.listIn S.listRule S.ringIn S.ringRule S.countRule S.opRule S.groupIn S.groupRule S.chunkIn S.chunkRule S.boxIn S.pointIn S.within L.inside E.le B.ordered B.boxInDomain A.inDomain chunkPoints bytesOf endOf span startOf firstIn firstAt pointsOf pointsFrom walkOf along Points.firstOf Points.nextAt Points.numbersAt Points.movedBy Points.inside Deltas.addDelta Deltas.fits32 numberAt digits
 none-broken = refl
 
 pub accepts : fullCheckOf file ≡ accepted

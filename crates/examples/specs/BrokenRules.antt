@@ -24,7 +24,7 @@ use Rattle.reader_records.specs.Records as Records
 use Rattle.reader_chunks.specs.Chunks.{startOf, endOf, span, bytesOf, firstIn, firstAt, chunkPoints}
 use Rattle.reader_cover.specs.Holds.{holds, answered, all}
 use Rattle.reader_cover.specs.Cover.{opGroup, opPoints, pointsAdd, chunkCovers, jointCovers, jointsCover, chunkUnder, groupUnder, ringUnder, polyUnder, endsFit, groupCovers, ringCovers, polyCovers, zoneCovers}
-use Rattle.reader_check.specs.FullCheck.{recordsHold, chunksDecode, chunkBoxesCover, groupsCover, boxesCover, rule, lowestBroken}
+use Rattle.reader_check.specs.FullCheck.{met, allMet, recordsHold, chunksDecode, chunkBoxesCover, groupsCover, boxesCover, rule, lowestBroken}
 
 -- a zone of two polygons with a ring each; the first ring is a square from two groups, the second goes back along one of them
 abbrev pub bytes : List ℕ
@@ -149,5 +149,5 @@ rows =
     ∷ []
 
 pub judged : T (every told rows)
-unfolding lowestBroken rule recordsHold chunksDecode chunkBoxesCover groupsCover boxesCover all run holds answered opGroup opPoints pointsAdd chunkCovers jointCovers jointsCover chunkUnder groupUnder ringUnder polyUnder endsFit groupCovers ringCovers polyCovers zoneCovers inBox covers same Records.listAt Records.ringAt Records.opAt Records.groupAt Records.chunkAt Records.ruled Records.recordAt Records.listIn Records.listRule Records.ringIn Records.ringRule Records.countRule Records.opRule Records.groupIn Records.groupRule Records.chunkIn Records.chunkRule Records.boxIn Records.pointIn Records.within Loads.inside le ordered boxInDomain inDomain chunkPoints bytesOf endOf span startOf firstIn firstAt pointsOf pointsFrom walkOf along Points.firstOf Points.nextAt Points.numbersAt Points.movedBy Points.inside addDelta fits32 numberAt digits
+unfolding lowestBroken rule recordsHold chunksDecode chunkBoxesCover groupsCover boxesCover allMet met all run holds answered opGroup opPoints pointsAdd chunkCovers jointCovers jointsCover chunkUnder groupUnder ringUnder polyUnder endsFit groupCovers ringCovers polyCovers zoneCovers inBox covers same Records.listAt Records.ringAt Records.opAt Records.groupAt Records.chunkAt Records.ruled Records.recordAt Records.listIn Records.listRule Records.ringIn Records.ringRule Records.countRule Records.opRule Records.groupIn Records.groupRule Records.chunkIn Records.chunkRule Records.boxIn Records.pointIn Records.within Loads.inside le ordered boxInDomain inDomain chunkPoints bytesOf endOf span startOf firstIn firstAt pointsOf pointsFrom walkOf along Points.firstOf Points.nextAt Points.numbersAt Points.movedBy Points.inside addDelta fits32 numberAt digits
 judged = tt

@@ -1,0 +1,2 @@
+-- What is said of accepted files, said of a worked one.
+pub mod DrawnZone
