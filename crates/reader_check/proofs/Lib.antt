@@ -1,4 +1,4 @@
--- What the full check's rules say, by index; what it accepts; and that its answer is determined.
+-- A rule's demands one after the other; what the rules say, by index; what the full check accepts; and that its answer is determined.
 pub mod Judging
 pub mod Lowest
 pub mod Facts
