@@ -7,7 +7,6 @@ ghost use lib.Dec.{leb};
 ghost use Rattle.answer.specs.Answers.{checkedTold};
 ghost use Rattle.answer.specs.Checks.{seek};
 ghost use Rattle.fields.specs.Le.{le};
-ghost use Rattle.crc.specs.Crc32.{crc32};
 ghost use Rattle.reader_head.specs.Magic.{startsWith};
 ghost use Rattle.reader_head.specs.Head.{startCheck, isCount, fieldsCheck, versionCheck, boundsCheck, headCheck, Long, isZero, notZero};
 use answer::Checked;
@@ -145,16 +144,10 @@ fn bounds(s: &[u8]) -> Checked
     if end < 64 + 16 * word(s, 20) {
         return answer::fail(10);
     }
-    if crc(&s[..end]) != word(s, end) {
+    if crc::crc32_ieee(&s[..end]) != fields::u32_at(s, end) {
         return answer::fail(11);
     }
     Checked::Fine
-}
-
-fn crc(s: &[u8]) -> usize
-    ensures { λ r. ⌜ r ≡ crc32 (now (s .entry)) ⌝ }
-{
-    wide(crc::crc32_ieee(s))
 }
 
 // 1 to 11.

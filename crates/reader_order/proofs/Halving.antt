@@ -5,8 +5,7 @@ use native.Mathlib.Omega.{arith}
 use native.Mathlib.Nat.{le-of-lt}
 use native.Mathlib.Numerals.{add-one}
 use mathlib.Core.Path.{_≡_, refl, sym, ap, _∙_}
-use mathlib.Core.Bool.{Bool, true, false, not, cond}
-use borrow.Author.Tests.{not-true, not-false}
+use mathlib.Core.Bool.{Bool, true, false, cond}
 use mathlib.Core.List.{List, [], _∷_, _++_}
 use lib.ListN.{length, take, drop, set, getD}
 use lib.Seq.{getD-take, length-take-le, take-take}
@@ -74,10 +73,6 @@ module _ (name : ℕ → List ℕ) where
       inside = omega arith;
     }
 
-    pub place-none : k ≡ 0 → 0 ≡ placeFor name own (take k m)
-    unfolding placeFor
-    place-none e = rw e
-
     module _ (low high : ℕ) (h : Halving m own k low high) where
       pub halving-end : high ≤ low → low ≡ placeFor name own (take k m)
       halving-end e = omega (arith, e, h .from-low, h .to-high)
@@ -90,7 +85,7 @@ module _ (name : ℕ → List ℕ) where
         test-is : r ≡ comesBefore own (name (getD (take k m) i 0))
         test-is = t ∙ ap (λ (z : ℕ). comesBefore own (name z)) (sym (getD-take k m i 0 (omega (arith, g, h .inside))))
 
-        pub halve-down : r ≡ true → Halving m own k low i
+        halve-down : r ≡ true → Halving m own k low i
         halve-down e = record {
           room = h .room;
           sorted = h .sorted;
@@ -99,7 +94,7 @@ module _ (name : ℕ → List ℕ) where
           inside = omega (arith, g, h .inside);
         }
 
-        pub halve-up : r ≡ false → Halving m own k (i + 1) high
+        halve-up : r ≡ false → Halving m own k (i + 1) high
         halve-up e = record {
           room = h .room;
           sorted = h .sorted;
@@ -108,18 +103,12 @@ module _ (name : ℕ → List ℕ) where
           inside = h .inside;
         }
 
-    -- the last zone, and the test whether own comes before it
-    module _ (h : k ≤ length m) (s : inOrder name (take k m) ≡ true) (g : 0 < k) (r : Bool) (t : r ≡ comesBefore own (name (getD m (k - 1) 0))) where
-      some : k - 1 < k
-      some = omega (arith, g)
+        module _ (l u : ℕ) where
+          pub halves-down : r ≡ true → l ≡ low → u ≡ i → Halving m own k l u
+          halves-down e p q = rw (p, q) (halve-down e)
 
-      pub last-stays : not r ≡ true → k ≡ placeFor name own (take k m)
-      last-stays e =
-          let c = halve-up 0 k (halving-start h s) (k - 1) some r t (not-true r e) in
-          omega (arith, c .from-low, c .to-high, some)
-
-      pub last-moves : not r ≡ false → Halving m own k 0 (k - 1)
-      last-moves e = halve-down 0 k (halving-start h s) (k - 1) some r t (not-false r e)
+          pub halves-up : r ≡ false → l ≡ i + 1 → u ≡ high → Halving m own k l u
+          halves-up e p q = rw (p, q) (halve-up e)
 
   -- ---- the insertion, at that place
   insert-at : (z : ℕ) (l : List ℕ) → insert name z l ≡ take (placeFor name (name z) l) l ++ z ∷ drop (placeFor name (name z) l) l

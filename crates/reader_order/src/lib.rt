@@ -61,29 +61,24 @@ fn before_zone(o: Opened, s: &[u8], own: &[u8], zone: u32) -> bool
     comes_before(own, reader_names::name(o, s, zone))
 }
 
-// The place of the first zone, of the first k, whose name comes after own: k where there is none. The first k are in order: the last is looked at first, then the place is found by halving.
+// The place of the first zone, of the first k, whose name comes after own: k where there is none. The first k are in order: the last is looked at first, then the place is found by halving. `after` is the place after the one that is looked at.
 fn place_for(o: Opened, s: &[u8], zones: &[u32], own: &[u8], k: usize) -> usize
     requires { ⌜ k ≤ length (now zones) ⌝ }
     requires { ⌜ inOrder (nameOr o (now s)) (take k (now zones)) ≡ true ⌝ }
     ensures { λ r. ⌜ r ≡ placeFor (nameOr o (now (s .entry))) (now (own .entry)) (take k (now (zones .entry))) ⌝ }
 {
-    if k == 0 {
-        return 0;
-    }
     let mut low = 0;
-    let mut high = k - 1;
-    let last = zones[high];
-    if !before_zone(o, s, own, last) {
-        return k;
-    }
+    let mut high = k;
+    let mut after = k;
     while low < high {
-        let middle = low + (high - low) / 2;
+        let middle = after - 1;
         let zone = zones[middle];
         if before_zone(o, s, own, zone) {
             high = middle;
         } else {
-            low = middle + 1;
+            low = after;
         }
+        after = low + (high - low) / 2 + 1;
     }
     low
 }

@@ -4,8 +4,6 @@ ghost use mathlib.Core.Bool.{true, false};
 ghost use Prim.Native.Nat.{_+_, _-_, _≤_, _<_};
 ghost use Rattle.answer.specs.Walks.{verdict};
 ghost use Rattle.tzb_core.specs.Points.{point};
-ghost use Rattle.tzb_core.specs.Ray.{rayOf};
-ghost use Rattle.tzb_core.specs.Scan.{past};
 ghost use Rattle.reader_groups.specs.Groups.{went};
 ghost use Rattle.reader_records.specs.Records.{groupIn};
 ghost use lib.ListN.{length};
@@ -55,27 +53,6 @@ pub enum Verdict {
     Refused(Refusal),
 }
 
-// The group of an op's word: the top bit turns it round.
-fn turn(w: usize, g: GroupRecord) -> Turned
-    ensures { λ r. ⌜ r ≡ turnOf w g ⌝ }
-{
-    let a = g.entry;
-    let b = g.exit;
-    if w < 0x8000_0000 {
-        Turned {
-            entry: a,
-            exit: b,
-            group: g,
-        }
-    } else {
-        Turned {
-            entry: b,
-            exit: a,
-            group: g,
-        }
-    }
-}
-
 // The op with index i, and its group's place.
 fn leg_at(o: Opened, s: &[u8], i: usize) -> LegAt
     ensures { λ r. ⌜ (legTold (now (s .entry)) r ≡ turnedAt o (now (s .entry)) i) × LegRoom (now (s .entry)) r ⌝ }
@@ -93,22 +70,26 @@ fn leg_at(o: Opened, s: &[u8], i: usize) -> LegAt
     }
 }
 
-// The group at a tested place, as the op's word has it.
+// The group at a tested place, as the op's word has it: the top bit turns it round.
 fn turned_in(s: &[u8], w: usize, at: usize) -> Turned
     requires { ⌜ at + 44 ≤ length (now s) ⌝ }
     ensures { λ r. ⌜ r ≡ turnOf w (groupIn (now (s .entry)) at) ⌝ }
 {
-    turn(w, reader_records::group_in(s, at))
-}
-
-// Past the segment from a to b.
-fn past_segment(a: I32Point, b: I32Point, p: Point) -> Went
-    ensures { λ r. ⌜ went r ≡ past (rayOf a b p) tt ⌝ }
-{
-    let e = tzb_core::raycast::raycast_seg(a, b, p);
-    match e {
-        Seen::On => Went::On,
-        Seen::Off(b) => Went::Off(b),
+    let g = reader_records::group_in(s, at);
+    let a = g.entry;
+    let b = g.exit;
+    if w < 0x8000_0000 {
+        Turned {
+            entry: a,
+            exit: b,
+            group: g,
+        }
+    } else {
+        Turned {
+            entry: b,
+            exit: a,
+            group: g,
+        }
     }
 }
 
@@ -117,9 +98,12 @@ fn joint(p: Point, a: I32Point, b: I32Point) -> Went
     ensures { λ r. ⌜ went r ≡ jointOf p a b ⌝ }
 {
     if boxes::same_point(a, b) {
-        Went::Off(false)
-    } else {
-        past_segment(a, b, p)
+        return Went::Off(false);
+    }
+    let e = tzb_core::raycast::raycast_seg(a, b, p);
+    match e {
+        Seen::On => Went::On,
+        Seen::Off(b) => Went::Off(b),
     }
 }
 

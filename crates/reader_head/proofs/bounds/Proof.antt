@@ -33,25 +33,25 @@ returns : tie.Need-returns
 unfolding boundsCheck
 returns c = c .fail .ensures ∙ unmet _ _ _ (gt-at _ _ (omega arith))
 
-slice-aggregate-crc : tie.Need-slice-aggregate-crc
-slice-aggregate-crc c = sym (length-take-le _ _ (omega arith))
+slice-aggregate-crc32-ieee : tie.Need-slice-aggregate-crc32-ieee
+slice-aggregate-crc32-ieee c = sym (length-take-le _ _ (omega arith))
 
-crc-requires : tie.Need-crc-requires
-crc-requires c κs = search needs
+crc32-ieee-requires : tie.Need-crc32-ieee-requires
+crc32-ieee-requires c κs = search needs
 
-word-requires-2 : tie.Need-word-requires-2
-word-requires-2 c κs = search needs
+u32-at-requires : tie.Need-u32-at-requires
+u32-at-requires c κs = search needs
 
 fail-requires-2 : tie.Need-fail-requires-2
 fail-requires-2 c κs = search needs
 
 returns-2 : tie.Need-returns-2
 unfolding boundsCheck
-returns-2 c = c .fail2 .ensures ∙ met _ _ _ _ (le-at _ _ (omega arith)) (unmet _ _ _ (ne-same _ _ (λ e. c .before .if2 .taken (c .before .before .before .crc .ensures ∙ e ∙ sym (c .before .before .word2 .ensures .0)))))
+returns-2 c = c .fail2 .ensures ∙ met _ _ _ _ (le-at _ _ (omega arith)) (unmet _ _ _ (ne-same _ _ (λ e. c .before .if2 .taken (c .before .before .before .crc32-ieee .ensures ∙ e ∙ sym (c .before .before .u32-at .ensures)))))
 
 returns-3 : tie.Need-returns-3
 unfolding boundsCheck
-returns-3 c = met _ _ _ _ (le-at _ _ (omega arith)) (met _ _ _ _ (eq-same _ _ (both-are _ _ _ _ (c .before .before .crc .ensures) (c .before .word2 .ensures .0) (c .if2 .left))) end)
+returns-3 c = met _ _ _ _ (le-at _ _ (omega arith)) (met _ _ _ _ (eq-same _ _ (both-are _ _ _ _ (c .before .before .crc32-ieee .ensures) (c .before .u32-at .ensures) (c .if2 .left))) end)
 
 pub bounds-spec : {M : Type 1} → statement M
 bounds-spec =
@@ -63,9 +63,9 @@ bounds-spec =
     add-if1
     fail-requires
     returns
-    slice-aggregate-crc
-    crc-requires
-    word-requires-2
+    slice-aggregate-crc32-ieee
+    crc32-ieee-requires
+    u32-at-requires
     fail-requires-2
     returns-2
     returns-3)

@@ -32,7 +32,7 @@ returns : tie.Need-returns Inv-loop μ-loop
 returns c =
     let l = c .before .before .before in
     let h = sym (ap toldList (c .before .t .given .1)) ∙ l .list-at .ensures in
-    seek-no _ _ _ _ _ (omega arith) _ (poly-no _ _ _ _ _ h) ∙ l .before .before .loop .inv .0
+    seek-no _ _ _ _ _ (l .before .loop-test .taken) _ (poly-no _ _ _ _ _ h) ∙ l .before .before .loop .inv .0
 
 enum-known-t-2 : tie.Need-enum-known-t-2 Inv-loop μ-loop
 enum-known-t-2 c = search needs
@@ -53,7 +53,7 @@ returns-2 c =
     let l = t .before .before in
     let h = sym (ap toldList (t .t2 .given .1)) ∙ l .list-at .ensures in
     let e = sym (i .before .before .contains .ensures) ∙ i .before .if1 .taken in
-    seek-no _ _ _ _ _ (omega arith) _ (sym (ap judged (c .before .v .given .1)) ∙ i .poly-inside .ensures ∙ poly-in _ _ _ _ _ h e) ∙ l .before .before .loop .inv .0
+    seek-no _ _ _ _ _ (l .before .loop-test .taken) _ (sym (ap judged (c .before .v .given .1)) ∙ i .poly-inside .ensures ∙ poly-in _ _ _ _ _ h e) ∙ l .before .before .loop .inv .0
 
 enum-known-v-2 : tie.Need-enum-known-v-2 Inv-loop μ-loop
 enum-known-v-2 c = search needs
@@ -65,7 +65,7 @@ returns-3 c =
     let l = t .before .before in
     let h = sym (ap toldList (t .t2 .given .1)) ∙ l .list-at .ensures in
     let e = sym (i .before .before .contains .ensures) ∙ i .before .if1 .taken in
-    seek-yes _ _ _ _ _ (omega arith) _ (sym (ap judged (c .before .before .v2 .given .1)) ∙ i .poly-inside .ensures ∙ poly-in _ _ _ _ _ h e) (c .if2 .taken) ∙ l .before .before .loop .inv .0
+    seek-yes _ _ _ _ _ (l .before .loop-test .taken) _ (sym (ap judged (c .before .before .v2 .given .1)) ∙ i .poly-inside .ensures ∙ poly-in _ _ _ _ _ h e) (c .if2 .taken) ∙ l .before .before .loop .inv .0
 
 add-i : tie.Need-add-i Inv-loop μ-loop
 add-i c = search needs
@@ -89,7 +89,7 @@ loop-again c =
     (λ w. poly-out _ _ _ _ _ h (sym b ∙ w .left))
     (c .if1 .came)
     in
-    (seek-on _ _ _ _ _ (omega arith) _ f refl ∙ l .before .before .loop .inv .0, omega arith)
+    (seek-on _ _ _ _ _ (l .before .loop-test .taken) _ f refl ∙ l .before .before .loop .inv .0, omega arith)
 
 returns-4 : tie.Need-returns-4 Inv-loop μ-loop
 returns-4 c = seek-end _ _ _ _ _ (omega arith) ∙ c .before .loop .inv .0

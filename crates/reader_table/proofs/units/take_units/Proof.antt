@@ -44,7 +44,7 @@ loop-less c = search needs
 loop-again : tie.Need-loop-again Inv-loop μ-loop
 loop-again c =
     let b = c .before .before .before in
-    (search needs, search needs, search needs, take-on _ _ _ _ (b .before .before .loop .inv .3) _ (b .bits-from .ensures) (omega arith) (cc))
+    (search needs, search needs, search needs, take-on _ _ _ _ (b .before .before .loop .inv .3) _ (b .bits-from .ensures) (omega arith) (c .before .if1 .left))
 
 same-length-2 : tie.Need-same-length-2 Inv-loop μ-loop
 same-length-2 c = search needs
