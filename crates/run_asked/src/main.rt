@@ -1,61 +1,20 @@
 // Asks the small files of standard input for names and candidates, and writes how many questions are answered as the list says before
 // the first difference or the list's end. A file is opened, and its record is then asked with its own bytes, with the first of them,
 // and with other bytes.
-use fields::Loaded32;
-use fields::Loaded64;
+use harness::Asking;
+use harness::Said;
+use harness::float;
+use harness::number;
+use harness::size;
 use reader_grid::Candidate;
 use reader_grid::Choice;
 use reader_names::Bounds;
 use reader_opened::Opened;
 use tzb::Opening;
 
-// How many questions were answered rightly, and whether these were all.
-struct Told {
-    count: u64,
-    all: bool,
-}
-
-fn number(r: &[u8], at: usize) -> u32 {
-    match fields::u32_le(r, at) {
-        Loaded32::Value(n) => n,
-        Loaded32::Refused(_) => 0xffff_ffff,
-    }
-}
-
-fn size(n: u32) -> usize {
-    n as usize
-}
-
-fn long(n: u32) -> u64 {
-    n as u64
-}
-
-fn not_a_number() -> f64 {
-    let zero = 0.0;
-    zero / zero
-}
-
-// The float of a pattern. All patterns of NaN are one value.
-fn float_of(bits: u64) -> f64 {
-    if 0x7ff0_0000_0000_0000 < bits % 0x8000_0000_0000_0000 {
-        return not_a_number();
-    }
-    f64::from_bits(bits)
-}
-
-fn float(r: &[u8], at: usize) -> f64 {
-    match fields::u64_le(r, at) {
-        Loaded64::Value(bits) => float_of(bits),
-        Loaded64::Refused(_) => 0.0,
-    }
-}
-
-// A question is 40 bytes: its kind, a zone or a place, a longitude, a latitude; then what is expected: the refusal or 0, two numbers,
-// and one more.
-
 fn is_at(b: Bounds, q: &[u8]) -> bool {
     match b {
-        Bounds::At(from, to) => (from == size(number(q, 28))) & (to == size(number(q, 32))),
+        Bounds::At(from, to) => (from == size(q, 28)) & (to == size(q, 32)),
         Bounds::Refused(why) => why.number == number(q, 24),
     }
 }
@@ -70,163 +29,65 @@ fn is_name(o: Opened, s: &[u8], q: &[u8]) -> bool {
         & (crc::crc32_ieee(name) == number(q, 36))
 }
 
-fn is_listed(count: u32, place: u32, q: &[u8]) -> bool {
-    (number(q, 36) == 2) & (number(q, 28) == count) & (number(q, 32) == place)
-}
-
 // The last number: 0 none, 1 all zones, 2 those listed for a cell, 3 refused. A cell that lists none counts as none.
-fn is_choice(c: Choice, q: &[u8]) -> bool {
+fn choice(c: Choice) -> Said {
     match c {
-        Choice::None => number(q, 36) == 0,
-        Choice::All(count) => (number(q, 36) == 1) & (number(q, 28) == count),
+        Choice::None => Said(0, 0, 0, 0),
+        Choice::All(count) => Said(0, count, 0, 1),
         Choice::Listed(count, place) => {
             if count == 0 {
-                number(q, 36) == 0
+                Said(0, 0, 0, 0)
             } else {
-                is_listed(count, place, q)
+                Said(0, count, place, 2)
             }
         }
-        Choice::Refused(why) => (number(q, 36) == 3) & (why.number == number(q, 24)),
+        Choice::Refused(why) => Said(why.number, 0, 0, 3),
     }
 }
 
-fn is_candidate(c: Candidate, q: &[u8]) -> bool {
+fn candidate(c: Candidate) -> Said {
     match c {
-        Candidate::Zone(zone) => (number(q, 24) == 0) & (number(q, 28) == zone),
-        Candidate::Refused(why) => why.number == number(q, 24),
+        Candidate::Zone(zone) => Said(0, zone, 0, 0),
+        Candidate::Refused(why) => Said::refused(why),
     }
 }
 
+// A question is 40 bytes: its kind, a zone or a place, a longitude, a latitude; then what is expected.
 fn is_answered(o: Opened, s: &[u8], q: &[u8]) -> bool {
     match number(q, 0) {
         1 => is_name(o, s, q),
-        2 => is_choice(tzb::candidates(o, s, float(q, 8), float(q, 16)), q),
-        3 => is_candidate(tzb::candidate_at(o, s, number(q, 4)), q),
+        2 => choice(tzb::candidates(o, s, float(q, 8), float(q, 16))).is_expected(q),
+        3 => candidate(tzb::candidate_at(o, s, number(q, 4))).is_expected(q),
         _ => false,
     }
 }
 
-// Whether there is one more question, and it is answered rightly.
-fn next(o: Opened, s: &[u8]) -> bool {
-    let mut q = [0u8; 40];
-    if io::read_full(0, &mut q) < 40 {
-        return false;
-    }
-    is_answered(o, s, &q)
-}
-
-fn questions(o: Opened, s: &[u8], many: u32) -> u32 {
-    let mut same = 0;
-    while same < many {
-        if !next(o, s) {
-            return same;
-        }
-        same += 1;
-    }
-    same
-}
-
-fn out_of(count: u32, many: u32) -> Told {
-    Told {
-        count: long(count),
-        all: count == many,
-    }
-}
-
-fn none() -> Told {
-    Told {
-        count: 0,
-        all: false,
-    }
-}
-
-// Bytes that are lent for the questions behind them: their length, how many questions, the bytes, zeros.
-fn ask_with(o: Opened, r: &[u8; 1024]) -> Told {
-    let all = &r[..];
-    let n = size(number(all, 0));
-    if 1016 < n {
-        return none();
-    }
-    let many = number(all, 4);
-    out_of(questions(o, &all[8..8 + n], many), many)
-}
-
-fn next_bytes(o: Opened) -> Told {
-    let mut r = [0u8; 1024];
-    if io::read_full(0, &mut r) < 1024 {
-        return none();
-    }
-    ask_with(o, &r)
-}
-
-// A sum that cannot be told is no sum.
-fn plus(a: u64, b: u64) -> u64 {
-    if 1_000_000_000 < a {
-        return 0;
-    }
-    if 1_000_000_000 < b {
-        return 0;
-    }
-    a + b
-}
-
-fn ask(o: Opened, times: u32) -> Told {
-    let mut count = 0;
-    let mut i = 0;
-    while i < times {
-        let t = next_bytes(o);
-        count = plus(count, t.count);
-        if !t.all {
-            return Told { count, all: false };
-        }
-        i += 1;
-    }
-    Told { count, all: true }
-}
-
-fn open_and_ask(file: &[u8], times: u32) -> Told {
+fn replay(file: &[u8], s: &[u8], q: &[u8; 40]) -> bool {
     match tzb::open(file) {
-        Opening::Done(o) => ask(o, times),
-        Opening::Refused(_) => none(),
+        Opening::Done(o) => is_answered(o, s, q),
+        Opening::Refused(_) => false,
     }
 }
 
-// A file: its length, how many times bytes are lent, the file, zeros.
-fn replay(r: &[u8; 1024]) -> Told {
-    let all = &r[..];
-    let n = size(number(all, 0));
-    if 1016 < n {
-        return none();
-    }
-    open_and_ask(&all[8..8 + n], number(all, 4))
-}
-
-fn next_file() -> Told {
-    let mut r = [0u8; 1024];
-    if io::read_full(0, &mut r) < 1024 {
-        return none();
-    }
-    replay(&r)
-}
-
-fn count() -> u64 {
-    let mut same = 0;
-    let mut files = 0u32;
-    while files < 1_000_000 {
-        let t = next_file();
-        same = plus(same, t.count);
-        if !t.all {
-            return same;
-        }
-        files += 1;
-    }
-    same
+// Whether there is one more question, and it is answered rightly.
+fn next(file: &[u8; 1024], lent: &[u8; 1024]) -> bool {
+    let mut q = [0u8; 40];
+    harness::read(&mut q) & replay(harness::held(file), harness::held(lent), &q)
 }
 
 fn main() {
-    io::print_decimal(1, count());
-    io::write_all(
-        1,
+    let mut file = [0u8; 1024];
+    let mut lent = [0u8; 1024];
+    let mut a = Asking::new();
+    while 0 < a.tally.left {
+        if a.questions == 0 {
+            a = a.lend(&mut file, &mut lent);
+        } else {
+            a = a.with(next(&file, &lent));
+        }
+    }
+    harness::tell(
+        a.tally.right,
         b" questions of names and candidates answered as document 01 says\n",
     );
 }

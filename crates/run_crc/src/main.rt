@@ -1,7 +1,6 @@
 // Runs `crc::crc32_ieee` on vectors and prints how many came out right; then at each length from 0 to 64,
 // beside a CRC that is worked out here bit by bit.
 ghost use Prim.Native.Nat.{_≤_};
-use libc::STDOUT_FILENO;
 
 fn right(s: &[u8], want: u32) -> u64
     ensures { λ r. ⌜ r ≤ 1 ⌝ }
@@ -54,94 +53,27 @@ fn golden() -> u64
 fn autosar() -> u64
     ensures { λ r. ⌜ r ≤ 7 ⌝ }
 {
-    right(&[0x00, 0x00, 0x00, 0x00], 0x2144_df1c)
-        + right(&[0xf2, 0x01, 0x83], 0x24ab_9d77)
-        + right(&[0x0f, 0xaa, 0x00, 0x55], 0xb6c9_b287)
-        + right(&[0x00, 0xff, 0x55, 0x11], 0x32a0_6212)
-        + right(
-            &[0x33, 0x22, 0x55, 0xaa, 0xbb, 0xcc, 0xdd, 0xee, 0xff],
-            0xb0ae_863d,
-        )
-        + right(&[0x92, 0x6b, 0x55], 0x9cde_a29b)
-        + right(&[0xff, 0xff, 0xff, 0xff], 0xffff_ffff)
+    right(b"\x00\x00\x00\x00", 0x2144_df1c)
+        + right(b"\xf2\x01\x83", 0x24ab_9d77)
+        + right(b"\x0f\xaa\x00\x55", 0xb6c9_b287)
+        + right(b"\x00\xff\x55\x11", 0x32a0_6212)
+        + right(b"\x33\x22\x55\xaa\xbb\xcc\xdd\xee\xff", 0xb0ae_863d)
+        + right(b"\x92\x6b\x55", 0x9cde_a29b)
+        + right(b"\xff\xff\xff\xff", 0xffff_ffff)
 }
 
 // The four messages of 32 bytes of RFC 3720, B.4. The RFC gives CRC-32C; these numbers are zlib's.
 fn zlib() -> u64
     ensures { λ r. ⌜ r ≤ 4 ⌝ }
 {
-    let rising = [
-        0,
-        1,
-        2,
-        3,
-        4,
-        5,
-        6,
-        7,
-        8,
-        9,
-        10,
-        11,
-        12,
-        13,
-        14,
-        15,
-        16,
-        17,
-        18,
-        19,
-        20,
-        21,
-        22,
-        23,
-        24,
-        25,
-        26,
-        27,
-        28,
-        29,
-        30,
-        31,
-    ];
-    let falling = [
-        31,
-        30,
-        29,
-        28,
-        27,
-        26,
-        25,
-        24,
-        23,
-        22,
-        21,
-        20,
-        19,
-        18,
-        17,
-        16,
-        15,
-        14,
-        13,
-        12,
-        11,
-        10,
-        9,
-        8,
-        7,
-        6,
-        5,
-        4,
-        3,
-        2,
-        1,
-        0,
-    ];
+    let rising = b"\x00\x01\x02\x03\x04\x05\x06\x07\x08\x09\x0a\x0b\x0c\x0d\x0e\x0f\
+        \x10\x11\x12\x13\x14\x15\x16\x17\x18\x19\x1a\x1b\x1c\x1d\x1e\x1f";
+    let falling = b"\x1f\x1e\x1d\x1c\x1b\x1a\x19\x18\x17\x16\x15\x14\x13\x12\x11\x10\
+        \x0f\x0e\x0d\x0c\x0b\x0a\x09\x08\x07\x06\x05\x04\x03\x02\x01\x00";
     right(&[0x00; 32], 0x190a_55ad)
         + right(&[0xff; 32], 0xff6c_ab0b)
-        + right(&rising, 0x9126_7e8a)
-        + right(&falling, 0x9ab0_ef72)
+        + right(rising, 0x9126_7e8a)
+        + right(falling, 0x9ab0_ef72)
 }
 
 // One bit of the register, as it leaves.
@@ -182,20 +114,17 @@ fn by_tables(s: &[u8]) -> u32 {
 fn agrees(p: &[u8], n: usize) -> u64
     ensures { λ r. ⌜ r ≤ 1 ⌝ }
 {
-    if n <= p.len() {
-        let s = &p[..n];
-        if by_tables(s) == slow(s) {
-            right(s, slow(s))
-        } else {
-            0
-        }
+    let s = harness::part(p, 0, n);
+    let want = slow(s);
+    if by_tables(s) == want {
+        right(s, want)
     } else {
         0
     }
 }
 
 // At how many lengths from 0 to 64 they agree.
-fn lengths(p: &[u8]) -> u64 {
+fn lengths(p: &[u8; 64]) -> u64 {
     let mut agreed = 0;
     let mut n: usize = 0;
     while n <= 64 {
@@ -205,82 +134,17 @@ fn lengths(p: &[u8]) -> u64 {
     agreed
 }
 
-// The bytes 13, 180, 91, ..: each is 167 more than the one before it, modulo 256.
-fn pattern() -> [u8; 64] {
-    [
-        13,
-        180,
-        91,
-        2,
-        169,
-        80,
-        247,
-        158,
-        69,
-        236,
-        147,
-        58,
-        225,
-        136,
-        47,
-        214,
-        125,
-        36,
-        203,
-        114,
-        25,
-        192,
-        103,
-        14,
-        181,
-        92,
-        3,
-        170,
-        81,
-        248,
-        159,
-        70,
-        237,
-        148,
-        59,
-        226,
-        137,
-        48,
-        215,
-        126,
-        37,
-        204,
-        115,
-        26,
-        193,
-        104,
-        15,
-        182,
-        93,
-        4,
-        171,
-        82,
-        249,
-        160,
-        71,
-        238,
-        149,
-        60,
-        227,
-        138,
-        49,
-        216,
-        127,
-        38,
-    ]
-}
-
 fn main() {
-    io::write_all(STDOUT_FILENO, b"crc: ");
-    io::print_decimal(STDOUT_FILENO, single() + rhash() + golden() + autosar());
-    io::write_all(STDOUT_FILENO, b" of 20 published vectors, ");
-    io::print_decimal(STDOUT_FILENO, zlib());
-    io::write_all(STDOUT_FILENO, b" of 4 of zlib, ");
-    io::print_decimal(STDOUT_FILENO, lengths(&pattern()));
-    io::write_all(STDOUT_FILENO, b" of 65 lengths\n");
+    // Each is 167 more than the one before it, modulo 256.
+    let pattern = b"\x0d\xb4\x5b\x02\xa9\x50\xf7\x9e\x45\xec\x93\x3a\xe1\x88\x2f\xd6\
+        \x7d\x24\xcb\x72\x19\xc0\x67\x0e\xb5\x5c\x03\xaa\x51\xf8\x9f\x46\
+        \xed\x94\x3b\xe2\x89\x30\xd7\x7e\x25\xcc\x73\x1a\xc1\x68\x0f\xb6\
+        \x5d\x04\xab\x52\xf9\xa0\x47\xee\x95\x3c\xe3\x8a\x31\xd8\x7f\x26";
+    harness::write(b"crc: ");
+    harness::tell(
+        single() + rhash() + golden() + autosar(),
+        b" of 20 published vectors, ",
+    );
+    harness::tell(zlib(), b" of 4 of zlib, ");
+    harness::tell(lengths(pattern), b" of 65 lengths\n");
 }

@@ -29,13 +29,7 @@ fn digit(b: u8) -> u8
 fn same(s: &[u8], from: usize, to: usize, good: bool) -> u64
     ensures { λ r. ⌜ r ≤ 1 ⌝ }
 {
-    if s.len() < to {
-        return 0;
-    }
-    if to < from {
-        return 0;
-    }
-    if utf8::utf8_ok(&s[from..to]) == good {
+    if utf8::utf8_ok(harness::part(s, from, to)) == good {
         1
     } else {
         0
@@ -93,11 +87,11 @@ fn add(c: Tally, s: &[u8], i: usize) -> Tally
             return c;
         }
     }
-    match byte(s, i) {
-        b'+' => with(c, line(s, i + 2, true)),
-        b'-' => with(c, line(s, i + 2, false)),
-        _ => c,
+    let sign = byte(s, i);
+    if (sign != b'+') & (sign != b'-') {
+        return c;
     }
+    with(c, line(s, i + 2, sign == b'+'))
 }
 
 fn run(s: &[u8]) -> Tally {
@@ -118,11 +112,8 @@ fn main() {
     let mut input = io::large_buffer();
     let n = io::read_full(0, &mut input);
     let c = run(&input[..n]);
-    io::write_all(1, b"utf8: ");
-    io::print_decimal(1, c.right);
-    io::write_all(1, b" of ");
-    io::print_decimal(1, c.tried);
-    io::write_all(1, b" right, ");
-    io::print_decimal(1, c.vectors);
-    io::write_all(1, b" vectors\n");
+    harness::write(b"utf8: ");
+    harness::tell(c.right, b" of ");
+    harness::tell(c.tried, b" right, ");
+    harness::tell(c.vectors, b" vectors\n");
 }

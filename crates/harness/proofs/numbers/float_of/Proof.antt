@@ -1,4 +1,4 @@
--- `run_walked::float_of` is safe: a pattern not above that of the infinity, its sign left out, is no NaN's.
+-- `harness::numbers::float_of` is safe: a pattern not above that of the infinity, its sign left out, is no NaN's.
 -- Assumes nothing.
 use mathlib.Core.Path.{sym, _∙_, subst}
 use mathlib.Core.Bool.{Bool, not}
@@ -7,8 +7,8 @@ use borrow.Author.Tests.{le-ltb}
 use lib.Dec.{T}
 use lib.Ieee.{binary64}
 use lib.Ieee.Bits.{nanBits-above}
-use Rattle.run_walked.proofs.float_of.Statement.{statement}
-use Rattle.run_walked.proofs.float_of.Tie as tie
+use Rattle.harness.proofs.numbers.float_of.Statement.{statement}
+use Rattle.harness.proofs.numbers.float_of.Tie as tie
 
 not-a-number-requires : tie.Need-not-a-number-requires
 not-a-number-requires c κs = search needs
