@@ -74,9 +74,9 @@ decode-points-spec =
     returns-2
     first-point-requires
     enum-known-f
+    returns-3
     enum-known-f-2
     sub-decode-from
     decode-from-requires
-    returns-3
     same-length
     returns-4)
