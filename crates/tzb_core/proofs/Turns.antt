@@ -1,6 +1,6 @@
 -- A loop that reads one number a turn: the point that comes next, where of its delta nothing is read yet or its x alone, and what follows from there.
 -- Assumes nothing.
-use Prim.Native.Nat.{ℕ, zero, suc, _+_, _-_, _*_, _<_}
+use Prim.Native.Nat.{ℕ, zero, suc, _+_, _-_, _*_, _≤_, _<_}
 use native.Mathlib.Omega.{arith}
 use mathlib.Core.Path.{_≡_, refl, sym, ap, _∙_}
 use mathlib.Core.Bool.{Bool, true, false, cond, false≢true}
@@ -78,6 +78,24 @@ half-less true n h = absurd (false≢true (sym h))
 pub point-less : (half : Bool) (n : ℕ) → 0 < n → 2 * (n - 1) + cond false 0 1 < 2 * n + cond half 0 1
 point-less false n h = omega arith
 point-less true n h = omega arith
+
+-- none is left
+pub no-more : (n : ℕ) → n ≤ 0 → n ≡ 0
+no-more n h = omega (arith, h)
+
+-- ---- the places of n points more, from i on, of `count` points after the first, two numbers a point
+module _ (i n count : ℕ) (h : 0 < n) (e : i + 2 * n ≡ 2 + 2 * count) where
+  pub place-on : i + 2 + 2 * (n - 1) ≡ 2 + 2 * count
+  place-on = omega (arith, h, e)
+
+  pub place-in : (k m : ℕ) → m ≡ k → 2 + 2 * count ≤ k → i + 1 < m
+  place-in k m s r = omega (arith, h, e, s, r)
+
+pub room-first : (count k : ℕ) → 2 + 2 * count ≤ k → 0 + 1 < k
+room-first count k r = omega (arith, r)
+
+pub room-kept : (n k m : ℕ) → m ≡ k → n ≤ k → n ≤ m
+room-kept n k m s r = omega (arith, s, r)
 
 -- ---- the scan, where the answer to what comes next is a
 module _ (s : List ℕ) (p : Point) (q : I32Point) (n k : ℕ) (a : Answer (I32Point × ℕ)) (h : 0 < n) where

@@ -382,21 +382,27 @@ fn copy(held: &[i32], n: usize, out: &mut [i32])
     }
 }
 
-// The first point, and that many more: all are read before the first number is written. Until then the numbers stay in memory of its own, which has room for 256 points; for more than these the points are read a second time.
-fn decode_from(s: &[u8], count: u16, first: I32Point, from: Place, out: &mut [i32]) -> Checked
+// The first point, and that many more: all are read before the first number is written. Until then the numbers stay in `held`; where it has no room for them, the points are read a second time.
+fn decode_with(
+    s: &[u8],
+    count: u16,
+    first: I32Point,
+    from: Place,
+    held: &mut [i32],
+    out: &mut [i32],
+) -> Checked
     requires { ⌜ 2 + 2 * count ≤ length (now out) ⌝ }
     ensures { λ r. ⌜ (checkedTold r ≡ outcome (led first (pointsFrom (now (s .entry)) count first (from .at)))) × (now (out .exit) ≡ filled (now (out .entry)) (led first (pointsFrom (now (s .entry)) count first (from .at)))) ⌝ }
 {
-    let mut held = [0i32; 512];
-    let c = fill_from(s, count, first, from, &mut held);
+    let c = fill_from(s, count, first, from, held);
     if let Checked::Refused(k) = c {
         return Checked::Refused(k);
     }
     let n = 2 + 2 * (count as usize);
-    if 512 < n {
+    if held.len() < n {
         return fill_from(s, count, first, from, out);
     }
-    copy(&held, n, out);
+    copy(held, n, out);
     Checked::Fine
 }
 
@@ -417,7 +423,9 @@ pub fn decode_points(s: &[u8], count: u16, out: &mut [i32]) -> Checked
             return Checked::Refused(k);
         }
         Spotted::At(q, n) => {
-            return decode_from(s, count - 1, q, n, out);
+            // room for 256 points
+            let mut held = [0i32; 512];
+            return decode_with(s, count - 1, q, n, &mut held, out);
         }
     }
 }

@@ -15,7 +15,7 @@ use Rattle.tzb_core.specs.Along.{alongBy, along-by, by-there}
 use Rattle.tzb_core.specs.Decode.{decoder, outcome, pointsFrom, put, readFrom}
 use Rattle.basics.specs.Signed.{back}
 use Rattle.tzb_core.proofs.Decoded.{put-end, put-on}
-use Rattle.tzb_core.proofs.Turns.{nextOf, turn-none, turn-no, turn-half, turn-to, half-less, point-less, readBy, read-by, check-no, check-on, check-end, read-no, read-on, read-end}
+use Rattle.tzb_core.proofs.Turns.{nextOf, turn-none, turn-no, turn-half, turn-to, half-less, point-less, no-more, place-on, place-in, room-first, room-kept, readBy, read-by, check-no, check-on, check-end, read-no, read-on, read-end}
 use borrow.Author.Needs.{needs}
 use Rattle.tzb_core.proofs.chunk.fill_from.Statement.{statement}
 use Rattle.tzb_core.proofs.chunk.fill_from.Tie as tie
@@ -54,8 +54,8 @@ returns c =
     let e = turn-none _ _ _ _ (l .loop .half) _ (sym (ap told (c .before .a .given .1)) ∙ v .varint .ensures) in (
       check-no _ _ _ _ _ (v .before .loop-test .taken) _ e ∙ l .loop .inv .2,
       λ h. put-end _ _ _ (read-no _ _ _ (v .before .loop-test .taken) _ e)
-          ∙ l .loop .inv .3 (omega (arith, h, l .before .out .given))
-          ∙ put-on _ 0 _ _ _ _ refl (p .put-point .ensures (omega (arith, h))),
+          ∙ l .loop .inv .3 (room-kept _ _ _ (l .before .out .given) h)
+          ∙ put-on _ 0 _ _ _ _ refl (p .put-point .ensures (room-first _ _ h)),
     )
 
 enum-known-a-2 : tie.Need-enum-known-a-2 Inv-loop μ-loop
@@ -86,8 +86,8 @@ returns-2 c =
     let e = turn-no _ _ _ _ _ _ (read k) (l .loop .half) (t .before .if1 .taken) _ (sym (ap moved (c .before .t .given .1)) ∙ t .point-after .ensures) in (
       check-no _ _ _ _ _ (v .before .loop-test .taken) _ e ∙ l .loop .inv .2,
       λ h. put-end _ _ _ (read-no _ _ _ (v .before .loop-test .taken) _ e)
-          ∙ l .loop .inv .3 (omega (arith, h, l .before .out .given))
-          ∙ put-on _ 0 _ _ _ _ refl (p .put-point .ensures (omega (arith, h))),
+          ∙ l .loop .inv .3 (room-kept _ _ _ (l .before .out .given) h)
+          ∙ put-on _ 0 _ _ _ _ refl (p .put-point .ensures (room-first _ _ h)),
     )
 
 enum-known-t-2 : tie.Need-enum-known-t-2 Inv-loop μ-loop
@@ -119,9 +119,9 @@ loop-again c =
     let same : length (p .put-point2 .last .0) ≡ length (l .out) = c .out2 .given in
     let e = turn-to _ _ _ _ _ _ (read (t .before .before)) (l .half) (t .before .if1 .taken) _ (sym (ap moved (k .before .t2 .given .1)) ∙ t .point-after .ensures) in (
       same ∙ l .inv .0,
-      omega arith,
+      place-on _ _ _ h₀ (l .inv .1),
       ap outcome (along-by _ _ _ _ _) ∙ check-on _ _ _ _ _ h₀ _ _ e ∙ l .inv .2,
-      λ h. ap (put _ _) (read-by _ _ _ _) ∙ put-on _ _ _ _ _ _ (read-on _ _ _ h₀ _ _ e) (p .put-point2 .ensures (omega (arith, h))) ∙ l .inv .3 h,
+      λ h. ap (put _ _) (read-by _ _ _ _) ∙ put-on _ _ _ _ _ _ (read-on _ _ _ h₀ _ _ e) (p .put-point2 .ensures (place-in _ _ _ h₀ (l .inv .1) _ _ (l .inv .0) h)) ∙ l .inv .3 h,
     )
 
 loop-less-2 : tie.Need-loop-less-2 Inv-loop μ-loop
@@ -152,11 +152,12 @@ same-length-3 c = search needs
 returns-3 : tie.Need-returns-3 Inv-loop μ-loop
 returns-3 c =
     let l = c .before .before .before in
-    let p = l .before .before in (
-      c .claim .ensures ∙ check-end _ _ _ _ _ (omega arith) _ (c .before .at-end .ensures) ∙ l .loop .inv .2,
-      λ h. put-end _ _ _ (read-end _ _ _ (omega arith))
-          ∙ l .loop .inv .3 (omega (arith, h, l .before .out .given))
-          ∙ put-on _ 0 _ _ _ _ refl (p .put-point .ensures (omega (arith, h))),
+    let p = l .before .before in
+    let z = no-more (l .loop .rest) (c .before .before .loop-test .left) in (
+      c .claim .ensures ∙ check-end _ _ _ _ _ z _ (c .before .at-end .ensures) ∙ l .loop .inv .2,
+      λ h. put-end _ _ _ (read-end _ _ _ z)
+          ∙ l .loop .inv .3 (room-kept _ _ _ (l .before .out .given) h)
+          ∙ put-on _ 0 _ _ _ _ refl (p .put-point .ensures (room-first _ _ h)),
     )
 
 pub fill-from-spec : {M : Type 1} → statement M

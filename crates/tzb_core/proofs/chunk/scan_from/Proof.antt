@@ -1,7 +1,6 @@
 -- `chunk::scan_from` meets its contract: with the parity so far added to what is left, the whole stays the same; the x of a delta waits for its y.
 -- Assumes nothing.
 use Prim.Native.Nat.{_+_, _*_}
-use native.Mathlib.Omega.{arith}
 use mathlib.Core.Path.{_≡_, sym, ap, _∙_}
 use mathlib.Core.Bool.{true, cond}
 use mir.Syntax.{w32}
@@ -15,7 +14,7 @@ use Rattle.tzb_core.specs.Varint.{told, numberAt}
 use Rattle.tzb_core.specs.Points.{moved}
 use Rattle.tzb_core.specs.Along.{alongBy, along-by, by-left, by-end, by-no, by-there}
 use Rattle.tzb_core.specs.Scan.{scanner, onward}
-use Rattle.tzb_core.proofs.Turns.{nextOf, turn-none, turn-no, turn-half, turn-to, turn-in, half-less, point-less, by-on, by-off}
+use Rattle.tzb_core.proofs.Turns.{nextOf, turn-none, turn-no, turn-half, turn-to, turn-in, half-less, point-less, no-more, by-on, by-off}
 use Rattle.basics.specs.Signed.{back}
 use borrow.Author.Needs.{needs}
 use Rattle.tzb_core.proofs.chunk.scan_from.Statement.{statement}
@@ -139,7 +138,7 @@ at-end-requires c κs = search needs
 returns-4 : tie.Need-returns-4 Inv-loop μ-loop
 returns-4 c =
     let l = c .before .before .before in
-    ends _ _ _ (l .loop .inv .1) _ (by-end _ _ _ _ _ _ (omega arith) (sym (c .before .at-end .ensures) ∙ c .if2 .taken))
+    ends _ _ _ (l .loop .inv .1) _ (by-end _ _ _ _ _ _ (no-more _ (c .before .before .loop-test .left)) (sym (c .before .at-end .ensures) ∙ c .if2 .taken))
 
 refuse-requires : tie.Need-refuse-requires Inv-loop μ-loop
 refuse-requires c κs = search needs
@@ -148,7 +147,7 @@ returns-5 : tie.Need-returns-5 Inv-loop μ-loop
 returns-5 c =
     let l = c .before .before .before .before in
     ap broken (c .refuse .ensures)
-    ∙ breaks _ _ _ (l .loop .inv .1) _ (by-left _ _ _ _ _ _ (omega arith) (sym (c .before .before .at-end .ensures) ∙ c .before .if2 .left))
+    ∙ breaks _ _ _ (l .loop .inv .1) _ (by-left _ _ _ _ _ _ (no-more _ (c .before .before .before .loop-test .left)) (sym (c .before .before .at-end .ensures) ∙ c .before .if2 .left))
 
 pub scan-from-spec : {M : Type 1} → statement M
 scan-from-spec =

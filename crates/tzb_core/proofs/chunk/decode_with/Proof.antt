@@ -1,4 +1,4 @@
--- `chunk::decode_from` meets its contract: nothing is written where a point cannot be read, and all points where all can.
+-- `chunk::decode_with` meets its contract: nothing is written where a point cannot be read, and all points where all can.
 -- Assumes nothing.
 use Prim.Native.Nat.{_+_, _*_}
 use mathlib.Core.Path.{sym, ap, _∙_}
@@ -10,17 +10,17 @@ use Rattle.tzb_core.specs.Decode.{outcome, pointsFrom, filled}
 use Rattle.tzb_core.proofs.Decoded.{wrote, copied, led-same, led-fine, led-no}
 use native.Mathlib.Omega.{arith}
 use borrow.Author.Needs.{needs}
-use Rattle.tzb_core.proofs.chunk.decode_from.Statement.{statement}
-use Rattle.tzb_core.proofs.chunk.decode_from.Tie as tie
-
-slice-aggregate-fill-from : tie.Need-slice-aggregate-fill-from
-slice-aggregate-fill-from c = search needs
+use Rattle.tzb_core.proofs.chunk.decode_with.Statement.{statement}
+use Rattle.tzb_core.proofs.chunk.decode_with.Tie as tie
 
 fill-from-requires : tie.Need-fill-from-requires
 fill-from-requires c κs = search needs
 
 enum-known-c : tie.Need-enum-known-c
 enum-known-c c = search needs
+
+same-length : tie.Need-same-length
+same-length c = search needs
 
 returns : tie.Need-returns
 returns c =
@@ -41,8 +41,11 @@ add-n c = search needs
 fill-from-requires-2 : tie.Need-fill-from-requires-2
 fill-from-requires-2 c κs = search needs
 
-same-length : tie.Need-same-length
-same-length c = search needs
+same-length-2 : tie.Need-same-length-2
+same-length-2 c = search needs
+
+same-length-3 : tie.Need-same-length-3
+same-length-3 c = search needs
 
 returns-2 : tie.Need-returns-2
 returns-2 c =
@@ -56,14 +59,14 @@ returns-2 c =
       again .fill-from2 .ensures .1 (start .pre) ∙ wrote (a .s .now) (a .count) (a .first) (a .from .at) fine (a .out .now) (start .pre),
     )
 
-slice-aggregate-copy : tie.Need-slice-aggregate-copy
-slice-aggregate-copy c = search needs
-
 copy-requires : tie.Need-copy-requires
 copy-requires c κs = search needs
 
-same-length-2 : tie.Need-same-length-2
-same-length-2 c = search needs
+same-length-4 : tie.Need-same-length-4
+same-length-4 c = search needs
+
+same-length-5 : tie.Need-same-length-5
+same-length-5 c = search needs
 
 returns-3 : tie.Need-returns-3
 returns-3 c =
@@ -77,24 +80,25 @@ returns-3 c =
       led-fine (a .first) (pointsFrom (a .s .now) (a .count) (a .first) (a .from .at)) fine,
       given .copy .ensures
           ∙ ap (λ (l : List ℤ). take (2 + 2 * a .count) l ++ drop (2 + 2 * a .count) (a .out .now)) (f .fill-from .ensures .1 (omega arith))
-          ∙ copied (a .s .now) (a .count) (a .first) (a .from .at) fine _ (a .out .now) (omega arith),
+          ∙ copied (a .s .now) (a .count) (a .first) (a .from .at) fine (a .held .now) (a .out .now) (omega arith),
     )
 
-pub decode-from-spec : {M : Type 1} → statement M
-decode-from-spec =
+pub decode-with-spec : {M : Type 1} → statement M
+decode-with-spec =
     tie.close
     (tie.spec
-    slice-aggregate-fill-from
     fill-from-requires
     enum-known-c
+    same-length
     returns
     enum-told
     mul-n
     add-n
     fill-from-requires-2
-    same-length
-    returns-2
-    slice-aggregate-copy
-    copy-requires
     same-length-2
+    same-length-3
+    returns-2
+    copy-requires
+    same-length-4
+    same-length-5
     returns-3)
