@@ -21,8 +21,8 @@ widen h = record { sfits = omega (arith, h .sfits) }
 pub wide-eq : {a : ℤ} → SFits w32 a → toZ w64 (ofZ w64 (toZ w32 (ofZ w32 a))) ≡ a
 wide-eq {a} h = rw (toZ-ofZ w32 a h) (toZ-ofZ w64 a (widen h))
 
-pub sum-fits : {a b : ℤ} → SFits w32 a → SFits w32 b → SFits w64 (a +ℤ b)
-sum-fits {a} {b} h k =
+pub sums-fit : {a b : ℤ} → SFits w32 a → SFits w32 b → SFits w64 (a +ℤ b)
+sums-fit {a} {b} h k =
     record { sfits = omega (arith, mag-le (a +ℤ b), natAbs-le a (h .sfits), natAbs-le b (k .sfits), sum-abs a b) }
 
 pub fits-small : (z : ℤ) → fits32 z ≡ true → SFits w32 z

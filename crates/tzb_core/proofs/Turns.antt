@@ -1,14 +1,14 @@
 -- A loop that reads one number a turn: the point that comes next, where of its delta nothing is read yet or its x alone, and what follows from there.
 -- Assumes nothing.
-use Prim.Native.Nat.{ℕ, zero, suc, _+_, _-_, _*_, _<_}
+use Prim.Native.Nat.{ℕ, zero, suc, _+_, _-_, _*_, _≤_, _<_}
 use native.Mathlib.Omega.{arith}
 use mathlib.Core.Path.{_≡_, refl, sym, ap, _∙_}
-use mathlib.Core.Bool.{Bool, true, false, cond}
+use mathlib.Core.Bool.{Bool, true, false, cond, false≢true}
 use mathlib.Core.List.{List, [], _∷_}
 use lib.IntN.{ℤ}
 use Rattle.answer.specs.declared.Refusal.{Refusal}
 use Rattle.answer.specs.Checks.{claim}
-use Rattle.answer.specs.Answers.{Answer, ok, refused, _then_, need, zero-one, then-inv, need-inv, ok-inv}
+use Rattle.answer.specs.Answers.{Answer, ok, refused, _then_, need, then-inv, need-inv, ok-inv}
 use Rattle.answer.specs.Walks.{on, add}
 use Rattle.plane.specs.declared.Point.{Point}
 use Rattle.plane.specs.declared.I32Point.{I32Point}
@@ -16,17 +16,11 @@ use Rattle.plane.specs.Sight.{On, Off}
 use Rattle.plane.specs.Domain.{inDomain}
 use Rattle.tzb_core.specs.Ray.{rayOf}
 use Rattle.tzb_core.specs.Varint.{numberAt, atEnd}
-use Rattle.tzb_core.specs.Points.{point, numbersAt, movedBy, inside, nextAt, arrive, turnTo, turnOf, numbers-first, next-no}
+use Rattle.tzb_core.specs.Points.{point, movedBy, nextAt, arrive, placed, next-arrives, numbers-first, numbers-second, numbers-both, next-no}
 use Rattle.tzb_core.specs.Along.{follow, along, alongBy, by-no, by-to}
 use Rattle.tzb_core.specs.Scan.{scanner, segment-on, segment-off}
 use Rattle.tzb_core.specs.Decode.{decoder, outcome, readFrom}
-use Rattle.tzb_core.specs.declared.chunk.Turned.{Turned}
-use Rattle.tzb_core.specs.declared.chunk.Turned.the-variants as T
 use Rattle.tzb_core.proofs.Decoded.{led-same}
-
--- a point, and the place after it
-abbrev placed : ℕ → I32Point → Answer (I32Point × ℕ)
-placed n t = ok (t, n)
 
 -- the point after q, of whose delta x is read; the bytes of y stand at k
 unfoldable pub nextAfter : List ℕ → I32Point → ℤ → ℕ → Answer (I32Point × ℕ)
@@ -38,40 +32,14 @@ nextOf false s q x k = nextAt s q k
 nextOf true s q x k = nextAfter s q x k
 
 next-x : (s : List ℕ) (q : I32Point) (k : ℕ) (x : ℤ) (m : ℕ) → ok (x, m) ≡ numberAt s k → nextAfter s q x m ≡ nextAt s q k
-unfolding nextAfter nextAt numbersAt arrive inside
-next-x s q k x m e = rw (← e) (with-y (numberAt s m))
+unfolding nextAfter
+next-x s q k x m e = with-y (numberAt s m) refl
   where
-    in-domain : (b : Bool) (t : I32Point) (n : ℕ) → (need 42 b (ok t) then placed n) ≡ need 42 b (placed n t)
-    in-domain true t n = refl
-    in-domain false t n = refl
-
-    arrived : (a : Answer I32Point) (n : ℕ) → ((a then λ t. need 42 (inDomain t) (ok t)) then placed n) ≡ (a then λ t. need 42 (inDomain t) (placed n t))
-    arrived (ok t) n = in-domain (inDomain t) t n
-    arrived (refused r) n = refl
-
-    with-y : (a : Answer (ℤ × ℕ)) → (a then λ y. (movedBy q (point x (y .0)) then λ t. need 42 (inDomain t) (ok t)) then placed (y .1)) ≡ ((a then λ y. placed (y .1) (point x (y .0))) then λ d. movedBy q (d .0) then λ t. need 42 (inDomain t) (placed (d .1) t))
-    with-y (ok y) = arrived (movedBy q (point x (y .0))) (y .1)
-    with-y (refused r) = refl
+    with-y : (a : Answer (ℤ × ℕ)) → numberAt s m ≡ a → (a then λ y. arrive q (point x (y .0)) then placed (y .1)) ≡ nextAt s q k
+    with-y (ok y) f = next-arrives s q (point x (y .0)) k (y .1) (numbers-both s k x (y .0) m (y .1) e (sym f))
+    with-y (refused r) f = next-no s q k r (numbers-second s k x m r e (sym f))
 
 -- ---- one number more
-half-not-refused : (r : Refusal) → T.Refused r ≡ T.Half → ⊥
-half-not-refused r e = let z : _≡_ {A = ℕ} 0 1 = cc in zero-one z
-
-half-not-to : (t : I32Point) → T.To t ≡ T.Half → ⊥
-half-not-to t e = let z : _≡_ {A = ℕ} 0 1 = cc in zero-one z
-
-turn-arrived : (a : Answer I32Point) (t : I32Point) → T.To t ≡ turnTo a → ok t ≡ a
-turn-arrived (ok u) t e = let z : t ≡ u = cc in ap ok z
-turn-arrived (refused r) t e = let z : _≡_ {A = ℕ} 0 1 = cc in absurd (zero-one z)
-
-turn-refused : (a : Answer I32Point) (r : Refusal) → T.Refused r ≡ turnTo a → refused r ≡ a
-turn-refused (ok u) r e = let z : _≡_ {A = ℕ} 0 1 = cc in absurd (zero-one z)
-turn-refused (refused k) r e = let z : r ≡ k = cc in ap refused z
-
-turn-not-half : (a : Answer I32Point) → T.Half ≡ turnTo a → ⊥
-turn-not-half (ok u) e = half-not-to u (sym e)
-turn-not-half (refused r) e = half-not-refused r (sym e)
-
 module _ (s : List ℕ) (q : I32Point) (x : ℤ) (k : ℕ) where
   pub turn-none : (half : Bool) (r : Refusal) → refused r ≡ numberAt s k → refused r ≡ nextOf half s q x k
   unfolding nextOf nextAfter
@@ -79,39 +47,55 @@ module _ (s : List ℕ) (q : I32Point) (x : ℤ) (k : ℕ) where
   turn-none true r e = rw (← e)
 
   module _ (d : ℤ) (m : ℕ) (e : ok (d, m) ≡ numberAt s k) where
-    pub turn-no : (half : Bool) (r : Refusal) → T.Refused r ≡ turnOf q half x d → refused r ≡ nextOf half s q x k
-    unfolding nextOf nextAfter turnOf
-    turn-no false r h = absurd (half-not-refused r h)
-    turn-no true r h = rw (← e, ← turn-refused (arrive q (point x d)) r h)
+    pub turn-half : (half : Bool) → half ≡ false → nextOf true s q d m ≡ nextOf half s q x k
+    unfolding nextOf
+    turn-half half h = rw h (next-x s q k d m e)
 
-    pub turn-half : (half : Bool) → T.Half ≡ turnOf q half x d → nextOf true s q d m ≡ nextOf half s q x k
-    unfolding nextOf turnOf
-    turn-half false h = next-x s q k d m e
-    turn-half true h = absurd (turn-not-half (arrive q (point x d)) h)
+    -- the number is the y of the delta
+    turn-with : (half : Bool) → half ≡ true → (a : Answer I32Point) → a ≡ arrive q (point x d) → (a then placed m) ≡ nextOf half s q x k
+    unfolding nextOf nextAfter
+    turn-with half h a f = rw (h, ← e, f)
 
-    pub turn-to : (half : Bool) (t : I32Point) → T.To t ≡ turnOf q half x d → ok (t, m) ≡ nextOf half s q x k
-    unfolding nextOf nextAfter turnOf
-    turn-to false t h = absurd (half-not-to t h)
-    turn-to true t h = rw (← e, ← turn-arrived (arrive q (point x d)) t h)
+    pub turn-no : (half : Bool) → half ≡ true → (r : Refusal) → refused r ≡ arrive q (point x d) → refused r ≡ nextOf half s q x k
+    turn-no half h r f = turn-with half h (refused r) f
+
+    pub turn-to : (half : Bool) → half ≡ true → (t : I32Point) → ok t ≡ arrive q (point x d) → ok (t, m) ≡ nextOf half s q x k
+    turn-to half h t f = turn-with half h (ok t) f
 
 -- the point lies in the domain
-pub turn-in : (q : I32Point) (half : Bool) (x d : ℤ) (t : I32Point) → T.To t ≡ turnOf q half x d → inDomain t ≡ true
-unfolding turnOf arrive
-turn-in q false x d t h = absurd (half-not-to t h)
-turn-in q true x d t h =
-    let g = then-inv (movedBy q (point x d)) (λ u. need 42 (inDomain u) (ok u)) t (turn-arrived (arrive q (point x d)) t h) in
+pub turn-in : (q d t : I32Point) → ok t ≡ arrive q d → inDomain t ≡ true
+unfolding arrive
+turn-in q d t h =
+    let g = then-inv (movedBy q d) (λ u. need 42 (inDomain u) (ok u)) t h in
     let w = need-inv 42 (inDomain (g .0)) (ok (g .0)) t (g .2) in
     ap inDomain (ok-inv t (g .0) (w .1)) ∙ w .0
 
 -- the numbers that are left, of n points, grow fewer
-pub half-less : (q : I32Point) (half : Bool) (x d : ℤ) (n : ℕ) → T.Half ≡ turnOf q half x d → 2 * n + cond true 0 1 < 2 * n + cond half 0 1
-unfolding turnOf
-half-less q false x d n h = omega arith
-half-less q true x d n h = absurd (turn-not-half (arrive q (point x d)) h)
+pub half-less : (half : Bool) (n : ℕ) → half ≡ false → 2 * n + cond true 0 1 < 2 * n + cond half 0 1
+half-less false n h = omega arith
+half-less true n h = absurd (false≢true (sym h))
 
 pub point-less : (half : Bool) (n : ℕ) → 0 < n → 2 * (n - 1) + cond false 0 1 < 2 * n + cond half 0 1
 point-less false n h = omega arith
 point-less true n h = omega arith
+
+-- none is left
+pub no-more : (n : ℕ) → n ≤ 0 → n ≡ 0
+no-more n h = omega (arith, h)
+
+-- ---- the places of n points more, from i on, of `count` points after the first, two numbers a point
+module _ (i n count : ℕ) (h : 0 < n) (e : i + 2 * n ≡ 2 + 2 * count) where
+  pub place-on : i + 2 + 2 * (n - 1) ≡ 2 + 2 * count
+  place-on = omega (arith, h, e)
+
+  pub place-in : (k m : ℕ) → m ≡ k → 2 + 2 * count ≤ k → i + 1 < m
+  place-in k m s r = omega (arith, h, e, s, r)
+
+pub room-first : (count k : ℕ) → 2 + 2 * count ≤ k → 0 + 1 < k
+room-first count k r = omega (arith, r)
+
+pub room-kept : (n k m : ℕ) → m ≡ k → n ≤ k → n ≤ m
+room-kept n k m s r = omega (arith, s, r)
 
 -- ---- the scan, where the answer to what comes next is a
 module _ (s : List ℕ) (p : Point) (q : I32Point) (n k : ℕ) (a : Answer (I32Point × ℕ)) (h : 0 < n) where

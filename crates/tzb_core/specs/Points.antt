@@ -1,7 +1,7 @@
 -- Document 01, "Chunk bytes": the first point whole, then deltas. The bytes s are one chunk's own; a place counts from its first byte.
 -- Assumes nothing.
 use Prim.Native.Nat.{ℕ}
-use mathlib.Core.Path.{_≡_}
+use mathlib.Core.Path.{_≡_, refl, ap, _∙_}
 use mathlib.Core.Bool.{Bool, true, false}
 use mathlib.Core.List.{List}
 use lib.IntN.{ℤ}
@@ -15,8 +15,6 @@ use Rattle.tzb_core.specs.declared.chunk.Spotted.{Spotted}
 use Rattle.tzb_core.specs.declared.chunk.Spotted.the-variants as S
 use Rattle.tzb_core.specs.declared.chunk.Moved.{Moved}
 use Rattle.tzb_core.specs.declared.chunk.Moved.the-variants as M
-use Rattle.tzb_core.specs.declared.chunk.Turned.{Turned}
-use Rattle.tzb_core.specs.declared.chunk.Turned.the-variants as T
 
 abbrev pub point : ℤ → ℤ → I32Point
 point x y = record { x = x; y = y }
@@ -73,60 +71,69 @@ module _ (s : List ℕ) (p : ℕ) where
   unfolding numbersAt
   numbers-both x y n m e f = rw (← e, ← f)
 
-module _ (q d : I32Point) where
-  pub moved-x : (r : Refusal) → refused r ≡ addDelta (q .x) (d .x) → refused r ≡ movedBy q d
-  unfolding movedBy
-  moved-x r e = rw (← e)
-
-  pub moved-y : (x : ℤ) (r : Refusal) → ok x ≡ addDelta (q .x) (d .x) → refused r ≡ addDelta (q .y) (d .y) → refused r ≡ movedBy q d
-  unfolding movedBy
-  moved-y x r e f = rw (← e, ← f)
-
-  pub moved-to : (x y : ℤ) → ok x ≡ addDelta (q .x) (d .x) → ok y ≡ addDelta (q .y) (d .y) → ok (point x y) ≡ movedBy q d
-  unfolding movedBy
-  moved-to x y e f = rw (← e, ← f)
-
-module _ (q : I32Point) (p : ℕ) where
-  pub inside-not : inDomain q ≡ false → no 42 ≡ inside q p
-  unfolding inside
-  inside-not h = rw h
-
-  pub inside-yes : inDomain q ≡ true → ok (q, p) ≡ inside q p
-  unfolding inside
-  inside-yes h = rw h
-
 module _ (s : List ℕ) where
   pub first-no : (r : Refusal) → refused r ≡ numbersAt s 0 → refused r ≡ firstOf s
   unfolding firstOf
   first-no r e = rw (← e)
 
-  pub first-at : (q : I32Point) (p : ℕ) → ok (q, p) ≡ numbersAt s 0 → inside q p ≡ firstOf s
-  unfolding firstOf
-  first-at q p e = rw (← e)
+  module _ (q : I32Point) (p : ℕ) (e : ok (q, p) ≡ numbersAt s 0) where
+    pub first-out : inDomain q ≡ false → no 42 ≡ firstOf s
+    unfolding firstOf inside
+    first-out h = rw (← e, h)
 
-  module _ (q : I32Point) (p : ℕ) where
-    pub next-no : (r : Refusal) → refused r ≡ numbersAt s p → refused r ≡ nextAt s q p
-    unfolding nextAt
-    next-no r e = rw (← e)
-
-    pub next-over : (r : Refusal) (d : I32Point) (m : ℕ) → ok (d, m) ≡ numbersAt s p → refused r ≡ movedBy q d → refused r ≡ nextAt s q p
-    unfolding nextAt
-    next-over r d m e f = rw (← e, ← f)
-
-    pub next-at : (d t : I32Point) (m : ℕ) → ok (d, m) ≡ numbersAt s p → ok t ≡ movedBy q d → inside t m ≡ nextAt s q p
-    unfolding nextAt
-    next-at d t m e f = rw (← e, ← f)
+    pub first-in : inDomain q ≡ true → ok (q, p) ≡ firstOf s
+    unfolding firstOf inside
+    first-in h = rw (← e, h)
 
 -- ---- what the code's steps answer
 -- the point that a delta d leads to from q, in the domain
 unfoldable pub arrive : I32Point → I32Point → Answer I32Point
 arrive q d = movedBy q d then λ t. need 42 (inDomain t) (ok t)
 
-abbrev pub turnTo : Answer I32Point → Turned
-turnTo (ok t) = T.To t
-turnTo (refused r) = T.Refused r
+module _ (q : I32Point) (x y : ℤ) where
+  pub arrive-x : (r : Refusal) → refused r ≡ addDelta (q .x) x → refused r ≡ arrive q (point x y)
+  unfolding arrive movedBy
+  arrive-x r e = rw (← e)
 
--- one number n more of a delta: its x alone, or with the x that was read before it a point
-unfoldable pub turnOf : I32Point → Bool → ℤ → ℤ → Turned
-turnOf q false x n = T.Half
-turnOf q true x n = turnTo (arrive q (point x n))
+  module _ (u : ℤ) (e : ok u ≡ addDelta (q .x) x) where
+    pub arrive-y : (r : Refusal) → refused r ≡ addDelta (q .y) y → refused r ≡ arrive q (point x y)
+    unfolding arrive movedBy
+    arrive-y r f = rw (← e, ← f)
+
+    module _ (v : ℤ) (f : ok v ≡ addDelta (q .y) y) where
+      pub arrive-out : inDomain (point u v) ≡ false → no 42 ≡ arrive q (point x y)
+      unfolding arrive movedBy
+      arrive-out h = rw (← e, ← f, h)
+
+      pub arrive-in : inDomain (point u v) ≡ true → ok (point u v) ≡ arrive q (point x y)
+      unfolding arrive movedBy
+      arrive-in h = rw (← e, ← f, h)
+
+-- a point, and the place after it
+abbrev pub placed : ℕ → I32Point → Answer (I32Point × ℕ)
+placed n t = ok (t, n)
+
+-- the point after q, the numbers of whose delta are d
+pub next-arrives : (s : List ℕ) (q d : I32Point) (p m : ℕ) → ok (d, m) ≡ numbersAt s p → (arrive q d then placed m) ≡ nextAt s q p
+unfolding nextAt arrive inside
+next-arrives s q d p m e = rw (← e) (arrived (movedBy q d))
+  where
+    in-domain : (b : Bool) (t : I32Point) → (need 42 b (ok t) then placed m) ≡ need 42 b (placed m t)
+    in-domain true t = refl
+    in-domain false t = refl
+
+    arrived : (a : Answer I32Point) → ((a then λ t. need 42 (inDomain t) (ok t)) then placed m) ≡ (a then λ t. need 42 (inDomain t) (placed m t))
+    arrived (ok t) = in-domain (inDomain t) t
+    arrived (refused r) = refl
+
+module _ (s : List ℕ) (q : I32Point) (p : ℕ) where
+  pub next-no : (r : Refusal) → refused r ≡ numbersAt s p → refused r ≡ nextAt s q p
+  unfolding nextAt
+  next-no r e = rw (← e)
+
+  module _ (d : I32Point) (m : ℕ) (e : ok (d, m) ≡ numbersAt s p) where
+    pub next-over : (r : Refusal) → refused r ≡ arrive q d → refused r ≡ nextAt s q p
+    next-over r f = ap (λ (a : Answer I32Point). a then placed m) f ∙ next-arrives s q d p m e
+
+    pub next-to : (t : I32Point) → ok t ≡ arrive q d → ok (t, m) ≡ nextAt s q p
+    next-to t f = ap (λ (a : Answer I32Point). a then placed m) f ∙ next-arrives s q d p m e

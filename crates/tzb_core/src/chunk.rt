@@ -1,6 +1,6 @@
 // Chunk code: the points of one chunk's bytes, the scan of its segments, and the trace of a box. The bytes s are that chunk's own.
 ghost use mathlib.Core.Path.{_≡_};
-ghost use mathlib.Core.Bool.{true, _||_};
+ghost use mathlib.Core.Bool.{true};
 ghost use Prim.Native.Nat.{_+_, _*_, _≤_, _<_};
 ghost use mathlib.Core.List.{_∷_, _++_};
 ghost use lib.ListN.{length, set, take, drop};
@@ -8,9 +8,9 @@ ghost use Rattle.answer.specs.Answers.{checkedTold};
 ghost use Rattle.plane.specs.Sight.{seenTold};
 ghost use Rattle.plane.specs.Domain.{inDomain};
 ghost use Rattle.boxes.specs.Box.{inBox};
-ghost use Rattle.tzb_core.specs.Points.{spotted, moved, movedBy, numbersAt, inside, firstOf, nextAt, turnOf};
+ghost use Rattle.tzb_core.specs.Points.{point, spotted, moved, numbersAt, firstOf, nextAt, arrive};
 ghost use Rattle.tzb_core.specs.Ray.{rayOf};
-ghost use Rattle.tzb_core.specs.Scan.{scanned, onward, scanOf, Around, bothBelow, bothAbove, aside};
+ghost use Rattle.tzb_core.specs.Scan.{scanned, onward, scanOf, Around, aside};
 ghost use Rattle.tzb_core.specs.Along.{along};
 ghost use Rattle.tzb_core.specs.Trace.{toldTrace, also, tracer, traceOf};
 ghost use Rattle.tzb_core.specs.Decode.{outcome, pointsFrom, led, filled, decodeOf, decoded, put, readFrom};
@@ -32,14 +32,8 @@ pub enum Spotted {
     Refused(Refusal),
 }
 
+// The point that a delta leads to.
 enum Moved {
-    To(I32Point),
-    Refused(Refusal),
-}
-
-// What one more number makes of a delta: its x alone, which waits for its y, or a point.
-enum Turned {
-    Half,
     To(I32Point),
     Refused(Refusal),
 }
@@ -69,42 +63,47 @@ fn numbers(s: &[u8], at: Place) -> Spotted
 {
     let a = at.varint(s);
     match a {
-        Read::Refused(k) => Spotted::Refused(k),
+        Read::Refused(k) => {
+            return Spotted::Refused(k);
+        }
         Read::Number(x, n) => {
             let b = n.varint(s);
             match b {
-                Read::Refused(k) => Spotted::Refused(k),
-                Read::Number(y, m) => Spotted::At(I32Point { x, y }, m),
+                Read::Refused(k) => {
+                    return Spotted::Refused(k);
+                }
+                Read::Number(y, m) => {
+                    return Spotted::At(I32Point { x, y }, m);
+                }
             }
         }
     }
 }
 
-// A delta added to the point before it.
-fn shifted(q: I32Point, d: I32Point) -> Moved
-    ensures { λ r. ⌜ moved r ≡ movedBy q d ⌝ }
+// The point that a delta of x and y leads to from q: it must lie in the domain.
+fn point_after(q: I32Point, x: i32, y: i32) -> Moved
+    ensures { λ r. ⌜ moved r ≡ arrive q (point x y) ⌝ }
 {
-    let a = delta::add_delta(q.x, d.x);
+    let a = delta::add_delta(q.x, x);
     match a {
-        Sum::Refused(k) => Moved::Refused(k),
-        Sum::Of(x) => {
-            let b = delta::add_delta(q.y, d.y);
+        Sum::Refused(k) => {
+            return Moved::Refused(k);
+        }
+        Sum::Of(u) => {
+            let b = delta::add_delta(q.y, y);
             match b {
-                Sum::Refused(k) => Moved::Refused(k),
-                Sum::Of(y) => Moved::To(I32Point { x, y }),
+                Sum::Refused(k) => {
+                    return Moved::Refused(k);
+                }
+                Sum::Of(v) => {
+                    let t = I32Point { x: u, y: v };
+                    if boxes::point_in_domain(t) {
+                        return Moved::To(t);
+                    }
+                    return Moved::Refused(answer::refuse(42));
+                }
             }
         }
-    }
-}
-
-// A point that must lie in the domain.
-fn inside_at(q: I32Point, n: Place) -> Spotted
-    ensures { λ r. ⌜ spotted r ≡ inside q (n .at) ⌝ }
-{
-    if boxes::point_in_domain(q) {
-        Spotted::At(q, n)
-    } else {
-        Spotted::Refused(answer::refuse(42))
     }
 }
 
@@ -114,8 +113,15 @@ pub fn first_point(s: &[u8]) -> Spotted
 {
     let t = numbers(s, Place { at: 0 });
     match t {
-        Spotted::Refused(k) => Spotted::Refused(k),
-        Spotted::At(q, n) => inside_at(q, n),
+        Spotted::Refused(k) => {
+            return Spotted::Refused(k);
+        }
+        Spotted::At(q, n) => {
+            if boxes::point_in_domain(q) {
+                return Spotted::At(q, n);
+            }
+            return Spotted::Refused(answer::refuse(42));
+        }
     }
 }
 
@@ -125,32 +131,18 @@ pub fn next_point(s: &[u8], q: I32Point, at: Place) -> Spotted
 {
     let t = numbers(s, at);
     match t {
-        Spotted::Refused(k) => Spotted::Refused(k),
-        Spotted::At(d, n) => {
-            let m = shifted(q, d);
-            match m {
-                Moved::Refused(k) => Spotted::Refused(k),
-                Moved::To(t) => inside_at(t, n),
-            }
+        Spotted::Refused(k) => {
+            return Spotted::Refused(k);
         }
-    }
-}
-
-// One more number of a delta to the point q: with its x read before, this is its y.
-fn turn(q: I32Point, half: bool, x: i32, number: i32) -> Turned
-    ensures { λ r. ⌜ r ≡ turnOf q half x number ⌝ }
-{
-    if !half {
-        return Turned::Half;
-    }
-    let m = shifted(q, I32Point { x, y: number });
-    match m {
-        Moved::Refused(k) => Turned::Refused(k),
-        Moved::To(t) => {
-            if boxes::point_in_domain(t) {
-                Turned::To(t)
-            } else {
-                Turned::Refused(answer::refuse(42))
+        Spotted::At(d, n) => {
+            let m = point_after(q, d.x, d.y);
+            match m {
+                Moved::Refused(k) => {
+                    return Spotted::Refused(k);
+                }
+                Moved::To(t) => {
+                    return Spotted::At(t, n);
+                }
             }
         }
     }
@@ -175,27 +167,6 @@ fn band_at(y: f64) -> Band
     }
 }
 
-fn both_below(u: i32, v: i32, lo: i32) -> bool
-    ensures { λ r. ⌜ r ≡ bothBelow u v lo ⌝ }
-{
-    if u < lo { v < lo } else { false }
-}
-
-fn both_above(u: i32, v: i32, hi: i32) -> bool
-    ensures { λ r. ⌜ r ≡ bothAbove u v hi ⌝ }
-{
-    if hi < u { hi < v } else { false }
-}
-
-fn is_beyond(u: i32, v: i32, lo: i32, hi: i32) -> bool
-    ensures { λ r. ⌜ r ≡ (bothBelow u v lo || bothAbove u v hi) ⌝ }
-{
-    if both_below(u, v, lo) {
-        return true;
-    }
-    both_above(u, v, hi)
-}
-
 // The segment is not level, and lies below the point or above it: the ray test sees nothing of it.
 fn is_aside(b: Band, u: I32Point, v: I32Point) -> bool
     ensures { λ r. ⌜ r ≡ aside b u v ⌝ }
@@ -204,7 +175,7 @@ fn is_aside(b: Band, u: I32Point, v: I32Point) -> bool
     let vy = v.y;
     let lo = b.lo;
     let hi = b.hi;
-    if is_beyond(uy, vy, lo, hi) {
+    if ((uy < lo) & (vy < lo)) | ((hi < uy) & (hi < vy)) {
         return (uy < vy) | (vy < uy);
     }
     false
@@ -242,31 +213,32 @@ fn scan_from(s: &[u8], p: Point, count: u16, first: I32Point, from: Place) -> Sc
                 return Scan::Refused(k);
             }
             Read::Number(d, m) => {
-                let t = turn(q, half, x, d);
-                match t {
-                    Turned::Refused(k) => {
-                        return Scan::Refused(k);
-                    }
-                    Turned::Half => {
-                        x = d;
-                        half = true;
-                    }
-                    Turned::To(n) => {
-                        let e = segment_seen(b, q, n, p);
-                        match e {
-                            Seen::On => {
-                                return Scan::On;
-                            }
-                            Seen::Off(c) => {
-                                odd = answer::plus(odd, c);
-                            }
-                        }
-                        q = n;
-                        half = false;
-                        left -= 1;
-                    }
-                }
                 at = m;
+                if half {
+                    let t = point_after(q, x, d);
+                    match t {
+                        Moved::Refused(k) => {
+                            return Scan::Refused(k);
+                        }
+                        Moved::To(n) => {
+                            let e = segment_seen(b, q, n, p);
+                            match e {
+                                Seen::On => {
+                                    return Scan::On;
+                                }
+                                Seen::Off(c) => {
+                                    odd = answer::plus(odd, c);
+                                }
+                            }
+                            q = n;
+                            half = false;
+                            left -= 1;
+                        }
+                    }
+                } else {
+                    x = d;
+                    half = true;
+                }
             }
         }
     }
@@ -285,8 +257,12 @@ pub fn scan_chunk(s: &[u8], count: u16, p: Point) -> Scan
     }
     let f = first_point(s);
     match f {
-        Spotted::Refused(k) => Scan::Refused(k),
-        Spotted::At(q, n) => scan_from(s, p, count - 1, q, n),
+        Spotted::Refused(k) => {
+            return Scan::Refused(k);
+        }
+        Spotted::At(q, n) => {
+            return scan_from(s, p, count - 1, q, n);
+        }
     }
 }
 
@@ -327,8 +303,12 @@ pub fn trace_chunk(s: &[u8], count: u16, b: BBox) -> Traced
     }
     let f = first_point(s);
     match f {
-        Spotted::Refused(k) => Traced::Refused(k),
-        Spotted::At(q, n) => trace_from(s, b, count - 1, q, n),
+        Spotted::Refused(k) => {
+            return Traced::Refused(k);
+        }
+        Spotted::At(q, n) => {
+            return trace_from(s, b, count - 1, q, n);
+        }
     }
 }
 
@@ -365,24 +345,25 @@ fn fill_from(s: &[u8], count: u16, first: I32Point, from: Place, out: &mut [i32]
                 return Checked::Refused(k);
             }
             Read::Number(d, m) => {
-                let t = turn(q, half, x, d);
-                match t {
-                    Turned::Refused(k) => {
-                        return Checked::Refused(k);
-                    }
-                    Turned::Half => {
-                        x = d;
-                        half = true;
-                    }
-                    Turned::To(n) => {
-                        put_point(out, i, n);
-                        q = n;
-                        half = false;
-                        i += 2;
-                        rest -= 1;
-                    }
-                }
                 at = m;
+                if half {
+                    let t = point_after(q, x, d);
+                    match t {
+                        Moved::Refused(k) => {
+                            return Checked::Refused(k);
+                        }
+                        Moved::To(n) => {
+                            put_point(out, i, n);
+                            q = n;
+                            half = false;
+                            i += 2;
+                            rest -= 1;
+                        }
+                    }
+                } else {
+                    x = d;
+                    half = true;
+                }
             }
         }
     }
@@ -425,15 +406,6 @@ fn decode_with(
     Checked::Fine
 }
 
-// The same with memory of its own, which has room for 256 points.
-fn decode_from(s: &[u8], count: u16, first: I32Point, from: Place, out: &mut [i32]) -> Checked
-    requires { ⌜ 2 + 2 * count ≤ length (now out) ⌝ }
-    ensures { λ r. ⌜ (checkedTold r ≡ outcome (led first (pointsFrom (now (s .entry)) count first (from .at)))) × (now (out .exit) ≡ filled (now (out .entry)) (led first (pointsFrom (now (s .entry)) count first (from .at)))) ⌝ }
-{
-    let mut held = [0i32; 512];
-    decode_with(s, count, first, from, &mut held, out)
-}
-
 // The points of a chunk into lent numbers, two a point. A refusal leaves the lent memory as it was, and what lies behind the points is never touched.
 pub fn decode_points(s: &[u8], count: u16, out: &mut [i32]) -> Checked
     ensures { λ r. ⌜ checkedTold r ≡ decodeOf (now (s .entry)) count (now (out .entry)) ⌝ }
@@ -447,7 +419,13 @@ pub fn decode_points(s: &[u8], count: u16, out: &mut [i32]) -> Checked
     }
     let f = first_point(s);
     match f {
-        Spotted::Refused(k) => Checked::Refused(k),
-        Spotted::At(q, n) => decode_from(s, count - 1, q, n, out),
+        Spotted::Refused(k) => {
+            return Checked::Refused(k);
+        }
+        Spotted::At(q, n) => {
+            // room for 256 points
+            let mut held = [0i32; 512];
+            return decode_with(s, count - 1, q, n, &mut held, out);
+        }
     }
 }

@@ -38,11 +38,14 @@ enum-known-f c = search needs
 enum-known-f-2 : tie.Need-enum-known-f-2
 enum-known-f-2 c = search needs
 
-sub-decode-from : tie.Need-sub-decode-from
-sub-decode-from c = search needs
+sub-decode-with : tie.Need-sub-decode-with
+sub-decode-with c = search needs
 
-decode-from-requires : tie.Need-decode-from-requires
-decode-from-requires c κs = search needs
+slice-aggregate-decode-with : tie.Need-slice-aggregate-decode-with
+slice-aggregate-decode-with c = search needs
+
+decode-with-requires : tie.Need-decode-with-requires
+decode-with-requires c κs = search needs
 
 returns-3 : tie.Need-returns-3
 returns-3 c =
@@ -56,12 +59,12 @@ same-length c = search needs
 
 returns-4 : tie.Need-returns-4
 returns-4 c =
-    let d = c .before in
-    let g = d .before .before .before in
+    let d = c .before .before in
+    let g = d .before .before .before .before in
     let f = g .before .before in
     let a = f .before .before .before .before .args in
     let e = into-at (a .s .now) (a .count) (a .out .now) (omega arith) (f .before .if2 .left) _ _ (sym (ap spotted (g .f2 .given .1)) ∙ f .first-point .ensures) in
-    (d .decode-from .ensures .0 ∙ ap outcome e, d .decode-from .ensures .1 ∙ ap (filled (a .out .now)) e)
+    (d .decode-with .ensures .0 ∙ ap outcome e, d .decode-with .ensures .1 ∙ ap (filled (a .out .now)) e)
 
 pub decode-points-spec : {M : Type 1} → statement M
 decode-points-spec =
@@ -74,9 +77,10 @@ decode-points-spec =
     returns-2
     first-point-requires
     enum-known-f
-    enum-known-f-2
-    sub-decode-from
-    decode-from-requires
     returns-3
+    enum-known-f-2
+    sub-decode-with
+    slice-aggregate-decode-with
+    decode-with-requires
     same-length
     returns-4)

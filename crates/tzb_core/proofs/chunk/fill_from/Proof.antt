@@ -10,11 +10,12 @@ use mir.Syntax.{w32}
 use mir.Val.{toZ, ofZ}
 use Rattle.answer.specs.Answers.{ok}
 use Rattle.tzb_core.specs.Varint.{told, numberAt}
+use Rattle.tzb_core.specs.Points.{moved}
 use Rattle.tzb_core.specs.Along.{alongBy, along-by, by-there}
 use Rattle.tzb_core.specs.Decode.{decoder, outcome, pointsFrom, put, readFrom}
 use Rattle.basics.specs.Signed.{back}
 use Rattle.tzb_core.proofs.Decoded.{put-end, put-on}
-use Rattle.tzb_core.proofs.Turns.{nextOf, turn-none, turn-no, turn-half, turn-to, half-less, point-less, readBy, read-by, check-no, check-on, check-end, read-no, read-on, read-end}
+use Rattle.tzb_core.proofs.Turns.{nextOf, turn-none, turn-no, turn-half, turn-to, half-less, point-less, no-more, place-on, place-in, room-first, room-kept, readBy, read-by, check-no, check-on, check-end, read-no, read-on, read-end}
 use borrow.Author.Needs.{needs}
 use Rattle.tzb_core.proofs.chunk.fill_from.Statement.{statement}
 use Rattle.tzb_core.proofs.chunk.fill_from.Tie as tie
@@ -53,15 +54,15 @@ returns c =
     let e = turn-none _ _ _ _ (l .loop .half) _ (sym (ap told (c .before .a .given .1)) ∙ v .varint .ensures) in (
       check-no _ _ _ _ _ (v .before .loop-test .taken) _ e ∙ l .loop .inv .2,
       λ h. put-end _ _ _ (read-no _ _ _ (v .before .loop-test .taken) _ e)
-          ∙ l .loop .inv .3 (omega (arith, h, l .before .out .given))
-          ∙ put-on _ 0 _ _ _ _ refl (p .put-point .ensures (omega (arith, h))),
+          ∙ l .loop .inv .3 (room-kept _ _ _ (l .before .out .given) h)
+          ∙ put-on _ 0 _ _ _ _ refl (p .put-point .ensures (room-first _ _ h)),
     )
 
 enum-known-a-2 : tie.Need-enum-known-a-2 Inv-loop μ-loop
 enum-known-a-2 c = search needs
 
-turn-requires : tie.Need-turn-requires Inv-loop μ-loop
-turn-requires c κs = search needs
+point-after-requires : tie.Need-point-after-requires Inv-loop μ-loop
+point-after-requires c κs = search needs
 
 -- the number that was read
 read : (c : tie.After-known-told2 Inv-loop μ-loop) → ok (toZ w32 (ofZ w32 (c .before .a2 .given .0 .0)), c .before .a2 .given .0 .1 .0 .at) ≡ numberAt (c .before .before .before .before .before .before .before .before .before .before .args .s .now) (c .before .before .before .before .before .loop .at .at)
@@ -78,18 +79,16 @@ same-length-2 c = search needs
 returns-2 : tie.Need-returns-2 Inv-loop μ-loop
 returns-2 c =
     let t = c .before .before .before in
-    let v = t .before .before .before .before in
+    let k = t .before .before in
+    let v = k .before .before .before in
     let l = v .before .before in
     let p = l .before .before in
-    let e = turn-no _ _ _ _ _ _ (read (t .before)) (l .loop .half) _ (sym (c .before .t .given .1) ∙ t .turn .ensures) in (
+    let e = turn-no _ _ _ _ _ _ (read k) (l .loop .half) (t .before .if1 .taken) _ (sym (ap moved (c .before .t .given .1)) ∙ t .point-after .ensures) in (
       check-no _ _ _ _ _ (v .before .loop-test .taken) _ e ∙ l .loop .inv .2,
       λ h. put-end _ _ _ (read-no _ _ _ (v .before .loop-test .taken) _ e)
-          ∙ l .loop .inv .3 (omega (arith, h, l .before .out .given))
-          ∙ put-on _ 0 _ _ _ _ refl (p .put-point .ensures (omega (arith, h))),
+          ∙ l .loop .inv .3 (room-kept _ _ _ (l .before .out .given) h)
+          ∙ put-on _ 0 _ _ _ _ refl (p .put-point .ensures (room-first _ _ h)),
     )
-
-enum-told : tie.Need-enum-told Inv-loop μ-loop
-enum-told c = search needs
 
 enum-known-t-2 : tie.Need-enum-known-t-2 Inv-loop μ-loop
 enum-known-t-2 c = search needs
@@ -105,42 +104,40 @@ sub-rest c = search needs
 
 loop-less : tie.Need-loop-less Inv-loop μ-loop
 loop-less c =
-    let t = c .before .before in
-    let l = t .before .before .before .before .before .before .loop in
-    half-less (l .q) (l .half) (toZ w32 (l .x)) _ (l .rest) (sym (c .enum-told .given .1) ∙ t .turn .ensures)
+    let v = c .before .before .before .before .before .before .before .before .before .before .before in
+    point-less (v .before .before .loop .half) (v .before .before .loop .rest) (v .before .loop-test .taken)
 
 loop-again : tie.Need-loop-again Inv-loop μ-loop
+unfolding nextOf pointsFrom
 loop-again c =
-    let t = c .before .before in
-    let v = t .before .before .before .before in
-    let l = v .before .before in
-    let e = turn-half _ _ _ _ _ _ (read (t .before)) (l .loop .half) (sym (c .enum-told .given .1) ∙ t .turn .ensures) in (
-      l .loop .inv .0,
-      l .loop .inv .1,
-      ap outcome (by-there _ _ _ _ _ _ _ _ (v .before .loop-test .taken) e) ∙ l .loop .inv .2,
-      λ h. ap (put (l .loop .out) (l .loop .i)) (ap (readBy (l .before .before .before .before .before .args .s .now) (l .loop .rest)) e) ∙ l .loop .inv .3 h,
+    let p = c .before in
+    let k = p .before .before in
+    let t = k .before .before .before in
+    let v = t .before .before .before .before .before in
+    let l = v .before .before .loop in
+    let h₀ = v .before .loop-test .taken in
+    let same : length (p .put-point2 .last .0) ≡ length (l .out) = c .out2 .given in
+    let e = turn-to _ _ _ _ _ _ (read (t .before .before)) (l .half) (t .before .if1 .taken) _ (sym (ap moved (k .before .t2 .given .1)) ∙ t .point-after .ensures) in (
+      same ∙ l .inv .0,
+      place-on _ _ _ h₀ (l .inv .1),
+      ap outcome (along-by _ _ _ _ _) ∙ check-on _ _ _ _ _ h₀ _ _ e ∙ l .inv .2,
+      λ h. ap (put _ _) (read-by _ _ _ _) ∙ put-on _ _ _ _ _ _ (read-on _ _ _ h₀ _ _ e) (p .put-point2 .ensures (place-in _ _ _ h₀ (l .inv .1) _ _ (l .inv .0) h)) ∙ l .inv .3 h,
     )
 
 loop-less-2 : tie.Need-loop-less-2 Inv-loop μ-loop
 loop-less-2 c =
-    let v = c .before .before .before .before .before .before .before .before .before .before in
-    point-less (v .before .before .loop .half) (v .before .before .loop .rest) (v .before .loop-test .taken)
+    let l = c .before .before .before .before .before .before .loop in
+    half-less (l .half) (l .rest) (c .if1 .left)
 
 loop-again-2 : tie.Need-loop-again-2 Inv-loop μ-loop
-unfolding nextOf pointsFrom
 loop-again-2 c =
-    let p = c .before in
-    let k = p .before .before in
-    let t = k .before .before .before in
-    let v = t .before .before .before .before in
-    let l = v .before .before .loop in
-    let h₀ = v .before .loop-test .taken in
-    let same : length (p .put-point2 .last .0) ≡ length (l .out) = c .out2 .given in
-    let e = turn-to _ _ _ _ _ _ (read (t .before)) (l .half) _ (sym (k .before .t2 .given .1) ∙ t .turn .ensures) in (
-      same ∙ l .inv .0,
-      omega arith,
-      ap outcome (along-by _ _ _ _ _) ∙ check-on _ _ _ _ _ h₀ _ _ e ∙ l .inv .2,
-      λ h. ap (put _ _) (read-by _ _ _ _) ∙ put-on _ _ _ _ _ _ (read-on _ _ _ h₀ _ _ e) (p .put-point2 .ensures (omega (arith, h))) ∙ l .inv .3 h,
+    let v = c .before .before .before .before in
+    let l = v .before .before in
+    let e = turn-half _ _ _ _ _ _ (read (c .before)) (l .loop .half) (c .if1 .left) in (
+      l .loop .inv .0,
+      l .loop .inv .1,
+      ap outcome (by-there _ _ _ _ _ _ _ _ (v .before .loop-test .taken) e) ∙ l .loop .inv .2,
+      λ h. ap (put (l .loop .out) (l .loop .i)) (ap (readBy (l .before .before .before .before .before .args .s .now) (l .loop .rest)) e) ∙ l .loop .inv .3 h,
     )
 
 at-end-requires : tie.Need-at-end-requires Inv-loop μ-loop
@@ -155,11 +152,12 @@ same-length-3 c = search needs
 returns-3 : tie.Need-returns-3 Inv-loop μ-loop
 returns-3 c =
     let l = c .before .before .before in
-    let p = l .before .before in (
-      c .claim .ensures ∙ check-end _ _ _ _ _ (omega arith) _ (c .before .at-end .ensures) ∙ l .loop .inv .2,
-      λ h. put-end _ _ _ (read-end _ _ _ (omega arith))
-          ∙ l .loop .inv .3 (omega (arith, h, l .before .out .given))
-          ∙ put-on _ 0 _ _ _ _ refl (p .put-point .ensures (omega (arith, h))),
+    let p = l .before .before in
+    let z = no-more (l .loop .rest) (c .before .before .loop-test .left) in (
+      c .claim .ensures ∙ check-end _ _ _ _ _ z _ (c .before .at-end .ensures) ∙ l .loop .inv .2,
+      λ h. put-end _ _ _ (read-end _ _ _ z)
+          ∙ l .loop .inv .3 (room-kept _ _ _ (l .before .out .given) h)
+          ∙ put-on _ 0 _ _ _ _ refl (p .put-point .ensures (room-first _ _ h)),
     )
 
 pub fill-from-spec : {M : Type 1} → statement M
@@ -175,11 +173,10 @@ fill-from-spec =
     same-length
     returns
     enum-known-a-2
-    turn-requires
+    point-after-requires
     enum-known-t
     same-length-2
     returns-2
-    enum-told
     enum-known-t-2
     put-point-requires-2
     add-i

@@ -51,10 +51,10 @@ numbers-spec =
     (tie.spec
     varint-requires
     enum-known-a
+    returns
     enum-known-a-2
     varint-requires-2
     enum-known-b
-    enum-known-b-2
-    returns
     returns-2
+    enum-known-b-2
     returns-3)

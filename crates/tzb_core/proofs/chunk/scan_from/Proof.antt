@@ -1,7 +1,6 @@
 -- `chunk::scan_from` meets its contract: with the parity so far added to what is left, the whole stays the same; the x of a delta waits for its y.
 -- Assumes nothing.
 use Prim.Native.Nat.{_+_, _*_}
-use native.Mathlib.Omega.{arith}
 use mathlib.Core.Path.{_≡_, sym, ap, _∙_}
 use mathlib.Core.Bool.{true, cond}
 use mir.Syntax.{w32}
@@ -12,9 +11,10 @@ use Rattle.answer.specs.Walks.{broken, add, add-none, breaks, hits, ends, keeps
 use Rattle.plane.specs.Sight.{seenTold}
 use Rattle.plane.specs.Domain.{inDomain}
 use Rattle.tzb_core.specs.Varint.{told, numberAt}
+use Rattle.tzb_core.specs.Points.{moved}
 use Rattle.tzb_core.specs.Along.{alongBy, along-by, by-left, by-end, by-no, by-there}
 use Rattle.tzb_core.specs.Scan.{scanner, onward}
-use Rattle.tzb_core.proofs.Turns.{nextOf, turn-none, turn-no, turn-half, turn-to, turn-in, half-less, point-less, by-on, by-off}
+use Rattle.tzb_core.proofs.Turns.{nextOf, turn-none, turn-no, turn-half, turn-to, turn-in, half-less, point-less, no-more, by-on, by-off}
 use Rattle.basics.specs.Signed.{back}
 use borrow.Author.Needs.{needs}
 use Rattle.tzb_core.proofs.chunk.scan_from.Statement.{statement}
@@ -49,8 +49,8 @@ returns c =
 enum-known-a-2 : tie.Need-enum-known-a-2 Inv-loop μ-loop
 enum-known-a-2 c = search needs
 
-turn-requires : tie.Need-turn-requires Inv-loop μ-loop
-turn-requires c κs = search needs
+point-after-requires : tie.Need-point-after-requires Inv-loop μ-loop
+point-after-requires c κs = search needs
 
 enum-known-t : tie.Need-enum-known-t Inv-loop μ-loop
 enum-known-t c = search needs
@@ -64,12 +64,10 @@ read c =
 returns-2 : tie.Need-returns-2 Inv-loop μ-loop
 returns-2 c =
     let t = c .before .before .before in
-    let v = t .before .before .before .before in
+    let k = t .before .before in
+    let v = k .before .before .before in
     let l = v .before .before in
-    breaks _ _ _ (l .loop .inv .1) _ (by-no _ _ _ _ _ _ (v .before .loop-test .taken) _ (turn-no _ _ _ _ _ _ (read (t .before)) (l .loop .half) _ (sym (c .before .t .given .1) ∙ t .turn .ensures)))
-
-enum-told : tie.Need-enum-told Inv-loop μ-loop
-enum-told c = search needs
+    breaks _ _ _ (l .loop .inv .1) _ (by-no _ _ _ _ _ _ (v .before .loop-test .taken) _ (turn-no _ _ _ _ _ _ (read k) (l .loop .half) (t .before .if1 .taken) _ (sym (ap moved (c .before .t .given .1)) ∙ t .point-after .ensures)))
 
 enum-known-t-2 : tie.Need-enum-known-t-2 Inv-loop μ-loop
 enum-known-t-2 c = search needs
@@ -77,19 +75,20 @@ enum-known-t-2 c = search needs
 segment-seen-requires : tie.Need-segment-seen-requires Inv-loop μ-loop
 segment-seen-requires c κs =
     let t = c .before .before .before in
-    let l = t .before .before .before .before .before .before in
-    (l .before .band-at .ensures, (l .loop .inv .0, turn-in _ (l .loop .half) _ _ _ (sym (c .before .t2 .given .1) ∙ t .turn .ensures)))
+    let l = t .before .before .before .before .before .before .before in
+    (l .before .band-at .ensures, (l .loop .inv .0, turn-in _ _ _ (sym (ap moved (c .before .t2 .given .1)) ∙ t .point-after .ensures)))
 
-enum-told-2 : tie.Need-enum-told-2 Inv-loop μ-loop
-enum-told-2 c = search needs
+enum-told : tie.Need-enum-told Inv-loop μ-loop
+enum-told c = search needs
 
 returns-3 : tie.Need-returns-3 Inv-loop μ-loop
 returns-3 c =
     let g = c .before .before in
     let t = g .before .before .before .before in
-    let v = t .before .before .before .before in
+    let k = t .before .before in
+    let v = k .before .before .before in
     let l = v .before .before in
-    hits _ _ _ (l .loop .inv .1) (by-on _ _ _ _ _ _ (v .before .loop-test .taken) _ _ (turn-to _ _ _ _ _ _ (read (t .before)) (l .loop .half) _ (sym (g .before .before .t2 .given .1) ∙ t .turn .ensures)) (sym (ap seenTold (c .enum-told2 .given .1)) ∙ g .segment-seen .ensures))
+    hits _ _ _ (l .loop .inv .1) (by-on _ _ _ _ _ _ (v .before .loop-test .taken) _ _ (turn-to _ _ _ _ _ _ (read k) (l .loop .half) (t .before .if1 .taken) _ (sym (ap moved (g .before .before .t2 .given .1)) ∙ t .point-after .ensures)) (sym (ap seenTold (c .enum-told .given .1)) ∙ g .segment-seen .ensures))
 
 enum-known-e : tie.Need-enum-known-e Inv-loop μ-loop
 enum-known-e c = search needs
@@ -102,36 +101,35 @@ sub-left c = search needs
 
 loop-less : tie.Need-loop-less Inv-loop μ-loop
 loop-less c =
-    let t = c .before .before in
-    let l = t .before .before .before .before .before .before .loop in
-    half-less (l .q) (l .half) (toZ w32 (l .x)) _ (l .left) (sym (c .enum-told .given .1) ∙ t .turn .ensures)
+    let v = c .before .before .before .before .before .before .before .before .before .before .before .before .before in
+    point-less (v .before .before .loop .half) (v .before .before .loop .left) (v .before .loop-test .taken)
 
 loop-again : tie.Need-loop-again Inv-loop μ-loop
+unfolding nextOf onward
 loop-again c =
-    let t = c .before .before in
-    let v = t .before .before .before .before in
-    let l = v .before .before in (
-      l .loop .inv .0,
-      ap (add (l .loop .odd)) (by-there _ _ _ _ _ _ _ _ (v .before .loop-test .taken) (turn-half _ _ _ _ _ _ (read (t .before)) (l .loop .half) (sym (c .enum-told .given .1) ∙ t .turn .ensures)))
-          ∙ l .loop .inv .1,
+    let g = c .before .before .before .before in
+    let t = g .before .before .before .before in
+    let k = t .before .before in
+    let v = k .before .before .before in
+    let l = v .before .before in
+    let e = sym (ap moved (g .before .before .t2 .given .1)) ∙ t .point-after .ensures in (
+      turn-in _ _ _ e,
+      keeps _ _ _ (l .loop .inv .1) _ _ _ (c .plus .ensures)
+          (ap (add _) (along-by _ _ _ _ _) ∙ by-off _ _ _ _ _ _ (v .before .loop-test .taken) _ _ (turn-to _ _ _ _ _ _ (read k) (l .loop .half) (t .before .if1 .taken) _ e) _ (sym (ap seenTold (c .before .before .e .given .1)) ∙ g .segment-seen .ensures)),
     )
 
 loop-less-2 : tie.Need-loop-less-2 Inv-loop μ-loop
 loop-less-2 c =
-    let v = c .before .before .before .before .before .before .before .before .before .before .before .before in
-    point-less (v .before .before .loop .half) (v .before .before .loop .left) (v .before .loop-test .taken)
+    let l = c .before .before .before .before .before .before .loop in
+    half-less (l .half) (l .left) (c .if1 .left)
 
 loop-again-2 : tie.Need-loop-again-2 Inv-loop μ-loop
-unfolding nextOf onward
 loop-again-2 c =
-    let g = c .before .before .before .before in
-    let t = g .before .before .before .before in
-    let v = t .before .before .before .before in
-    let l = v .before .before in
-    let e = sym (g .before .before .t2 .given .1) ∙ t .turn .ensures in (
-      turn-in _ (l .loop .half) _ _ _ e,
-      keeps _ _ _ (l .loop .inv .1) _ _ _ (c .plus .ensures)
-          (ap (add _) (along-by _ _ _ _ _) ∙ by-off _ _ _ _ _ _ (v .before .loop-test .taken) _ _ (turn-to _ _ _ _ _ _ (read (t .before)) (l .loop .half) _ e) _ (sym (ap seenTold (c .before .before .e .given .1)) ∙ g .segment-seen .ensures)),
+    let v = c .before .before .before .before in
+    let l = v .before .before in (
+      l .loop .inv .0,
+      ap (add (l .loop .odd)) (by-there _ _ _ _ _ _ _ _ (v .before .loop-test .taken) (turn-half _ _ _ _ _ _ (read (c .before)) (l .loop .half) (c .if1 .left)))
+          ∙ l .loop .inv .1,
     )
 
 at-end-requires : tie.Need-at-end-requires Inv-loop μ-loop
@@ -140,7 +138,7 @@ at-end-requires c κs = search needs
 returns-4 : tie.Need-returns-4 Inv-loop μ-loop
 returns-4 c =
     let l = c .before .before .before in
-    ends _ _ _ (l .loop .inv .1) _ (by-end _ _ _ _ _ _ (omega arith) (sym (c .before .at-end .ensures) ∙ c .if1 .taken))
+    ends _ _ _ (l .loop .inv .1) _ (by-end _ _ _ _ _ _ (no-more _ (c .before .before .loop-test .left)) (sym (c .before .at-end .ensures) ∙ c .if2 .taken))
 
 refuse-requires : tie.Need-refuse-requires Inv-loop μ-loop
 refuse-requires c κs = search needs
@@ -149,7 +147,7 @@ returns-5 : tie.Need-returns-5 Inv-loop μ-loop
 returns-5 c =
     let l = c .before .before .before .before in
     ap broken (c .refuse .ensures)
-    ∙ breaks _ _ _ (l .loop .inv .1) _ (by-left _ _ _ _ _ _ (omega arith) (sym (c .before .before .at-end .ensures) ∙ c .before .if1 .left))
+    ∙ breaks _ _ _ (l .loop .inv .1) _ (by-left _ _ _ _ _ _ (no-more _ (c .before .before .before .loop-test .left)) (sym (c .before .before .at-end .ensures) ∙ c .before .if2 .left))
 
 pub scan-from-spec : {M : Type 1} → statement M
 scan-from-spec =
@@ -163,13 +161,12 @@ scan-from-spec =
     enum-known-a
     returns
     enum-known-a-2
-    turn-requires
+    point-after-requires
     enum-known-t
     returns-2
-    enum-told
     enum-known-t-2
     segment-seen-requires
-    enum-told-2
+    enum-told
     returns-3
     enum-known-e
     plus-requires

@@ -50,8 +50,8 @@ trace-chunk-spec =
     returns
     first-point-requires
     enum-known-f
+    returns-2
     enum-known-f-2
     sub-trace-from
     trace-from-requires
-    returns-2
     returns-3)
