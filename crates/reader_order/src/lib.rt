@@ -7,7 +7,7 @@ ghost use lib.ListN.{length, take, drop, getD};
 ghost use Rattle.reader_names.specs.Asked.{nameOr};
 ghost use Rattle.reader_order.specs.Order.{comesBefore, insert, insertAll, ordered, inOrder};
 ghost use Rattle.reader_order.specs.Place.{placeFor, movedUp};
-use reader_opened::Opened;
+use opened::Opened;
 
 // A length that both names have: that of the shorter.
 fn common_length(a: &[u8], b: &[u8]) -> usize

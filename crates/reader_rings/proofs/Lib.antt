@@ -1,2 +1,4 @@
 -- That answers are determined.
+pub mod ZonesLaws
+pub mod RingsLaws
 pub mod Determined

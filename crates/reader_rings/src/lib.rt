@@ -3,20 +3,21 @@ ghost use mathlib.Core.Path.{_≡_};
 ghost use mathlib.Core.Bool.{true, false};
 ghost use Prim.Native.Nat.{_+_, _-_, _≤_, _<_};
 ghost use Rattle.answer.specs.Walks.{verdict};
-ghost use Rattle.tzb_core.specs.Points.{point};
 ghost use Rattle.tzb_core.specs.Ray.{rayOf};
 ghost use Rattle.tzb_core.specs.Scan.{past};
 ghost use Rattle.reader_groups.specs.Groups.{went};
 ghost use Rattle.reader_records.specs.Records.{groupIn};
 ghost use lib.ListN.{length};
-ghost use Rattle.reader_rings.specs.Rings.{legTold, LegRoom, rounds, sumAfter, judged, turnOf, turnedAt, jointOf, groupWalk, turnWalk, opStep, opsFrom, ringEnd, ringRest, ringOf, ringContains};
-ghost use Rattle.reader_rings.specs.Zones.{seek, holesOut, polyInside, polyOf, zoneOf, containsAt};
+ghost use Rattle.reader_rings.specs.Rings.{legTold, LegRoom, rounds, sumAfter, turnOf, turnedAt, jointOf, groupWalk, turnWalk, opStep, opsFrom, ringEnd, ringRest, ringOf, ringContains};
+ghost use Rattle.reader_rings.specs.Zones.{holesOut, polyInside, polyOf, zoneOf, containsAt, firstSo};
+ghost use Rattle.plane.specs.Places.{point};
+ghost use Rattle.replies.specs.Replies.{verdictTold};
 use answer::Refusal;
+use opened::Opened;
 use plane::I32Point;
 use plane::Point;
 use plane::Seen;
 use reader_groups::Went;
-use reader_opened::Opened;
 use reader_records::GroupRecord;
 use reader_records::ListAt;
 use reader_records::ListRecord;
@@ -24,6 +25,7 @@ use reader_records::OpAt;
 use reader_records::RecordPlace;
 use reader_records::RingAt;
 use reader_records::RingRecord;
+use replies::Verdict;
 
 // A group with its ends as a ring op has them.
 pub struct Turned {
@@ -48,11 +50,6 @@ pub enum Rounds {
     Refused(Refusal),
     On,
     Off(bool, Round),
-}
-
-pub enum Verdict {
-    Is(bool),
-    Refused(Refusal),
 }
 
 // The group of an op's word: the top bit turns it round.
@@ -178,7 +175,7 @@ fn op_step(o: Opened, s: &[u8], p: Point, i: usize, z: Round) -> Rounds
                         b,
                         Round {
                             exit: x,
-                            sum: z.sum + reader_head::wide(t.group.points),
+                            sum: z.sum + fields::wide(t.group.points),
                         },
                     )
                 }
@@ -235,9 +232,9 @@ fn ring_rest(o: Opened, s: &[u8], p: Point, r: RingRecord, t: Turned) -> Went
     let x = t.exit;
     let so = Round {
         exit: x,
-        sum: reader_head::wide(t.group.points),
+        sum: fields::wide(t.group.points),
     };
-    let w = ops_from(o, s, p, r.count, reader_head::wide(r.first) + 1, so);
+    let w = ops_from(o, s, p, r.count, fields::wide(r.first) + 1, so);
     match w {
         Rounds::Refused(k) => Went::Refused(k),
         Rounds::On => Went::On,
@@ -252,7 +249,7 @@ fn ring_rest(o: Opened, s: &[u8], p: Point, r: RingRecord, t: Turned) -> Went
 fn ring_walk(o: Opened, s: &[u8], p: Point, r: RingRecord) -> Went
     ensures { λ w. ⌜ went w ≡ ringOf o (now (s .entry)) p r ⌝ }
 {
-    let u = leg_at(o, s, reader_head::wide(r.first));
+    let u = leg_at(o, s, fields::wide(r.first));
     match u {
         LegAt::Refused(k) => Went::Refused(k),
         LegAt::At(word, at) => {
@@ -270,7 +267,7 @@ fn ring_walk(o: Opened, s: &[u8], p: Point, r: RingRecord) -> Went
 
 // Inside or not, where a point on an edge gets `edge`.
 fn verdict_of(edge: bool, w: Went) -> Verdict
-    ensures { λ r. ⌜ judged r ≡ verdict edge (went w) ⌝ }
+    ensures { λ r. ⌜ verdictTold r ≡ verdict edge (went w) ⌝ }
 {
     match w {
         Went::Refused(k) => Verdict::Refused(k),
@@ -281,7 +278,7 @@ fn verdict_of(edge: bool, w: Went) -> Verdict
 
 // Whether ring `index` contains the point; one on an edge gets `edge`.
 pub fn ring_contains(o: Opened, s: &[u8], p: Point, edge: bool, index: usize) -> Verdict
-    ensures { λ r. ⌜ judged r ≡ ringContains o (now (s .entry)) p edge index ⌝ }
+    ensures { λ r. ⌜ verdictTold r ≡ ringContains o (now (s .entry)) p edge index ⌝ }
 {
     let t = reader_records::ring_at(o, s, index);
     match t {
@@ -300,7 +297,7 @@ pub fn ring_contains(o: Opened, s: &[u8], p: Point, edge: bool, index: usize) ->
 // Whether the point is in none of the holes: the rings from `from` on, `count` with the outer one.
 fn holes_out(o: Opened, s: &[u8], p: Point, count: u16, from: usize) -> Verdict
     requires { ⌜ from < 0x2_0000_0000 ⌝ }
-    ensures { λ r. ⌜ judged r ≡ holesOut o (now (s .entry)) p (count - 1) from ⌝ }
+    ensures { λ r. ⌜ verdictTold r ≡ holesOut o (now (s .entry)) p (count - 1) from ⌝ }
 {
     let mut i = from;
     let mut left = count;
@@ -324,9 +321,9 @@ fn holes_out(o: Opened, s: &[u8], p: Point, count: u16, from: usize) -> Verdict
 
 // Whether a polygon contains the point, which lies in its box: its first ring does, and no hole.
 fn poly_inside(o: Opened, s: &[u8], p: Point, q: ListRecord) -> Verdict
-    ensures { λ r. ⌜ judged r ≡ polyInside o (now (s .entry)) p q ⌝ }
+    ensures { λ r. ⌜ verdictTold r ≡ polyInside o (now (s .entry)) p q ⌝ }
 {
-    let from = reader_head::wide(q.first);
+    let from = fields::wide(q.first);
     let u = ring_contains(o, s, p, true, from);
     match u {
         Verdict::Refused(k) => Verdict::Refused(k),
@@ -343,7 +340,7 @@ fn poly_inside(o: Opened, s: &[u8], p: Point, q: ListRecord) -> Verdict
 // Whether one of the polygons does. Its box is tested first, before anything is called.
 fn polys_from(o: Opened, s: &[u8], p: Point, count: u16, from: usize) -> Verdict
     requires { ⌜ from < 0x1_0000_0000 ⌝ }
-    ensures { λ r. ⌜ judged r ≡ seek (polyOf o (now (s .entry)) p) true false count from ⌝ }
+    ensures { λ r. ⌜ verdictTold r ≡ firstSo (polyOf o (now (s .entry)) p) true false count from ⌝ }
 {
     let off = o.polys.off;
     let all = o.polys.count;
@@ -381,7 +378,7 @@ fn polys_from(o: Opened, s: &[u8], p: Point, count: u16, from: usize) -> Verdict
 
 // Whether zone `index` contains the point. Its two numbers are read one by one, so that they are handed over in registers: stored one by one and read as one, they would be waited for.
 pub fn timezone_contains(o: Opened, s: &[u8], p: Point, index: usize) -> Verdict
-    ensures { λ r. ⌜ judged r ≡ zoneOf o (now (s .entry)) p index ⌝ }
+    ensures { λ r. ⌜ verdictTold r ≡ zoneOf o (now (s .entry)) p index ⌝ }
 {
     let p = Point { x: p.x, y: p.y };
     let t = reader_records::tz_at(o, s, index);
@@ -390,7 +387,7 @@ pub fn timezone_contains(o: Opened, s: &[u8], p: Point, index: usize) -> Verdict
         ListAt::At(z) => {
             let b = z.bbox;
             if b.contains(p) {
-                polys_from(o, s, p, z.count, reader_head::wide(z.first))
+                polys_from(o, s, p, z.count, fields::wide(z.first))
             } else {
                 Verdict::Is(false)
             }
@@ -400,7 +397,7 @@ pub fn timezone_contains(o: Opened, s: &[u8], p: Point, index: usize) -> Verdict
 
 // Whether the zone contains the point of whole numbers: a zone number too large is 45, then a point outside the domain is no.
 pub fn contains(o: Opened, s: &[u8], zone: u32, x: i32, y: i32) -> Verdict
-    ensures { λ r. ⌜ judged r ≡ containsAt o (now (s .entry)) zone (point x y) ⌝ }
+    ensures { λ r. ⌜ verdictTold r ≡ containsAt o (now (s .entry)) zone (point x y) ⌝ }
 {
     if o.zones.count <= zone {
         return Verdict::Refused(answer::refuse(45));
@@ -408,7 +405,7 @@ pub fn contains(o: Opened, s: &[u8], zone: u32, x: i32, y: i32) -> Verdict
     let q = I32Point { x, y };
     if boxes::point_in_domain(q) {
         let p = tzb_core::raycast::to_point(q);
-        timezone_contains(o, s, p, reader_head::wide(zone))
+        timezone_contains(o, s, p, fields::wide(zone))
     } else {
         Verdict::Is(false)
     }

@@ -3,11 +3,11 @@
 // and with other bytes.
 use fields::Loaded32;
 use fields::Loaded64;
-use reader_grid::Candidate;
-use reader_grid::Choice;
-use reader_names::Bounds;
-use reader_opened::Opened;
-use tzb::Opening;
+use opened::Opened;
+use replies::Bounds;
+use replies::Candidate;
+use replies::Choice;
+use replies::Opening;
 
 // How many questions were answered rightly, and whether these were all.
 struct Told {

@@ -2,7 +2,7 @@
 // full check accepts it, opening's number where that refuses it, else 47 and a hundred times the lowest broken rule. Writes how many are
 // answered so before the first difference or the list's end.
 use fields::Loaded32;
-use tzb::FullCheck;
+use replies::FullCheck;
 
 fn number(r: &[u8], at: usize) -> u32 {
     match fields::u32_le(r, at) {

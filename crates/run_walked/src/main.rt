@@ -6,11 +6,11 @@ use answer::Refusal;
 use fields::Loaded32;
 use fields::Loaded64;
 use fields::LoadedI32;
-use reader_lookup::Found;
-use reader_lookup::Listing;
-use reader_opened::Opened;
-use reader_rings::Verdict;
-use tzb::Opening;
+use opened::Opened;
+use replies::Found;
+use replies::Listing;
+use replies::Opening;
+use replies::Verdict;
 
 // How many questions were answered rightly, and whether these were all.
 struct Told {

@@ -8,7 +8,7 @@ use mathlib.Core.List.{List, [], _∷_}
 use lib.IntN.{ℤ}
 use Rattle.answer.specs.declared.Refusal.{Refusal}
 use Rattle.answer.specs.Checks.{claim}
-use Rattle.answer.specs.Answers.{Answer, ok, refused, _then_, need, zero-one, then-inv, need-inv, ok-inv}
+use Rattle.answer.specs.Answers.{Answer, ok, refused, _then_, need, outcome}
 use Rattle.answer.specs.Walks.{on, add}
 use Rattle.plane.specs.declared.Point.{Point}
 use Rattle.plane.specs.declared.I32Point.{I32Point}
@@ -16,13 +16,16 @@ use Rattle.plane.specs.Sight.{On, Off}
 use Rattle.plane.specs.Domain.{inDomain}
 use Rattle.tzb_core.specs.Ray.{rayOf}
 use Rattle.tzb_core.specs.Varint.{numberAt, atEnd}
-use Rattle.tzb_core.specs.Points.{point, numbersAt, movedBy, inside, nextAt, arrive, turnTo, turnOf, numbers-first, next-no}
+use Rattle.tzb_core.specs.Points.{numbersAt, movedBy, nextAt, arrive, turnTo, turnOf, mustLie}
 use Rattle.tzb_core.specs.Along.{follow, along, alongBy, by-no, by-to}
-use Rattle.tzb_core.specs.Scan.{scanner, segment-on, segment-off}
-use Rattle.tzb_core.specs.Decode.{decoder, outcome, readFrom}
-use Rattle.tzb_core.specs.declared.chunk.Turned.{Turned}
+use Rattle.tzb_core.specs.Scan.{scanner}
+use Rattle.tzb_core.specs.Decode.{decoder, readFrom}
 use Rattle.tzb_core.specs.declared.chunk.Turned.the-variants as T
 use Rattle.tzb_core.proofs.Decoded.{led-same}
+use Rattle.plane.specs.Places.{point}
+use Rattle.answer.proofs.AnswersLaws.{zero-one, then-inv, need-inv, ok-inv}
+use Rattle.tzb_core.proofs.PointsLaws.{numbers-first, next-no}
+use Rattle.tzb_core.proofs.ScanLaws.{segment-on, segment-off}
 
 -- a point, and the place after it
 abbrev placed : ℕ → I32Point → Answer (I32Point × ℕ)
@@ -38,7 +41,7 @@ nextOf false s q x k = nextAt s q k
 nextOf true s q x k = nextAfter s q x k
 
 next-x : (s : List ℕ) (q : I32Point) (k : ℕ) (x : ℤ) (m : ℕ) → ok (x, m) ≡ numberAt s k → nextAfter s q x m ≡ nextAt s q k
-unfolding nextAfter nextAt numbersAt arrive inside
+unfolding nextAfter nextAt numbersAt arrive mustLie
 next-x s q k x m e = rw (← e) (with-y (numberAt s m))
   where
     in-domain : (b : Bool) (t : I32Point) (n : ℕ) → (need 42 b (ok t) then placed n) ≡ need 42 b (placed n t)

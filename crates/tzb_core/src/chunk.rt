@@ -4,16 +4,16 @@ ghost use mathlib.Core.Bool.{true, _||_};
 ghost use Prim.Native.Nat.{_+_, _*_, _≤_, _<_};
 ghost use mathlib.Core.List.{_∷_, _++_};
 ghost use lib.ListN.{length, set, take, drop};
-ghost use Rattle.answer.specs.Answers.{checkedTold};
+ghost use Rattle.answer.specs.Answers.{checkedTold, outcome};
 ghost use Rattle.plane.specs.Sight.{seenTold};
 ghost use Rattle.plane.specs.Domain.{inDomain};
 ghost use Rattle.boxes.specs.Box.{inBox};
-ghost use Rattle.tzb_core.specs.Points.{spotted, moved, movedBy, numbersAt, inside, firstOf, nextAt, turnOf};
+ghost use Rattle.tzb_core.specs.Points.{spotted, moved, movedBy, numbersAt, firstOf, nextAt, turnOf, mustLie};
 ghost use Rattle.tzb_core.specs.Ray.{rayOf};
 ghost use Rattle.tzb_core.specs.Scan.{scanned, onward, scanOf, Around, bothBelow, bothAbove, aside};
 ghost use Rattle.tzb_core.specs.Along.{along};
 ghost use Rattle.tzb_core.specs.Trace.{toldTrace, also, tracer, traceOf};
-ghost use Rattle.tzb_core.specs.Decode.{outcome, pointsFrom, led, filled, decodeOf, decoded, put, readFrom};
+ghost use Rattle.tzb_core.specs.Decode.{pointsFrom, led, filled, decodeOf, decoded, put, readFrom};
 use crate::delta;
 use crate::delta::Sum;
 use crate::raycast;
@@ -99,7 +99,7 @@ fn shifted(q: I32Point, d: I32Point) -> Moved
 
 // A point that must lie in the domain.
 fn inside_at(q: I32Point, n: Place) -> Spotted
-    ensures { λ r. ⌜ spotted r ≡ inside q (n .at) ⌝ }
+    ensures { λ r. ⌜ spotted r ≡ mustLie q (n .at) ⌝ }
 {
     if boxes::point_in_domain(q) {
         Spotted::At(q, n)

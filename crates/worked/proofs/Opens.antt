@@ -29,7 +29,7 @@ use Rattle.tzb.proofs.Given.{Answered, answered}
 use Rattle.worked.specs.File.{file, opened}
 
 pub opens : ok opened ≡ P.openOf file
-unfolding file opened E.le R.step R.steps R.bytes R.crc32 K.claim K.deny K.andThen K.first K.each K.seek K.atMost K.below K.same K.both K.either M.sameFrom M.startsWith H.startCheck H.isCount H.fieldsCheck H.isZero H.notZero H.versionEnd H.versionCheck H.boundsCheck H.headCheck T.isType T.has T.repeats T.banned T.apart T.apartAt T.placedCheck T.typedCheck T.entryCheck T.entriesCheck T.entryAt T.sectionOf O.presentAt O.presentCheck O.bit O.flagCheck O.zonesCheck O.lengthsCheck O.countsCheck O.sectionsOf O.gridOf O.directoryOf O.openedOf N.shapeCheck N.offsetRule N.prior N.offsetCheck N.textCheck N.textAt N.namesCheck W.rangeCheck G.dimensions G.candidateCheck G.cellCheck G.gridCheck S.recordAt S.ruled S.boxIn S.pointIn S.within S.listIn S.listRule S.listAt S.ringIn S.ringRule S.ringAt S.countRule S.opRule S.opAt S.groupIn S.groupRule S.groupAt S.chunkIn S.chunkRule S.chunkAt D.chunkCheck D.leastOff D.chunkCheckAt D.chunksCheck D.total D.countAt D.groupCheck D.groupCheckAt D.groupsCheck P.tableCheck P.sizesCheck P.namesIn P.gridIn P.contentsCheck P.openOf B.contains B.relevant B.right B.ordered B.boxInDomain Deltas.fits32 Deltas.addDelta A.inDomain
+unfolding file opened E.le R.step R.steps R.bytes R.crc32 K.claim K.deny K.andThen K.first K.each K.seek K.atMost K.below K.same K.both K.either M.sameFrom M.startsWith H.startCheck H.isCount H.fieldsCheck H.isZero H.notZero H.versionEnd H.versionCheck H.boundsCheck H.headCheck T.isType T.has T.repeats T.banned T.apart T.apartAt T.placedCheck T.typedCheck T.entryCheck T.entriesCheck T.entryAt T.sectionOf O.presentAt O.presentCheck O.bit O.flagCheck O.zonesCheck O.lengthsCheck O.countsCheck O.sectionsOf O.gridOf O.directoryOf O.openedOf N.shapeCheck N.offsetRule N.prior N.offsetCheck N.textCheck N.textAt N.namesCheck W.rangeCheck G.dimensions G.candidateCheck G.cellCheck G.gridCheck S.recordAt S.ruled S.boxIn S.pointIn S.fitsBelow S.listIn S.listRule S.listAt S.ringIn S.ringRule S.ringAt S.countRule S.opRule S.opAt S.groupIn S.groupRule S.groupAt S.chunkIn S.chunkRule S.chunkAt D.chunkCheck D.leastOff D.chunkCheckAt D.chunksCheck D.total D.countAt D.groupCheck D.groupCheckAt D.groupsCheck P.tableCheck P.sizesCheck P.namesIn P.gridIn P.contentsCheck P.openOf B.contains B.relevant B.right B.ordered B.boxInDomain Deltas.fits32 Deltas.addDelta A.inDomain
 opens = refl
 
 pub vouched : Answered file opened

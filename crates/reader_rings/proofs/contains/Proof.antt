@@ -7,13 +7,13 @@ use mir.ValLaws.{toZ-ofZ}
 use Rattle.plane.specs.declared.Point.{Point}
 use Rattle.plane.specs.Domain.{inDomain}
 use Rattle.answer.specs.Answers.{refused}
-use Rattle.tzb_core.specs.Points.{point}
-use Rattle.tzb_core.specs.Ray.{pointOf}
-use Rattle.reader_rings.specs.Zones.{zoneOf, whole-over, whole-off, whole-is}
+use Rattle.reader_rings.specs.Zones.{zoneOf}
 use native.Mathlib.Omega.{arith}
 use borrow.Author.Needs.{needs}
 use Rattle.reader_rings.proofs.contains.Statement.{statement}
 use Rattle.reader_rings.proofs.contains.Tie as tie
+use Rattle.plane.specs.Places.{point, pointOf}
+use Rattle.reader_rings.proofs.ZonesLaws.{whole-over, whole-off, whole-is}
 
 refuse-requires : tie.Need-refuse-requires
 refuse-requires c κs = search needs

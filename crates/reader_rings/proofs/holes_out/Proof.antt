@@ -3,15 +3,17 @@
 use mathlib.Core.Path.{_≡_, refl, sym, ap, _∙_}
 use mathlib.Core.Bool.{true, false}
 use Prim.Native.Nat.{_+_, _-_, _<_}
-use Rattle.reader_rings.specs.Rings.{judged, ringContains}
-use Rattle.reader_rings.specs.Zones.{seek, seek-no, seek-yes, seek-on, seek-end}
+use Rattle.reader_rings.specs.Rings.{ringContains}
 use native.Mathlib.Omega.{arith}
 use borrow.Author.Needs.{needs}
 use Rattle.reader_rings.proofs.holes_out.Statement.{statement}
 use Rattle.reader_rings.proofs.holes_out.Tie as tie
+use Rattle.replies.specs.Replies.{verdictTold}
+use Rattle.reader_rings.proofs.ZonesLaws.{seek-no, seek-yes, seek-on, seek-end}
+use Rattle.reader_rings.specs.Zones.{firstSo}
 
 abbrev Inv-loop : tie.InvT-loop
-Inv-loop o s p count from i₀ left₀ i left = (seek (ringContains o s p false) false true (left - 1) i ≡ seek (ringContains o s p false) false true (count - 1) i₀) × (i + left < 0x2_0001_0000)
+Inv-loop o s p count from i₀ left₀ i left = (firstSo (ringContains o s p false) false true (left - 1) i ≡ firstSo (ringContains o s p false) false true (count - 1) i₀) × (i + left < 0x2_0001_0000)
 
 abbrev μ-loop : tie.MeasureT-loop
 μ-loop o s p count from i₀ left₀ i left = left
@@ -29,7 +31,7 @@ returns : tie.Need-returns Inv-loop μ-loop
 returns c =
     let t = c .before in
     let l = t .before .before .before .before in
-    seek-no _ _ _ _ _ (omega arith) _ (sym (ap judged (t .t .given .1)) ∙ t .before .before .ring-contains .ensures) ∙ l .loop .inv .0
+    seek-no _ _ _ _ _ (omega arith) _ (sym (ap verdictTold (t .t .given .1)) ∙ t .before .before .ring-contains .ensures) ∙ l .loop .inv .0
 
 enum-known-t-2 : tie.Need-enum-known-t-2 Inv-loop μ-loop
 enum-known-t-2 c = search needs
@@ -38,7 +40,7 @@ returns-2 : tie.Need-returns-2 Inv-loop μ-loop
 returns-2 c =
     let t = c .before .before in
     let l = t .before .before .before .before in
-    seek-yes _ _ _ _ _ (omega arith) _ (sym (ap judged (t .t2 .given .1)) ∙ t .before .before .ring-contains .ensures) (c .if1 .taken) ∙ l .loop .inv .0
+    seek-yes _ _ _ _ _ (omega arith) _ (sym (ap verdictTold (t .t2 .given .1)) ∙ t .before .before .ring-contains .ensures) (c .if1 .taken) ∙ l .loop .inv .0
 
 add-i : tie.Need-add-i Inv-loop μ-loop
 add-i c = search needs
@@ -53,7 +55,7 @@ loop-again : tie.Need-loop-again Inv-loop μ-loop
 loop-again c =
     let t = c .before .before in
     let l = t .before .before .before .before in
-    (seek-on _ _ _ _ _ (omega arith) _ (sym (ap judged (t .t2 .given .1)) ∙ t .before .before .ring-contains .ensures) (c .if1 .left) ∙ l .loop .inv .0, omega arith)
+    (seek-on _ _ _ _ _ (omega arith) _ (sym (ap verdictTold (t .t2 .given .1)) ∙ t .before .before .ring-contains .ensures) (c .if1 .left) ∙ l .loop .inv .0, omega arith)
 
 returns-3 : tie.Need-returns-3 Inv-loop μ-loop
 returns-3 c = seek-end _ _ _ _ _ (omega arith) ∙ c .before .loop .inv .0

@@ -1,10 +1,10 @@
 -- `reader_rings::joint` meets its contract: nothing, or the segment.
 -- Assumes nothing.
 use mathlib.Core.Path.{sym, _∙_}
-use Rattle.reader_rings.specs.Rings.{joint-none, joint-seg}
 use borrow.Author.Needs.{needs}
 use Rattle.reader_rings.proofs.joint.Statement.{statement}
 use Rattle.reader_rings.proofs.joint.Tie as tie
+use Rattle.reader_rings.proofs.RingsLaws.{joint-none, joint-seg}
 
 same-point-requires : tie.Need-same-point-requires
 same-point-requires c κs = search needs

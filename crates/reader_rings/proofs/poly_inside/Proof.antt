@@ -1,11 +1,11 @@
 -- `reader_rings::poly_inside` meets its contract: the outer ring, then the holes.
 -- Assumes nothing.
 use mathlib.Core.Path.{sym, ap, _∙_}
-use Rattle.reader_rings.specs.Rings.{judged}
-use Rattle.reader_rings.specs.Zones.{inside-no, inside-is, inside-not}
 use borrow.Author.Needs.{needs}
 use Rattle.reader_rings.proofs.poly_inside.Statement.{statement}
 use Rattle.reader_rings.proofs.poly_inside.Tie as tie
+use Rattle.replies.specs.Replies.{verdictTold}
+use Rattle.reader_rings.proofs.ZonesLaws.{inside-no, inside-is, inside-not}
 
 wide-requires : tie.Need-wide-requires
 wide-requires c κs = search needs
@@ -29,19 +29,19 @@ returns : tie.Need-returns
 returns c =
     let r = c .before .before .before in
     let q = r .before .before .before .args .q in
-    inside-no _ _ _ q _ (r .before .wide .ensures .0) _ (sym (ap judged (c .before .u .given .1)) ∙ r .ring-contains .ensures)
+    inside-no _ _ _ q _ (r .before .wide .ensures .0) _ (sym (ap verdictTold (c .before .u .given .1)) ∙ r .ring-contains .ensures)
 
 returns-2 : tie.Need-returns-2
 returns-2 c =
     let r = c .before .before .before .before .before in
     let q = r .before .before .before .args .q in
-    c .holes-out .ensures ∙ inside-is _ _ _ q _ (r .before .wide .ensures .0) _ (sym (ap judged (c .before .before .before .u2 .given .1)) ∙ r .ring-contains .ensures) (c .before .if1 .taken)
+    c .holes-out .ensures ∙ inside-is _ _ _ q _ (r .before .wide .ensures .0) _ (sym (ap verdictTold (c .before .before .before .u2 .given .1)) ∙ r .ring-contains .ensures) (c .before .if1 .taken)
 
 returns-3 : tie.Need-returns-3
 returns-3 c =
     let r = c .before .before .before .before in
     let q = r .before .before .before .args .q in
-    inside-not _ _ _ q _ (r .before .wide .ensures .0) _ (sym (ap judged (c .before .before .u2 .given .1)) ∙ r .ring-contains .ensures) (c .if1 .left)
+    inside-not _ _ _ q _ (r .before .wide .ensures .0) _ (sym (ap verdictTold (c .before .before .u2 .given .1)) ∙ r .ring-contains .ensures) (c .if1 .left)
 
 pub poly-inside-spec : {M : Type 1} → statement M
 poly-inside-spec =

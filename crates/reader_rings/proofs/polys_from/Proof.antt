@@ -6,15 +6,16 @@ use mathlib.Core.Logic.{⊎-elim}
 use Prim.Native.Nat.{_+_, _<_}
 use Rattle.answer.specs.Answers.{ok}
 use Rattle.reader_records.specs.Records.{toldList}
-use Rattle.reader_rings.specs.Rings.{judged}
-use Rattle.reader_rings.specs.Zones.{polyOf, seek, seek-no, seek-yes, seek-on, seek-end, poly-no, poly-in, poly-out}
+use Rattle.reader_rings.specs.Zones.{polyOf, firstSo}
 use native.Mathlib.Omega.{arith}
 use borrow.Author.Needs.{needs}
 use Rattle.reader_rings.proofs.polys_from.Statement.{statement}
 use Rattle.reader_rings.proofs.polys_from.Tie as tie
+use Rattle.replies.specs.Replies.{verdictTold}
+use Rattle.reader_rings.proofs.ZonesLaws.{seek-no, seek-yes, seek-on, seek-end, poly-no, poly-in, poly-out}
 
 abbrev Inv-loop : tie.InvT-loop
-Inv-loop o s p count from off all below i₀ left₀ i left = (seek (polyOf o s p) true false left i ≡ seek (polyOf o s p) true false count i₀) × (i + left < 0x1_0001_0000)
+Inv-loop o s p count from off all below i₀ left₀ i left = (firstSo (polyOf o s p) true false left i ≡ firstSo (polyOf o s p) true false count i₀) × (i + left < 0x1_0001_0000)
 
 abbrev μ-loop : tie.MeasureT-loop
 μ-loop o s p count from off all below i₀ left₀ i left = left
@@ -53,7 +54,7 @@ returns-2 c =
     let l = t .before .before in
     let h = sym (ap toldList (t .t2 .given .1)) ∙ l .list-at .ensures in
     let e = sym (i .before .before .contains .ensures) ∙ i .before .if1 .taken in
-    seek-no _ _ _ _ _ (omega arith) _ (sym (ap judged (c .before .v .given .1)) ∙ i .poly-inside .ensures ∙ poly-in _ _ _ _ _ h e) ∙ l .before .before .loop .inv .0
+    seek-no _ _ _ _ _ (omega arith) _ (sym (ap verdictTold (c .before .v .given .1)) ∙ i .poly-inside .ensures ∙ poly-in _ _ _ _ _ h e) ∙ l .before .before .loop .inv .0
 
 enum-known-v-2 : tie.Need-enum-known-v-2 Inv-loop μ-loop
 enum-known-v-2 c = search needs
@@ -65,7 +66,7 @@ returns-3 c =
     let l = t .before .before in
     let h = sym (ap toldList (t .t2 .given .1)) ∙ l .list-at .ensures in
     let e = sym (i .before .before .contains .ensures) ∙ i .before .if1 .taken in
-    seek-yes _ _ _ _ _ (omega arith) _ (sym (ap judged (c .before .before .v2 .given .1)) ∙ i .poly-inside .ensures ∙ poly-in _ _ _ _ _ h e) (c .if2 .taken) ∙ l .before .before .loop .inv .0
+    seek-yes _ _ _ _ _ (omega arith) _ (sym (ap verdictTold (c .before .before .v2 .given .1)) ∙ i .poly-inside .ensures ∙ poly-in _ _ _ _ _ h e) (c .if2 .taken) ∙ l .before .before .loop .inv .0
 
 add-i : tie.Need-add-i Inv-loop μ-loop
 add-i c = search needs
@@ -85,7 +86,7 @@ loop-again c =
     let b = c .before .contains .ensures in
     let f =
     ⊎-elim
-    (λ w. ap ok (sym (w .5 .left)) ∙ sym (ap judged (w .3 .given .1)) ∙ w .1 .ensures ∙ poly-in _ _ _ _ _ h (sym b ∙ w .0 .taken))
+    (λ w. ap ok (sym (w .5 .left)) ∙ sym (ap verdictTold (w .3 .given .1)) ∙ w .1 .ensures ∙ poly-in _ _ _ _ _ h (sym b ∙ w .0 .taken))
     (λ w. poly-out _ _ _ _ _ h (sym b ∙ w .left))
     (c .if1 .came)
     in

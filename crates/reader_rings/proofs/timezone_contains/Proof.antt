@@ -1,11 +1,11 @@
 -- `reader_rings::timezone_contains` meets its contract: the record, the box, then the polygons.
 -- Assumes nothing.
 use mathlib.Core.Path.{sym, ap, _∙_}
-use Rattle.reader_rings.specs.Zones.{zone-no, zone-is, zone-out}
 use Rattle.reader_records.specs.Records.{toldList}
 use borrow.Author.Needs.{needs}
 use Rattle.reader_rings.proofs.timezone_contains.Statement.{statement}
 use Rattle.reader_rings.proofs.timezone_contains.Tie as tie
+use Rattle.reader_rings.proofs.ZonesLaws.{zone-no, zone-is, zone-out}
 
 tz-at-requires : tie.Need-tz-at-requires
 tz-at-requires c κs = search needs

@@ -1,8 +1,8 @@
 -- `reader_rings::turn` meets its contract: as it is, or turned round.
 -- Assumes nothing.
-use Rattle.reader_rings.specs.Rings.{turn-as, turn-round}
 use Rattle.reader_rings.proofs.turn.Statement.{statement}
 use Rattle.reader_rings.proofs.turn.Tie as tie
+use Rattle.reader_rings.proofs.RingsLaws.{turn-as, turn-round}
 
 returns : tie.Need-returns
 returns c = turn-as _ _ (c .if1 .taken)

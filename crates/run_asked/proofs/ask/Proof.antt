@@ -1,7 +1,6 @@
 -- `run_asked::ask` is safe and ends: the measure is how often bytes may still come.
 -- Assumes nothing.
 use native.Mathlib.Omega.{arith}
-use borrow.Author.Needs.{needs}
 use Prim.Native.Nat.{_-_}
 use Rattle.run_asked.proofs.ask.Statement.{statement}
 use Rattle.run_asked.proofs.ask.Tie as tie

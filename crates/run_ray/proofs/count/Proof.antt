@@ -1,7 +1,6 @@
 -- `run_ray::count` is safe and ends: the measure is how many records may still come.
 -- Assumes nothing.
 use native.Mathlib.Omega.{arith}
-use borrow.Author.Needs.{needs}
 use Prim.Native.Nat.{_-_}
 use Rattle.run_ray.proofs.count.Statement.{statement}
 use Rattle.run_ray.proofs.count.Tie as tie

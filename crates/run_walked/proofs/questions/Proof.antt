@@ -1,7 +1,6 @@
 -- `run_walked::questions` is safe and ends: the measure is how many questions may still come.
 -- Assumes nothing.
 use native.Mathlib.Omega.{arith}
-use borrow.Author.Needs.{needs}
 use Prim.Native.Nat.{_-_}
 use Rattle.run_walked.proofs.questions.Statement.{statement}
 use Rattle.run_walked.proofs.questions.Tie as tie

@@ -1,10 +1,11 @@
 -- `chunk::first_point` meets its contract: two numbers, then the domain.
 -- Assumes nothing.
 use mathlib.Core.Path.{sym, ap, _∙_}
-use Rattle.tzb_core.specs.Points.{spotted, first-no, first-at}
+use Rattle.tzb_core.specs.Points.{spotted}
 use borrow.Author.Needs.{needs}
 use Rattle.tzb_core.proofs.chunk.first_point.Statement.{statement}
 use Rattle.tzb_core.proofs.chunk.first_point.Tie as tie
+use Rattle.tzb_core.proofs.PointsLaws.{first-no, first-at}
 
 numbers-requires : tie.Need-numbers-requires
 numbers-requires c κs = search needs

@@ -2,10 +2,10 @@
 -- Assumes nothing.
 use mathlib.Core.Path.{sym, ap, _∙_}
 use Rattle.answer.specs.Answers.{refused}
-use Rattle.tzb_core.specs.Points.{inside-yes, inside-not}
 use borrow.Author.Needs.{needs}
 use Rattle.tzb_core.proofs.chunk.inside_at.Statement.{statement}
 use Rattle.tzb_core.proofs.chunk.inside_at.Tie as tie
+use Rattle.tzb_core.proofs.PointsLaws.{inside-yes, inside-not}
 
 point-in-domain-requires : tie.Need-point-in-domain-requires
 point-in-domain-requires c κs = search needs

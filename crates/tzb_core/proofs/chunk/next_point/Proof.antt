@@ -1,10 +1,11 @@
 -- `chunk::next_point` meets its contract: two numbers, the sums, then the domain.
 -- Assumes nothing.
 use mathlib.Core.Path.{sym, ap, _∙_}
-use Rattle.tzb_core.specs.Points.{spotted, moved, next-no, next-over, next-at}
+use Rattle.tzb_core.specs.Points.{spotted, moved}
 use borrow.Author.Needs.{needs}
 use Rattle.tzb_core.proofs.chunk.next_point.Statement.{statement}
 use Rattle.tzb_core.proofs.chunk.next_point.Tie as tie
+use Rattle.tzb_core.proofs.PointsLaws.{next-no, next-over, next-at}
 
 numbers-requires : tie.Need-numbers-requires
 numbers-requires c κs = search needs

@@ -5,11 +5,12 @@ use lib.IntN.{ℤ}
 use mir.Syntax.{w32}
 use Rattle.answer.specs.Answers.{ok}
 use Rattle.tzb_core.specs.Delta.{addDelta, summed}
-use Rattle.tzb_core.specs.Points.{point, moved-x, moved-y, moved-to}
 use Rattle.basics.specs.Signed.{back}
 use borrow.Author.Needs.{needs}
 use Rattle.tzb_core.proofs.chunk.shifted.Statement.{statement}
 use Rattle.tzb_core.proofs.chunk.shifted.Tie as tie
+use Rattle.plane.specs.Places.{point}
+use Rattle.tzb_core.proofs.PointsLaws.{moved-x, moved-y, moved-to}
 
 x-sum : (a : tie.After-add-delta) → summed (a .add-delta .result) ≡ addDelta (a .before .before .before .args .q .x) (a .before .before .before .args .d .x)
 x-sum a = a .add-delta .ensures ∙ ap₂ addDelta (back w32 _ (a .before .before .struct-told .given .0 .1)) (back w32 _ (a .before .struct-told2 .given .0 .1))

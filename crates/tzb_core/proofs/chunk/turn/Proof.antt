@@ -10,11 +10,12 @@ use Rattle.answer.specs.Refusals.{refusal}
 use Rattle.answer.specs.Answers.{ok, refused}
 use Rattle.plane.specs.declared.I32Point.{I32Point}
 use Rattle.plane.specs.Domain.{inDomain}
-use Rattle.tzb_core.specs.Points.{point, moved, movedBy, arrive, turnOf}
+use Rattle.tzb_core.specs.Points.{moved, movedBy, arrive, turnOf}
 use Rattle.tzb_core.specs.declared.chunk.Turned.the-variants as T
 use borrow.Author.Needs.{needs}
 use Rattle.tzb_core.proofs.chunk.turn.Statement.{statement}
 use Rattle.tzb_core.proofs.chunk.turn.Tie as tie
+use Rattle.plane.specs.Places.{point}
 
 module _ (q : I32Point) (x n : ℤ) where
   waits : (half : Bool) → not half ≡ true → T.Half ≡ turnOf q half x n

@@ -6,10 +6,11 @@ use mir.Syntax.{w32, w64}
 use mir.ValLaws.{toZ-ofZ}
 use borrow.Author.Needs.{needs}
 use Rattle.answer.specs.Answers.{ok, refused}
-use Rattle.tzb_core.specs.Delta.{fits32, sum-fits, sum-over}
+use Rattle.tzb_core.specs.Delta.{fits32}
 use Rattle.basics.specs.Signed.{back}
 use Rattle.tzb_core.proofs.delta.add_delta.Statement.{statement}
 use Rattle.tzb_core.proofs.delta.add_delta.Tie as tie
+use Rattle.tzb_core.proofs.DeltaLaws.{sum-fits, sum-over}
 
 module _ (f : tie.After-fits2) where
   sum-is : f .before .wide-sum .result ≡ f .before .before .args .prev +ℤ f .before .before .args .delta

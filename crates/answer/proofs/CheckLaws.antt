@@ -9,7 +9,7 @@ use mathlib.Core.List.{List, [], _∷_}
 use mathlib.Core.Path.{_≡_, refl, sym, _∙_}
 use Rattle.answer.specs.declared.Refusal.{Refusal}
 use Rattle.answer.specs.Answers.{ok, refused, Check, fine}
-use Rattle.answer.specs.Checks.{failed, claim, deny, andThen, first, each, seek, pick, atMost, below, same, both, either}
+use Rattle.answer.specs.Checks.{failed, claim, deny, andThen, first, each, seek, atMost, below, same, both, either}
 
 pub yes : (n : ℕ) (b : Bool) → b ≡ true → claim n b ≡ fine
 unfolding claim
@@ -90,6 +90,28 @@ module _ (f : ℕ → Check) (n i : ℕ) (m : Check) (v : each f (n - i) i ≡ m
   each-stop k e =
       let g : n - i ≡ suc (n - (i + 1)) = omega arith in
       rw (g, e) at v
+
+-- each of a row of checks that is fine
+and-one : (a b : Check) → andThen a b ≡ fine → a ≡ fine
+unfolding andThen
+and-one (ok u) b e = refl
+and-one (refused k) b e = e
+
+and-rest : (a b : Check) → andThen a b ≡ fine → b ≡ fine
+unfolding andThen
+and-rest (ok u) b e = e
+and-rest (refused k) b e = let z : _≡_ {A = ℕ} 0 1 = cc in absurd (omega arith)
+
+each-all : (f : ℕ → Check) (n i j : ℕ) → each f n i ≡ fine → j < n → f (i + j) ≡ fine
+unfolding each
+each-all f zero i j e h = absurd (omega arith)
+each-all f (suc n) i zero e h = let q : i + 0 ≡ i = omega arith in rw q (and-one (f i) _ e)
+each-all f (suc n) i (suc j) e h =
+    let q : i + suc j ≡ i + 1 + j = omega arith in
+    rw q (each-all f n (i + 1) j (and-rest (f i) _ e) (omega arith))
+
+pub each-at : (f : ℕ → Check) (n k : ℕ) → each f n 0 ≡ fine → k < n → f k ≡ fine
+each-at f n k e h = let q : 0 + k ≡ k = omega arith in rw q at (each-all f n 0 k e h)
 
 -- A loop over `seek`, likewise
 pub seek-start : (p : ℕ → Bool) (n : ℕ) → seek p (n - 0) 0 ≡ seek p n 0

@@ -1,13 +1,13 @@
--- `tzb_record::store` meets its contract: the bytes still to come, laid behind those that stand, are all of them. Once over the width.
+-- `fields::store` meets its contract: the bytes still to come, laid behind those that stand, are all of them. Once over the width.
 -- Assumes nothing.
 use Prim.Native.Nat.{_+_, _-_, _≤_}
 use native.Mathlib.Omega.{arith}
 use borrow.Author.Needs.{needs}
 use mathlib.Core.Path.{_≡_, refl, _∙_}
 use lib.ListN.{length, length-set}
-use Rattle.tzb_record.specs.Stores.{digits, digits-all, digits-on, digits-end}
-use Rattle.tzb_record.proofs.store.Statement.{statement}
-use Rattle.tzb_record.proofs.store.Tie as tie
+use Rattle.fields.proofs.store.Statement.{statement}
+use Rattle.fields.proofs.store.Tie as tie
+use Rattle.fields.proofs.StoresLaws.{digits, digits-all, digits-on, digits-end}
 
 abbrev Inv-loop : tie.InvT-loop
 Inv-loop out₀ at width number rest₀ i₀ out rest i =

@@ -1,13 +1,13 @@
--- `tzb_record::bits16` meets its contract: below 0 the complement of the complement, else the number itself.
+-- `fields::bits16` meets its contract: below 0 the complement of the complement, else the number itself.
 -- Assumes nothing.
 use native.Mathlib.Omega.{arith}
 use mathlib.Core.Path.{ap, _∙_}
-use Prim.Native.Nat.{ℕ, _-_}
+use Prim.Native.Nat.{_-_}
 use lib.IntN.{ℤ, natAbs}
 use mir.Syntax.{w16}
-use Rattle.tzb_record.proofs.Signs.{below, above}
-use Rattle.tzb_record.proofs.bits16.Statement.{statement}
-use Rattle.tzb_record.proofs.bits16.Tie as tie
+use Rattle.fields.proofs.Signs.{below, above}
+use Rattle.fields.proofs.bits16.Statement.{statement}
+use Rattle.fields.proofs.bits16.Tie as tie
 
 cast-result : tie.Need-cast-result
 cast-result c =
