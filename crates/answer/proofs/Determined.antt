@@ -2,11 +2,11 @@
 -- Assumes nothing.
 use mathlib.Core.Path.{sym, _∙_}
 use Rattle.basics.specs.Determined.{Determined}
-use Rattle.answer.specs.Answers.{checked-one}
 use Rattle.answer.proofs.refuse.Reads as refuse-reads
 use Rattle.answer.proofs.fail.Reads as fail-reads
 use Rattle.answer.proofs.claim.Reads as claim-reads
 use Rattle.answer.proofs.plus.Reads as plus-reads
+use Rattle.answer.proofs.AnswersLaws.{checked-one}
 
 pub refuse : Determined refuse-reads.Learnt
 refuse κ a r r' e e' p q = p ∙ sym q

@@ -1,2 +1,5 @@
 -- That answers are determined.
+pub mod WalksLaws
+pub mod AnswersLaws
+pub mod CheckLaws
 pub mod Determined

@@ -1,9 +1,10 @@
 -- What a question answers: a value, or a refusal. One thing after another: the first refusal stands.
 -- Assumes nothing.
 use Prim.Native.Nat.{ℕ}
-use native.Mathlib.Omega.{arith}
-use mathlib.Core.Path.{_≡_, refl, sym, ap, _∙_}
+use mathlib.Core.Path.{_≡_}
 use mathlib.Core.Bool.{Bool, true, false}
+use mathlib.Core.List.{List, _++_}
+use lib.ListN.{length, drop}
 use Rattle.answer.specs.declared.Refusal.{Refusal}
 use Rattle.answer.specs.declared.Checked.{Checked}
 use Rattle.answer.specs.declared.Checked.the-variants.{Fine, Refused}
@@ -45,42 +46,35 @@ abbrev pub _before_ : {A : Type 0} → Check → Answer A → Answer A
 ok u before x = x
 refused k before x = refused k
 
--- ---- laws
-pub then-ok : {A B : Type 0} (x : Answer A) (k : A → Answer B) (a : A) → ok a ≡ x → k a ≡ (x then k)
-then-ok x k a e = rw (← e)
+-- what is told of an answer where its value is not asked for
+abbrev pub outcome : {A : Type 0} → Answer A → Check
+outcome (ok a) = fine
+outcome (refused r) = refused r
 
-pub then-no : {A B : Type 0} (x : Answer A) (k : A → Answer B) (r : Refusal) → refused r ≡ x → refused r ≡ (x then k)
-then-no x k r e = rw (← e)
+-- how many there are
+abbrev pub howMany : {A : Type 0} → Answer (List A) → Answer ℕ
+howMany x = x then λ l. ok (length l)
 
-pub need-met : {A : Type 0} (n : ℕ) (b : Bool) (x : Answer A) → b ≡ true → x ≡ need n b x
-need-met n b x e = rw e
+-- lent memory after an answer: what was answered stands first, and what lies behind is as it was; after a refusal all is as it was
+abbrev pub left : {A : Type 0} → List A → Answer (List A) → List A
+left room (ok l) = l ++ drop (length l) room
+left room (refused k) = room
 
-pub need-not : {A : Type 0} (n : ℕ) (b : Bool) (x : Answer A) → b ≡ false → no n ≡ need n b x
-need-not n b x e = rw e
+-- the answer's value, or the fixed one
+abbrev pub valueOr : {A : Type 0} → A → Answer A → A
+valueOr fixed (ok a) = a
+valueOr fixed (refused r) = fixed
 
--- what an answer of several steps was made of
-pub zero-one : _≡_ {A = ℕ} 0 1 → ⊥
-zero-one z = omega arith
+-- the answer is no refusal
+pub record Given {A : Type 0} (x : Answer A) : Type 0 where
+  pub value : A
+  pub is : ok value ≡ x
 
-pub then-inv : {A B : Type 0} (x : Answer A) (k : A → Answer B) (b : B) → ok b ≡ (x then k) → (a : A) × (ok a ≡ x) × (ok b ≡ k a)
-then-inv (ok a) k b e = (a, refl, e)
-then-inv (refused r) k b e = let z : _≡_ {A = ℕ} 0 1 = cc in absurd (zero-one z)
+-- an answer that passes a test; a refusal does not
+unfoldable pub holds : {A : Type 0} → (A → Bool) → Answer A → Bool
+holds P (ok a) = P a
+holds P (refused r) = false
 
-pub need-inv : {A : Type 0} (n : ℕ) (c : Bool) (x : Answer A) (a : A) → ok a ≡ need n c x → (c ≡ true) × (ok a ≡ x)
-need-inv n true x a e = (refl, e)
-need-inv n false x a e = let z : _≡_ {A = ℕ} 0 1 = cc in absurd (zero-one z)
-
-pub ok-inv : {A : Type 0} (a b : A) → ok a ≡ ok b → a ≡ b
-ok-inv a b e = cc
-
--- no two answers of a check are told alike
-pub checked-one : (r r' : Checked) → checkedTold r ≡ checkedTold r' → r ≡ r'
-checked-one r r' e = sym (back r) ∙ ap again e ∙ back r'
-  where
-    again : Check → Checked
-    again (ok u) = Fine
-    again (refused k) = Refused k
-
-    back : (r : Checked) → again (checkedTold r) ≡ r
-    back Fine = refl
-    back (Refused k) = refl
+-- any answer that is no refusal
+unfoldable pub answered : {A : Type 0} → Answer A → Bool
+answered x = holds (λ a. true) x

@@ -2,5 +2,4 @@
 pub mod Refusals
 pub mod Answers
 pub mod Checks
-pub mod CheckLaws
 pub mod Walks

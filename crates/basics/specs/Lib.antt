@@ -3,5 +3,7 @@ pub mod Truth
 pub mod Parity
 pub mod Whole
 pub mod Determined
+pub mod Told
+pub mod Total
 pub mod Picked
 pub mod Signed

@@ -8,11 +8,10 @@ use Rattle.plane.specs.Segment.{seg}
 use Rattle.answer.specs.Answers.{ok}
 use Rattle.shapes.specs.Shapes.{zoneIn}
 use Rattle.shapes.specs.Layout.{zoneAt}
-use Rattle.reader_opened.specs.declared.Opened.{Opened}
-use Rattle.reader_rings.specs.Zones.{containsAt}
+use Rattle.opened.specs.declared.Opened.{Opened}
+use Rattle.reader_zones.specs.Zones.{containsAt}
 use Rattle.reader_exact.specs.Directories.{directories}
 use Rattle.reader_exact.proofs.Exact.{contains-exact}
-use Rattle.reader_check.specs.FullCheck.{accepted}
 use Rattle.tzb.specs.Opening.{openOf}
 use Rattle.tzb.specs.FullCheck.{fullCheckOf}
 use Rattle.demands.specs.Words.{Position}
@@ -20,6 +19,7 @@ use Rattle.demands.specs.Demand3.{Exactly, Demand3}
 use Rattle.demands.proofs.Accepted.{accepts-exactly, accepted-with}
 use Rattle.demands.proofs.Rules.{accepted-sound, accepted-covered}
 use Rattle.demands.proofs.Words.{zone-in-words}
+use Rattle.replies.specs.Replies.{accepted}
 
 module _ (file : List ℕ) (accepts : fullCheckOf file ≡ accepted) (o : Opened) (opened : ok o ≡ openOf file) (zone : ℕ) (its-own : zone < o .zones .count) where
   -- as one equation, and at every whole-number point: outside the domain both say no

@@ -14,14 +14,15 @@ use Rattle.plane.specs.Lines.{every}
 use Rattle.plane.specs.Runs.{run, run-every}
 use Rattle.answer.specs.Answers.{Answer, ok, _then_, fine}
 use Rattle.answer.specs.Checks.{andThen, same}
-use Rattle.answer.specs.CheckLaws.{same-eq}
-use Rattle.reader_opened.specs.declared.Opened.{Opened}
+use Rattle.answer.proofs.CheckLaws.{same-eq}
+use Rattle.opened.specs.declared.Opened.{Opened}
 use Rattle.reader_names.proofs.Accepted.{NameGiven}
-use Rattle.reader_grid.specs.Asked.{Chosen, none, all, listed, candidateAt}
+use Rattle.reader_grid.specs.Asked.{candidateAt}
 use Rattle.reader_grid.proofs.Accepted.{ListedZone, AllZones}
-use Rattle.reader_rings.specs.Zones.{zoneOf}
-use Rattle.reader_lookup.specs.Asking.{Sought, nowhere, inZone, scaled, candidateOf, hitAt, orElse, firstHit, also, allHits, unlooked, lookupAmong, hitsAmong, namesRead}
+use Rattle.reader_zones.specs.Zones.{zoneOf}
+use Rattle.reader_lookup.specs.Asking.{scaled, candidateOf, hitAt, orElse, firstHit, also, allHits, unlooked, lookupAmong, hitsAmong, namesRead}
 use Rattle.demands.specs.Lookups.{zoneListed, candidateZones, firstThat, allThat, shortcut}
+use Rattle.replies.specs.Replies.{Chosen, none, all, listed, Sought, nowhere, inZone}
 
 -- ---- a row of candidates
 abbrev hitOf : (ℕ → Bool) → ℕ → Sought

@@ -8,18 +8,16 @@ use lib.IntN.{pos}
 use lib.Ieee.{Float, binary64, ofBits, ofInt, lt, mul}
 use lib.ListN.{length}
 use Rattle.plane.specs.declared.Point.{Point}
-use Rattle.answer.specs.Answers.{ok, need, ok-inv}
+use Rattle.answer.specs.Answers.{ok, need}
 use Rattle.answer.specs.Checks.{atMost}
-use Rattle.tzb_core.specs.Ray.{pointOf}
-use Rattle.reader_opened.specs.declared.Opened.{Opened}
+use Rattle.opened.specs.declared.Opened.{Opened}
 use Rattle.reader_names.specs.Asked.{nameOr}
 use Rattle.reader_order.specs.Order.{ordered}
-use Rattle.reader_grid.specs.Asked.{Chosen, listed, candidatesOf}
+use Rattle.reader_grid.specs.Asked.{candidatesOf}
 use Rattle.reader_grid.proofs.Accepted.{AllZones}
-use Rattle.reader_rings.specs.Zones.{zoneOf}
-use Rattle.reader_lookup.specs.Asking.{inZone, scaled, unlooked, lookupOf, hitsOf, placed, listFor, listOf}
+use Rattle.reader_zones.specs.Zones.{zoneOf}
+use Rattle.reader_lookup.specs.Asking.{scaled, unlooked, lookupOf, hitsOf, placed, listFor, listOf}
 use Rattle.reader_exact.proofs.Exact.{walk-exact}
-use Rattle.reader_check.specs.FullCheck.{accepted}
 use Rattle.tzb.specs.Opening.{openOf}
 use Rattle.tzb.specs.FullCheck.{fullCheckOf}
 use Rattle.tzb.proofs.Given.{name-answered, candidates-answered}
@@ -29,6 +27,9 @@ use Rattle.demands.proofs.Accepted.{accepted-with}
 use Rattle.demands.proofs.Rules.{accepted-sound, accepted-covered}
 use Rattle.demands.proofs.Words.{position-in}
 use Rattle.demands.proofs.Hits.{candidates-known, kept-known, hits-among, first-among, short-among, names-read}
+use Rattle.plane.specs.Places.{pointOf}
+use Rattle.replies.specs.Replies.{Chosen, listed, inZone, accepted}
+use Rattle.answer.proofs.AnswersLaws.{ok-inv}
 
 -- ---- for any test that the zones' answers are
 module _ (file : List ℕ) (o : Opened) (opened : ok o ≡ openOf file) (lng lat : Float) (c : Chosen) (chosen : ok c ≡ candidatesOf o file lng lat) where

@@ -9,27 +9,26 @@ use lib.IntN.{ℤ}
 use lib.Dec.{leb}
 use lib.Ieee.{Float}
 use lib.ListN.{length}
-use Rattle.answer.specs.Answers.{Answer, ok, need-met, ok-inv}
-use Rattle.answer.specs.CheckLaws.{le-at}
+use Rattle.answer.specs.Answers.{Answer, ok, Given}
+use Rattle.answer.proofs.CheckLaws.{le-at}
 use Rattle.answer.specs.Checks.{atMost}
 use Rattle.shapes.specs.Walk.{floatTests, zoneWalk}
 use Rattle.shapes.specs.Layout as Layout
-use Rattle.reader_opened.specs.declared.Opened.{Opened}
-use Rattle.reader_grid.specs.Asked.{Chosen, none, all, listed, candidatesOf, candidateAt}
+use Rattle.opened.specs.declared.Opened.{Opened}
+use Rattle.reader_grid.specs.Asked.{candidatesOf, candidateAt}
 use Rattle.reader_names.specs.Asked.{nameOr}
 use Rattle.reader_grid.proofs.Accepted.{AllZones}
 use Rattle.reader_records.specs.declared.ChunkRecord.{ChunkRecord}
 use Rattle.reader_records.specs.Records.{chunkAt}
 use Rattle.reader_dirs.specs.Dirs.{chunkOf}
 use Rattle.reader_chunks.specs.Chunks.{chunkPoints, decodeIn}
-use Rattle.reader_rings.specs.Zones.{zoneOf}
+use Rattle.reader_zones.specs.Zones.{zoneOf}
 use Rattle.reader_order.specs.Order.{ordered}
 use Rattle.reader_lookup.specs.Asking.{scaled, unlooked, lookupOf, hitsOf, listOf}
 use Rattle.reader_exact.specs.Directories.{directories}
-use Rattle.reader_exact.specs.Sound.{Given, Sound}
+use Rattle.reader_exact.specs.Sound.{Sound}
 use Rattle.reader_exact.proofs.Chunks.{first-given}
 use Rattle.reader_exact.proofs.Zones.{zone-walk}
-use Rattle.reader_check.specs.FullCheck.{accepted}
 use Rattle.tzb.specs.Opening.{openOf}
 use Rattle.tzb.specs.FullCheck.{fullCheckOf}
 use Rattle.tzb.proofs.Given.{name-answered, candidates-answered, chunk-answered}
@@ -40,6 +39,8 @@ use Rattle.demands.proofs.Accepted.{accepted-with}
 use Rattle.demands.proofs.Rules.{accepted-sound, chunk-there}
 use Rattle.demands.proofs.Demand3.{contains-is}
 use Rattle.demands.proofs.Lookups.{first-zone, all-zones, zones-into, lookup-short}
+use Rattle.replies.specs.Replies.{Chosen, none, all, listed, accepted}
+use Rattle.answer.proofs.AnswersLaws.{need-met, ok-inv}
 
 gives : {A : Type 0} (x : Answer A) (a : A) → x ≡ ok a → Given x
 gives x a e = record { value = a; is = sym e }

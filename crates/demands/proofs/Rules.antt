@@ -7,24 +7,26 @@ use mathlib.Core.Bool.{Bool, true}
 use mathlib.Core.List.{List, _∷_}
 use Rattle.plane.specs.Segment.{same}
 use Rattle.plane.specs.Lines.{every, lastOf}
-use Rattle.answer.specs.Answers.{Answer, ok}
+use Rattle.answer.specs.Answers.{Answer, ok, Given}
 use Rattle.boxes.specs.declared.BBox.{BBox}
 use Rattle.shapes.specs.Shapes.{inBox, covers}
 use Rattle.shapes.specs.Layout.{Among, Covered}
-use Rattle.reader_opened.specs.declared.Opened.{Opened}
+use Rattle.opened.specs.declared.Opened.{Opened}
 use Rattle.reader_records.specs.declared.RingRecord.{RingRecord}
 use Rattle.reader_records.specs.declared.GroupRecord.{GroupRecord}
 use Rattle.reader_records.specs.Records.{ringAt, groupAt, countRule}
 use Rattle.reader_exact.specs.Directories as D
-use Rattle.reader_exact.specs.Directories.{directories, zoneRecord, polyRecord, ringRecord, groupRecord, chunkShape, total}
-use Rattle.reader_exact.specs.Sound.{Given, Sound}
+use Rattle.reader_exact.specs.Directories.{directories, zoneRecord, polyRecord, ringRecord, groupRecord, chunkShape}
+use Rattle.reader_exact.specs.Sound.{Sound}
 use Rattle.reader_exact.proofs.Given.{zone-is, zone-ruled, poly-is, poly-ruled, ring-is, ring-ruled, op-is, op-named, group-is, group-ruled}
 use Rattle.reader_exact.proofs.Chunks.{Holds, holds, first-given}
-use Rattle.reader_cover.specs.Cover.{opGroup, op-group-is}
+use Rattle.reader_cover.specs.Cover.{opGroup}
 use Rattle.reader_check.proofs.Facts as Facts
 use Rattle.tzb.proofs.Given.{group-answered}
 use Rattle.demands.specs.Accepted.{Accepted}
 use Rattle.demands.proofs.Sums.{points-total}
+use Rattle.basics.specs.Total.{total}
+use Rattle.reader_cover.proofs.CoverLaws.{op-group-is}
 
 given : {A : Type 0} {x : Answer A} → (a : A) × (ok a ≡ x) → Given x
 given p = record { value = p .0; is = p .1 }

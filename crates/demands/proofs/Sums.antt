@@ -3,13 +3,15 @@
 use Prim.Native.Nat.{ℕ, zero, suc, _+_, _%_}
 use mathlib.Core.Path.{_≡_, sym, ap, ap₂, _∙_}
 use mathlib.Core.List.{List}
-use Rattle.answer.specs.Answers.{ok, _then_, then-inv, ok-inv}
-use Rattle.reader_opened.specs.declared.Opened.{Opened}
+use Rattle.answer.specs.Answers.{ok, _then_}
+use Rattle.opened.specs.declared.Opened.{Opened}
 use Rattle.reader_records.specs.declared.GroupRecord.{GroupRecord}
 use Rattle.reader_records.specs.Records.{opAt, groupAt}
 use Rattle.reader_exact.specs.Directories as D
-use Rattle.reader_exact.specs.Directories.{opWord, groupRecord, total}
+use Rattle.reader_exact.specs.Directories.{opWord, groupRecord}
 use Rattle.reader_cover.specs.Cover.{opGroup, opPoints}
+use Rattle.basics.specs.Total.{total}
+use Rattle.answer.proofs.AnswersLaws.{then-inv, ok-inv}
 
 module _ (o : Opened) (s : List ℕ) where
   -- the group that op j names

@@ -5,7 +5,7 @@ use mathlib.Core.Path.{_≡_}
 use mathlib.Core.Bool.{true}
 use mathlib.Core.List.{List}
 use Rattle.answer.specs.Answers.{ok}
-use Rattle.reader_opened.specs.declared.Opened.{Opened}
+use Rattle.opened.specs.declared.Opened.{Opened}
 use Rattle.reader_check.specs.FullCheck.{recordsHold, chunksDecode, chunkBoxesCover, groupsCover, boxesCover}
 use Rattle.tzb.specs.Opening.{openOf}
 

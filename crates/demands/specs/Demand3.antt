@@ -17,14 +17,14 @@ use mathlib.Core.Logic.{_↔_}
 use Rattle.plane.specs.declared.I32Point.{I32Point}
 use Rattle.answer.specs.Answers.{ok}
 use Rattle.shapes.specs.Layout.{zoneAt}
-use Rattle.reader_opened.specs.declared.Opened.{Opened}
-use Rattle.reader_rings.specs.Zones.{containsAt}
+use Rattle.opened.specs.declared.Opened.{Opened}
+use Rattle.reader_zones.specs.Zones.{containsAt}
 use Rattle.reader_exact.specs.Directories.{directories}
-use Rattle.reader_check.specs.FullCheck.{accepted}
 use Rattle.tzb.specs.Opening.{openOf}
 use Rattle.tzb.specs.FullCheck.{fullCheckOf}
 use Rattle.demands.specs.Accepted.{Accepted}
 use Rattle.demands.specs.Words.{Position, InZone}
+use Rattle.replies.specs.Replies.{accepted}
 
 -- the reader answers, with no refusal; and "in this zone" exactly when exact geometry does
 pub record Exactly (o : Opened) (file : List ℕ) (zone : ℕ) (q : I32Point) : Type 0 where

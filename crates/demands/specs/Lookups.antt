@@ -15,16 +15,17 @@ use lib.ListN.{length}
 use Rattle.plane.specs.declared.I32Point.{I32Point}
 use Rattle.plane.specs.Segment.{seg}
 use Rattle.plane.specs.Runs.{run}
-use Rattle.answer.specs.Answers.{ok, need}
+use Rattle.answer.specs.Answers.{ok, need, valueOr}
 use Rattle.answer.specs.Checks.{atMost}
 use Rattle.shapes.specs.Shapes.{zoneIn}
 use Rattle.shapes.specs.Layout.{zoneAt}
-use Rattle.reader_opened.specs.declared.Opened.{Opened}
+use Rattle.opened.specs.declared.Opened.{Opened}
 use Rattle.reader_names.specs.Asked.{nameOr}
-use Rattle.reader_grid.specs.Asked.{Chosen, none, all, listed, candidateAt}
+use Rattle.reader_grid.specs.Asked.{candidateAt}
 use Rattle.reader_order.specs.Order.{ordered}
-use Rattle.reader_lookup.specs.Asking.{Sought, nowhere, inZone, unlooked, lookupOf, listOf}
-use Rattle.reader_exact.specs.Directories.{valueOr, directories}
+use Rattle.reader_lookup.specs.Asking.{unlooked, lookupOf, listOf}
+use Rattle.reader_exact.specs.Directories.{directories}
+use Rattle.replies.specs.Replies.{Chosen, none, all, listed, Sought, nowhere, inZone}
 
 -- the zone contains the point exactly
 abbrev pub exactlyIn : Opened → List ℕ → I32Point → ℕ → Bool

@@ -9,16 +9,16 @@ use lib.Ieee.{Float}
 use lib.ListN.{length}
 use Rattle.plane.specs.declared.Point.{Point}
 use Rattle.plane.specs.declared.I32Point.{I32Point}
-use Rattle.answer.specs.Answers.{ok}
-use Rattle.reader_opened.specs.declared.Opened.{Opened}
+use Rattle.answer.specs.Answers.{ok, Given}
+use Rattle.opened.specs.declared.Opened.{Opened}
 use Rattle.reader_names.specs.Asked.{nameAt}
-use Rattle.reader_grid.specs.Asked.{listed, candidatesOf, candidateAt}
+use Rattle.reader_grid.specs.Asked.{candidatesOf, candidateAt}
 use Rattle.reader_records.specs.declared.ChunkRecord.{ChunkRecord}
 use Rattle.reader_records.specs.Records.{zoneAt, polyAt, ringAt, opAt, groupAt, chunkAt}
 use Rattle.reader_chunks.specs.Chunks.{firstAt, chunkPoints, decodeIn}
-use Rattle.reader_rings.specs.Zones.{zoneOf, containsAt}
+use Rattle.reader_zones.specs.Zones.{zoneOf, containsAt}
 use Rattle.reader_lookup.specs.Asking.{lookupOf, hitsOf, listOf}
-use Rattle.reader_exact.specs.Sound.{Given}
+use Rattle.replies.specs.Replies.{listed}
 
 pub record NeverRefused (file : List ℕ) (o : Opened) : Type 0 where
   -- records

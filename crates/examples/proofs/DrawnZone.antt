@@ -11,14 +11,13 @@ use Rattle.plane.specs.declared.I32Point.{I32Point}
 use Rattle.plane.specs.Segment.{cross, amidZ, onZ, countsZ, seg, same}
 use Rattle.plane.specs.Runs.{run}
 use Rattle.plane.specs.Domain as A
-use Rattle.answer.specs.Answers.{ok}
+use Rattle.answer.specs.Answers.{ok, holds, answered}
 use Rattle.answer.specs.Checks as K
 use Rattle.fields.specs.Le as E
 use Rattle.fields.specs.Loads as L
 use Rattle.crc.specs.Crc32 as R
 use Rattle.boxes.specs.Box as B
 use Rattle.tzb_core.specs.Delta as Deltas
-use Rattle.tzb_core.specs.Ray.{pointOf}
 use Rattle.tzb_core.specs.Varint.{numberAt, digits}
 use Rattle.tzb_core.specs.Points as Points
 use Rattle.tzb_core.specs.Along.{along, walkOf}
@@ -35,28 +34,33 @@ use Rattle.reader_grid.specs.Asked as C
 use Rattle.reader_records.specs.Records as S
 use Rattle.reader_dirs.specs.Dirs as D
 use Rattle.reader_chunks.specs.Chunks.{startOf, endOf, span, bytesOf, firstIn, firstAt, chunkPoints}
-use Rattle.reader_rings.specs.Zones.{containsAt}
+use Rattle.reader_zones.specs.Zones.{containsAt}
 use Rattle.reader_exact.specs.Directories.{zoneRecord, polyRecord, ringRecord, opWord, groupRecord, chunkShape, directories}
-use Rattle.reader_cover.specs.Holds.{holds, answered, all}
 use Rattle.reader_cover.specs.Cover.{opGroup, opPoints, pointsAdd, chunkCovers, jointCovers, jointsCover, chunkUnder, groupUnder, ringUnder, polyUnder, endsFit, groupCovers, ringCovers, polyCovers, zoneCovers}
-use Rattle.reader_check.specs.FullCheck.{accepted, met, allMet, recordsHold, chunksDecode, chunkBoxesCover, groupsCover, boxesCover, rule, lowestBroken}
-use Rattle.reader_lookup.specs.Asking.{nowhere, inZone, scaled, lookupOf}
+use Rattle.reader_check.specs.FullCheck.{met, allMet, recordsHold, chunksDecode, chunkBoxesCover, groupsCover, boxesCover, rule, lowestBroken}
+use Rattle.reader_lookup.specs.Asking.{scaled, lookupOf}
 use Rattle.tzb.specs.Opening as P
-use Rattle.tzb.specs.FullCheck.{fullCheckOf, full-accepted}
+use Rattle.tzb.specs.FullCheck.{fullCheckOf}
 use Rattle.examples.specs.DrawnZone.{file, opened}
 use Rattle.demands.specs.Words.{Position}
 use Rattle.demands.specs.Lookups.{exactlyIn, candidateZones, firstThat, shortcut}
 use Rattle.demands.proofs.Demand3.{contains-is}
 use Rattle.demands.proofs.Lookups.{lookups-exact}
+use Rattle.plane.specs.Places.{pointOf}
+use Rattle.reader_cover.specs.All.{all}
+use Rattle.replies.specs.Replies.{accepted, nowhere, inZone}
+use Rattle.basics.specs.Total.{total}
+use Rattle.replies.specs.Replies as Told
+use Rattle.tzb.proofs.FullCheckLaws.{full-accepted}
 
 -- F1
 pub opens : ok opened ≡ P.openOf file
-unfolding file opened E.le R.step R.steps R.bytes R.crc32 K.claim K.deny K.andThen K.first K.each K.seek K.atMost K.below K.same K.both K.either M.sameFrom M.startsWith H.startCheck H.isCount H.fieldsCheck H.isZero H.notZero H.versionEnd H.versionCheck H.boundsCheck H.headCheck T.isType T.has T.repeats T.banned T.apart T.apartAt T.placedCheck T.typedCheck T.entryCheck T.entriesCheck T.entryAt T.sectionOf O.presentAt O.presentCheck O.bit O.flagCheck O.zonesCheck O.lengthsCheck O.countsCheck O.sectionsOf O.gridOf O.directoryOf O.openedOf N.shapeCheck N.offsetRule N.prior N.offsetCheck N.textCheck N.textAt N.namesCheck S.recordAt S.ruled S.boxIn S.pointIn S.within S.listIn S.listRule S.listAt S.ringIn S.ringRule S.ringAt S.countRule S.opRule S.opAt S.groupIn S.groupRule S.groupAt S.chunkIn S.chunkRule S.chunkAt D.chunkCheck D.leastOff D.chunkCheckAt D.chunksCheck D.total D.countAt D.groupCheck D.groupCheckAt D.groupsCheck P.tableCheck P.sizesCheck P.namesIn P.gridIn P.contentsCheck P.openOf B.contains B.relevant B.right B.ordered B.boxInDomain Deltas.fits32 Deltas.addDelta A.inDomain
+unfolding file opened E.le R.step R.steps R.bytes R.crc32 K.claim K.deny K.andThen K.first K.each K.seek K.atMost K.below K.same K.both K.either M.sameFrom M.startsWith H.startCheck H.isCount H.fieldsCheck H.isZero H.notZero H.versionEnd H.versionCheck H.boundsCheck H.headCheck T.isType T.has T.repeats T.banned T.apart T.apartAt T.placedCheck T.typedCheck T.entryCheck T.entriesCheck T.entryAt T.sectionOf O.presentAt O.presentCheck O.bit O.flagCheck O.zonesCheck O.lengthsCheck O.countsCheck O.sectionsOf O.gridOf O.directoryOf O.openedOf N.shapeCheck N.offsetRule N.prior N.offsetCheck N.textCheck N.textAt N.namesCheck S.recordAt S.ruled S.boxIn S.pointIn S.fitsBelow S.listIn S.listRule S.listAt S.ringIn S.ringRule S.ringAt S.countRule S.opRule S.opAt S.groupIn S.groupRule S.groupAt S.chunkIn S.chunkRule S.chunkAt D.chunkCheck D.leastOff D.chunkCheckAt D.chunksCheck total D.countAt D.groupCheck D.groupCheckAt D.groupsCheck P.tableCheck P.sizesCheck P.namesIn P.gridIn P.contentsCheck P.openOf B.contains B.relevant B.right B.ordered B.boxInDomain Deltas.fits32 Deltas.addDelta A.inDomain
 opens = refl
 
 -- F2 to F6
 none-broken : 0 ≡ lowestBroken opened file
-unfolding file opened lowestBroken rule recordsHold chunksDecode chunkBoxesCover groupsCover boxesCover allMet met all run holds answered opGroup opPoints pointsAdd chunkCovers jointCovers jointsCover chunkUnder groupUnder ringUnder polyUnder endsFit groupCovers ringCovers polyCovers zoneCovers inBox covers same S.listAt S.ringAt S.opAt S.groupAt S.chunkAt S.ruled S.recordAt S.listIn S.listRule S.ringIn S.ringRule S.countRule S.opRule S.groupIn S.groupRule S.chunkIn S.chunkRule S.boxIn S.pointIn S.within L.inside E.le B.ordered B.boxInDomain A.inDomain chunkPoints bytesOf endOf span startOf firstIn firstAt pointsOf pointsFrom walkOf along Points.firstOf Points.nextAt Points.numbersAt Points.movedBy Points.inside Deltas.addDelta Deltas.fits32 numberAt digits
+unfolding file opened lowestBroken rule recordsHold chunksDecode chunkBoxesCover groupsCover boxesCover allMet met all run holds answered opGroup opPoints pointsAdd chunkCovers jointCovers jointsCover chunkUnder groupUnder ringUnder polyUnder endsFit groupCovers ringCovers polyCovers zoneCovers inBox covers same S.listAt S.ringAt S.opAt S.groupAt S.chunkAt S.ruled S.recordAt S.listIn S.listRule S.ringIn S.ringRule S.countRule S.opRule S.groupIn S.groupRule S.chunkIn S.chunkRule S.boxIn S.pointIn S.fitsBelow L.inside E.le B.ordered B.boxInDomain A.inDomain chunkPoints bytesOf endOf span startOf firstIn firstAt pointsOf pointsFrom walkOf along Points.firstOf Points.nextAt Points.numbersAt Points.movedBy Points.mustLie Deltas.addDelta Deltas.fits32 numberAt digits
 none-broken = refl
 
 pub accepts : fullCheckOf file ≡ accepted
@@ -64,7 +68,7 @@ accepts = sym (full-accepted file opened opens 0 none-broken refl)
 
 -- its zone is the drawn one
 pub made : zoneAt (directories opened file) 0 ≡ zone
-unfolding file opened directories zoneRecord polyRecord ringRecord opWord groupRecord chunkShape zoneAt polygonAt ringAt legAt groupAt run S.listAt S.ringAt S.opAt S.groupAt S.chunkAt S.ruled S.recordAt S.listIn S.listRule S.ringIn S.ringRule S.opRule S.groupIn S.groupRule S.chunkIn S.chunkRule S.boxIn S.pointIn S.within L.inside E.le B.ordered B.boxInDomain A.inDomain chunkPoints bytesOf endOf span startOf pointsOf pointsFrom walkOf along Points.firstOf Points.nextAt Points.numbersAt Points.movedBy Points.inside Deltas.addDelta Deltas.fits32 numberAt digits
+unfolding file opened directories zoneRecord polyRecord ringRecord opWord groupRecord chunkShape zoneAt polygonAt ringAt legAt groupAt run S.listAt S.ringAt S.opAt S.groupAt S.chunkAt S.ruled S.recordAt S.listIn S.listRule S.ringIn S.ringRule S.opRule S.groupIn S.groupRule S.chunkIn S.chunkRule S.boxIn S.pointIn S.fitsBelow L.inside E.le B.ordered B.boxInDomain A.inDomain chunkPoints bytesOf endOf span startOf pointsOf pointsFrom walkOf along Points.firstOf Points.nextAt Points.numbersAt Points.movedBy Points.mustLie Deltas.addDelta Deltas.fits32 numberAt digits
 made = refl
 
 -- demand 3 for it: at every whole-number point
@@ -83,18 +87,18 @@ seventeen = ofBits binary64 0x3f26_4840_e171_9f80
 abbrev pub ten : Float
 ten = ofBits binary64 0x3f1a_36e2_eb1c_432d
 
-one-zone : (q : I32Point) (b : Bool) → zoneIn (seg q) zone ≡ b → firstThat (exactlyIn opened file q) (candidateZones opened file (C.all 1)) ≡ cond b (inZone 0) nowhere
+one-zone : (q : I32Point) (b : Bool) → zoneIn (seg q) zone ≡ b → firstThat (exactlyIn opened file q) (candidateZones opened file (Told.all 1)) ≡ cond b (inZone 0) nowhere
 unfolding firstThat candidateZones run
 one-zone q b e = rw (made, e)
 
-all-zones : (lng lat : Float) → C.onEarth lng lat ≡ true → ok (C.all 1) ≡ C.candidatesOf opened file lng lat
+all-zones : (lng lat : Float) → C.onEarth lng lat ≡ true → ok (Told.all 1) ≡ C.candidatesOf opened file lng lat
 unfolding C.candidatesOf opened K.same
 all-zones lng lat e = rw e
 
 looked : (lng lat : Float) → C.onEarth lng lat ≡ true → (p : Position) → scaled lng lat ≡ pointOf (p .at) → (b : Bool) → zoneIn (seg (p .at)) zone ≡ b → lookupOf opened file lng lat ≡ ok (cond b (inZone 0) nowhere)
 unfolding shortcut
 looked lng lat on p whole b e =
-    lookups-exact file accepts opened opens lng lat (C.all 1) (all-zones lng lat on) p whole .lookup refl
+    lookups-exact file accepts opened opens lng lat (Told.all 1) (all-zones lng lat on) p whole .lookup refl
     ∙ ap ok (one-zone (p .at) b e)
 
 -- both are scaled to whole numbers

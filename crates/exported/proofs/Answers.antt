@@ -13,19 +13,17 @@ use lib.Dec.{leb}
 use borrow.Author.Tests.{leb-true, leb-false}
 use Rattle.plane.specs.Domain.{inDomain}
 use Rattle.answer.specs.Refusals.{refusal}
-use Rattle.answer.specs.Answers.{Answer, ok, refused, no, then-ok, then-no, zero-one}
-use Rattle.answer.specs.CheckLaws.{le-at}
-use Rattle.tzb_core.specs.Points.{point}
-use Rattle.tzb_core.specs.Ray.{pointOf}
-use Rattle.reader_opened.specs.declared.Opened.{Opened}
-use Rattle.reader_rings.specs.Zones.{zoneOf, containsAt, whole-over, whole-off, whole-is}
-use Rattle.reader_lookup.specs.Asking.{Sought, lookupOf}
+use Rattle.answer.specs.Answers.{Answer, ok, refused, no}
+use Rattle.answer.proofs.CheckLaws.{le-at}
+use Rattle.opened.specs.declared.Opened.{Opened}
+use Rattle.reader_zones.specs.Zones.{zoneOf, containsAt}
+use Rattle.reader_lookup.specs.Asking.{lookupOf}
 use Rattle.reader_check.specs.FullCheck.{lowestBroken}
-use Rattle.tzb_record.specs.Layout.{bytesOf, openedIn, recordOf, written, record-none, record-is}
+use Rattle.tzb_record.specs.Layout.{bytesOf, openedIn, recordOf, written}
 use Rattle.tzb_asked.specs.Asked.{containsAsked, lookupAsked}
 use Rattle.tzb.specs.Opening.{openOf, openedIs}
-use Rattle.tzb_codes.specs.Codes.{doneCode, insideCode, zoneCode, checkCode, ruleOf, code-small}
-use Rattle.tzb_c.specs.Opens.{openInto, keptIn, lookupOnce, open-barred, kept-is, kept-no, once-barred, once-asked}
+use Rattle.tzb_codes.specs.Codes.{doneCode, insideCode, zoneCode, checkCode, ruleOf}
+use Rattle.tzb_c.specs.Opens.{openInto, lookupOnce}
 use Rattle.exported.specs.Calls.{Tzb-open, Tzb-full-check, Tzb-full-check-rule, Tzb-contains, Tzb-lookup, Tzb-ask}
 use Rattle.exported.specs.Words.{refusing, Bytes}
 use Rattle.exported.specs.Answers.{Tells, yesNo, zoneNumber, FullCheckAnswers, OpenAnswers, ContainsAnswers, LookupAnswers, AskAnswers}
@@ -38,6 +36,12 @@ use Rattle.exported.proofs.Room.{room-in, room-short}
 use Rattle.exported.proofs.Codes.{apart, same-refusing, inside-tells, zone-tells}
 use Rattle.exported.proofs.Demand1.{once-tabled}
 use Rattle.exported.proofs.Demand3 as Three
+use Rattle.plane.specs.Places.{point, pointOf}
+use Rattle.answer.proofs.AnswersLaws.{then-ok, then-no, zero-one}
+use Rattle.reader_zones.proofs.ZonesLaws.{whole-over, whole-off, whole-is}
+use Rattle.tzb_record.proofs.LayoutLaws.{record-none, record-is}
+use Rattle.tzb_codes.proofs.CodesLaws.{code-small}
+use Rattle.tzb_c.proofs.OpensLaws.{open-barred, kept-is, kept-no, once-barred, once-asked}
 
 never-both : {B : Type 0} (x : Answer Opened) (o : Opened) (n : ℕ) → ok o ≡ x → no n ≡ x → B
 never-both x o n e f = let z : _≡_ {A = ℕ} 0 1 = cc in absurd (zero-one z)

@@ -7,13 +7,15 @@ use mathlib.Core.List.{List}
 use Rattle.answer.specs.declared.Refusal.{Refusal}
 use Rattle.answer.specs.Refusals.{refusal}
 use Rattle.answer.specs.Answers.{Answer, ok, refused}
-use Rattle.reader_opened.specs.declared.Opened.{Opened}
-use Rattle.reader_check.specs.FullCheck.{accepted, refusedBy, brokenAt, lowestBroken}
+use Rattle.opened.specs.declared.Opened.{Opened}
+use Rattle.reader_check.specs.FullCheck.{lowestBroken}
 use Rattle.tzb.specs.Opening.{openOf, openedIs}
-use Rattle.tzb.specs.FullCheck.{fullCheckOf, full-refused, full-accepted, full-broken}
+use Rattle.tzb.specs.FullCheck.{fullCheckOf}
 use Rattle.tzb.proofs.Given.{opened-is}
 use Rattle.exported.proofs.Tabled.{Numbered, Tabled}
 use Rattle.exported.proofs.Opening.{open-tabled}
+use Rattle.replies.specs.Replies.{accepted, refusedBy, brokenAt}
+use Rattle.tzb.proofs.FullCheckLaws.{full-refused, full-accepted, full-broken}
 
 -- its one record, or a refusal from 1 to 34
 pub data Opens (file : List ℕ) : Type 0 where

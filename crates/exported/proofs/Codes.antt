@@ -1,24 +1,23 @@
 -- Answers whose refusals have numbers up to 47, as numbers: which number tells what.
 -- Assumes nothing.
-use Prim.Native.Nat.{ℕ, _+_, _≤_, _<_}
+use Prim.Native.Nat.{ℕ, _+_, _<_}
 use native.Mathlib.Omega.{arith}
 use mathlib.Core.Path.{_≡_, refl, sym, ap, _∙_}
 use mathlib.Core.Bool.{Bool, true, false}
-use mathlib.Core.List.{List}
 use mathlib.Core.Logic.{_⊎_, inl, inr}
-use lib.IntN.{ℤ, pos, negsuc}
+use lib.IntN.{pos, negsuc}
 use Rattle.answer.specs.declared.Refusal.{Refusal}
 use Rattle.answer.specs.Refusals.{refusal}
 use Rattle.answer.specs.Answers.{Answer, ok, refused, no}
-use Rattle.reader_lookup.specs.Asking.{Sought, nowhere, inZone}
-use Rattle.reader_grid.specs.Asked.{Chosen, none, all, listed}
-use Rattle.tzb_codes.specs.Codes.{refusalCode, doneCode, kindCode, insideCode, zoneCode, code-small}
+use Rattle.tzb_codes.specs.Codes.{refusalCode, doneCode, kindCode, insideCode, zoneCode}
 use Rattle.tzb_c.specs.Exports.{numberCode, startCode, endCode}
 use Rattle.exported.specs.Words.{refusing, Refuses}
 use Rattle.exported.specs.Words as W
-use Rattle.exported.specs.Demand1.{NumberOrRefusal, NumberOrAsItWas, DoneOrAsItWas}
+use Rattle.exported.specs.Demand1.{NumberOrRefusal}
 use Rattle.exported.specs.Answers.{Tells, yesNo, zoneNumber}
 use Rattle.exported.proofs.Tabled.{Numbered, Tabled, number-of}
+use Rattle.replies.specs.Replies.{Sought, nowhere, inZone, Chosen, none, all, listed}
+use Rattle.tzb_codes.proofs.CodesLaws.{code-small}
 
 -- ---- numbers apart
 pub apart : (n m : ℕ) → pos n ≡ negsuc m → ⊥

@@ -12,16 +12,15 @@ use lib.ListN.{length}
 use Rattle.plane.specs.declared.I32Point.{I32Point}
 use Rattle.answer.specs.declared.Refusal.{Refusal}
 use Rattle.answer.specs.Refusals.{refusal}
-use Rattle.answer.specs.Answers.{Answer, ok, refused, _then_, then-inv, ok-inv}
+use Rattle.answer.specs.Answers.{Answer, ok, refused, _then_, left, howMany}
 use Rattle.answer.specs.Checks.{atMost}
-use Rattle.tzb_core.specs.Points.{point}
 use Rattle.tzb_core.specs.Decode.{filled}
-use Rattle.reader_opened.specs.declared.Opened.{Opened}
-use Rattle.reader_lookup.specs.Asking.{Sought, inZone, lookupOf}
+use Rattle.opened.specs.declared.Opened.{Opened}
+use Rattle.reader_lookup.specs.Asking.{lookupOf}
 use Rattle.reader_check.specs.FullCheck as Rules
-use Rattle.reader_check.specs.FullCheck.{Outcome, rule, lowestBroken}
+use Rattle.reader_check.specs.FullCheck.{rule, lowestBroken}
 use Rattle.tzb_record.specs.Layout.{recordOf}
-use Rattle.tzb_asked.specs.Asked.{zonesAsked, nameAsked, endsAsked, endsAfter, choiceAsked, candidateAsked, containsAsked, decodeAsked, lookupAsked, listAsked, placesAfter, howMany}
+use Rattle.tzb_asked.specs.Asked.{zonesAsked, nameAsked, endsAsked, endsAfter, choiceAsked, candidateAsked, containsAsked, decodeAsked, lookupAsked, listAsked}
 use Rattle.tzb_asked.proofs.Zones.{found-below}
 use Rattle.tzb.specs.Opening.{openedIs}
 use Rattle.tzb.specs.FullCheck.{fullCheckOf}
@@ -30,7 +29,6 @@ use Rattle.tzb_c.specs.Opens.{openInto, keptIn, lookupOnce}
 use Rattle.tzb_c.specs.Exports.{numberCode}
 use Rattle.tzb_c.proofs.Kept.{once-small}
 use Rattle.exported.specs.Words.{Refuses}
-use Rattle.exported.specs.Calls.{Tzb-zone-count, Tzb-ask}
 use Rattle.exported.specs.Demand1.{NumberOrRefusal, NumberOrAsItWas, DoneOrAsItWas, ZoneNoneOrRefusal, Demand1}
 use Rattle.exported.proofs.Meaning.{open-answer, open-memory, full-check-answer, rule-answer, lookup-answer, contains-answer, ask-answer, choice-answer, all-answer, all-memory, decode-answer, decode-memory, name-answer, name-memory, start-answer, end-answer, candidate-answer, zone-count-answer}
 use Rattle.exported.proofs.Tabled.{Tabled, given, need-t, then-t, raised, higher}
@@ -38,7 +36,10 @@ use Rattle.exported.proofs.Opening.{open-tabled}
 use Rattle.exported.proofs.Questions.{record-q, bounds-q, candidates-q, candidate-q, decode-q, contains-q, lookup-q, list-q}
 use Rattle.exported.proofs.Room.{into-tabled}
 use Rattle.exported.proofs.Checks.{Checks, refused-by, accepts, breaks, checks}
-use Rattle.exported.proofs.Codes.{apart, refusal-below, same-number, refuses, done-told, number-told, start-told, end-told, kind-told, inside-told, zone-told}
+use Rattle.exported.proofs.Codes.{apart, refusal-below, same-number, refuses, number-told, start-told, end-told, kind-told, inside-told, zone-told}
+use Rattle.plane.specs.Places.{point}
+use Rattle.replies.specs.Replies.{inZone, Outcome}
+use Rattle.answer.proofs.AnswersLaws.{then-inv, ok-inv}
 
 -- ---- every refusal is from the table
 pub once-tabled : (file : List ℕ) (lng lat : Float) → Tabled 46 (lookupOnce file lng lat)
@@ -96,13 +97,11 @@ ends-told : (ends : List ℕ) (x : Answer (ℕ × ℕ)) → Tabled 47 x → Done
 ends-told ends (ok e) h = inl refl
 ends-told ends (refused k) h = inr (refuses k (h .by), refl)
 
-places-told : (places : List ℕ) (x : Answer (List ℕ)) → Tabled 47 x → NumberOrAsItWas (numberCode (howMany x)) places (placesAfter places x)
-unfolding howMany
+places-told : (places : List ℕ) (x : Answer (List ℕ)) → Tabled 47 x → NumberOrAsItWas (numberCode (howMany x)) places (left places x)
 places-told places (ok l) h = inl (length l, refl)
 places-told places (refused k) h = inr (refuses k (h .by), refl)
 
 numbers-told : (numbers : List ℤ) (x : Answer (List I32Point)) → Tabled 47 x → NumberOrAsItWas (numberCode (howMany x)) numbers (filled numbers x)
-unfolding howMany
 numbers-told numbers (ok l) h = inl (length l, refl)
 numbers-told numbers (refused k) h = inr (refuses k (h .by), refl)
 

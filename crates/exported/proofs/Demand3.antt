@@ -10,12 +10,10 @@ use lib.IntN.{ℤ, pos}
 use lib.ListN.{take}
 use Rattle.plane.specs.Segment.{seg}
 use Rattle.answer.specs.Refusals.{refusal}
-use Rattle.answer.specs.Answers.{Answer, ok, refused, then-ok}
-use Rattle.tzb_core.specs.Points.{point}
+use Rattle.answer.specs.Answers.{Answer, ok, refused}
 use Rattle.shapes.specs.Shapes.{zoneIn}
-use Rattle.reader_opened.specs.declared.Opened.{Opened}
-use Rattle.reader_rings.specs.Zones.{containsAt, whole-over}
-use Rattle.reader_check.specs.FullCheck.{Outcome, accepted, refusedBy, brokenAt}
+use Rattle.opened.specs.declared.Opened.{Opened}
+use Rattle.reader_zones.specs.Zones.{containsAt}
 use Rattle.tzb_record.specs.Layout.{recordOf}
 use Rattle.tzb_asked.specs.Asked.{zonesAsked, containsAsked}
 use Rattle.tzb.specs.Opening.{openOf, openedIs}
@@ -26,7 +24,7 @@ use Rattle.demands.specs.Words.{InZone}
 use Rattle.demands.proofs.Accepted.{accepts-exactly}
 use Rattle.demands.proofs.Demand3.{contains-is}
 use Rattle.demands.proofs.Words.{zone-in-words}
-use Rattle.tzb_codes.specs.Codes.{doneCode, insideCode, checkCode, code-small}
+use Rattle.tzb_codes.specs.Codes.{doneCode, insideCode, checkCode}
 use Rattle.tzb_c.specs.Opens.{openInto}
 use Rattle.tzb_c.specs.Exports.{numberCode}
 use Rattle.tzb_c.proofs.Kept.{record-kept}
@@ -36,6 +34,11 @@ use Rattle.exported.specs.Demand3.{OneOrZero, Demand3}
 use Rattle.exported.proofs.Room.{into-opened}
 use Rattle.exported.proofs.Codes.{refusal-below, same-number}
 use Rattle.exported.proofs.Meaning.{open-answer, open-memory, full-check-answer, zone-count-answer, contains-answer}
+use Rattle.plane.specs.Places.{point}
+use Rattle.replies.specs.Replies.{Outcome, accepted, refusedBy, brokenAt}
+use Rattle.answer.proofs.AnswersLaws.{then-ok}
+use Rattle.reader_zones.proofs.ZonesLaws.{whole-over}
+use Rattle.tzb_codes.proofs.CodesLaws.{code-small}
 
 -- ---- what 0 tells
 pub accepted-by : (x : Outcome) → pos 0 ≡ checkCode x → x ≡ accepted

@@ -6,14 +6,15 @@ use mathlib.Core.List.{List}
 use lib.IntN.{ℤ}
 use lib.Ieee.{Float}
 use lib.ListN.{length}
-use Rattle.tzb_core.specs.Points.{point}
 use Rattle.tzb.specs.FullCheck.{fullCheckOf}
 use Rattle.tzb_core.specs.Decode.{filled}
-use Rattle.tzb_asked.specs.Asked.{zonesAsked, nameAsked, endsAsked, endsAfter, choiceAsked, candidateAsked, containsAsked, decodeAsked, lookupAsked, listAsked, placesAfter, howMany}
+use Rattle.tzb_asked.specs.Asked.{zonesAsked, nameAsked, endsAsked, endsAfter, choiceAsked, candidateAsked, containsAsked, decodeAsked, lookupAsked, listAsked}
 use Rattle.tzb_codes.specs.Codes.{doneCode, kindCode, insideCode, zoneCode, checkCode, ruleOf}
 use Rattle.tzb_c.specs.Opens.{openInto, keptIn, lookupOnce}
 use Rattle.tzb_c.specs.Exports.{numberCode, startCode, endCode}
 use Rattle.exported.specs.Calls.{Call, Tzb-open, Tzb-full-check, Tzb-full-check-rule, Tzb-zone-count, Tzb-contains, Tzb-lookup, Tzb-ask, Tzb-ask-all, Tzb-decode, Tzb-name, Tzb-name-start, Tzb-name-end, Tzb-choice, Tzb-candidate}
+use Rattle.plane.specs.Places.{point}
+use Rattle.answer.specs.Answers.{left, howMany}
 
 -- what holds of all that a contract allows holds of a call
 pub by-contract : {W K : Type 0} {A R E : K → Type 0} {promise : (κ : K) → A κ → R κ → E κ → Type 0} {seen : (κ : K) → A κ → R κ → E κ → W}
@@ -53,9 +54,9 @@ module _ {file : List ℕ} where
         all-answer c =
             by-contract (λ (v : List ℕ × List ℕ × Float × Float × List ℕ × ℤ × List ℕ). v .5 ≡ numberCode (howMany (listAsked (v .0) (v .1) (v .2) (v .3) (length (v .4))))) (λ κ a r e p. p .0) c
 
-        pub all-memory : Tzb-ask-all held file lng lat places r after → after ≡ placesAfter places (listAsked held file lng lat (length places))
+        pub all-memory : Tzb-ask-all held file lng lat places r after → after ≡ left places (listAsked held file lng lat (length places))
         all-memory c =
-            by-contract (λ (v : List ℕ × List ℕ × Float × Float × List ℕ × ℤ × List ℕ). v .6 ≡ placesAfter (v .4) (listAsked (v .0) (v .1) (v .2) (v .3) (length (v .4)))) (λ κ a r e p. p .1) c
+            by-contract (λ (v : List ℕ × List ℕ × Float × Float × List ℕ × ℤ × List ℕ). v .6 ≡ left (v .4) (listAsked (v .0) (v .1) (v .2) (v .3) (length (v .4)))) (λ κ a r e p. p .1) c
 
     module _ {chunk : ℕ} {numbers after : List ℤ} {r : ℤ} where
       pub decode-answer : Tzb-decode held file chunk numbers r after → r ≡ numberCode (howMany (decodeAsked held file chunk numbers))

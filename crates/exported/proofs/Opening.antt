@@ -2,21 +2,20 @@
 -- Assumes nothing.
 use Prim.Native.Nat.{ℕ, _+_, _*_, _-_, _%_}
 use mathlib.Core.Path.{refl}
-use mathlib.Core.Bool.{cond, not, _||_}
-use mathlib.Core.List.{List, [], _∷_}
-use Rattle.answer.specs.Answers.{Answer, ok, Check, fine}
+use mathlib.Core.List.{List}
+use Rattle.answer.specs.Answers.{Check, fine}
 use Rattle.answer.specs.Checks.{same}
 use Rattle.reader_head.specs.Head.{startCheck, fieldsCheck, versionCheck, boundsCheck, headCheck}
 use Rattle.reader_table.specs.Table.{apartAt, placedCheck, typedCheck, entryCheck, entriesCheck, sections}
 use Rattle.reader_opened.specs.declared.Sections.{Sections}
-use Rattle.reader_opened.specs.declared.Grid.{Grid}
-use Rattle.reader_opened.specs.declared.Opened.{Opened}
+use Rattle.opened.specs.declared.Grid.{Grid}
+use Rattle.opened.specs.declared.Opened.{Opened}
 use Rattle.reader_opened.specs.Opened.{presentAt, presentCheck, flagCheck, zonesCheck, lengthsCheck, countsCheck, sectionsOf}
 use Rattle.reader_names.specs.Names.{shapeCheck, offsetRule, offsetCheck, textCheck, textAt, namesCheck}
 use Rattle.reader_grid.specs.Word.{rangeCheck}
 use Rattle.reader_grid.specs.Grid.{candidateCheck, cellCheck, cellCount, gridCheck}
-use Rattle.reader_table.specs.declared.Section.{Section}
-use Rattle.reader_opened.specs.declared.Directory.{Directory}
+use Rattle.opened.specs.declared.Section.{Section}
+use Rattle.opened.specs.declared.Directory.{Directory}
 use Rattle.reader_records.specs.declared.ChunkRecord.{ChunkRecord}
 use Rattle.reader_records.specs.declared.GroupRecord.{GroupRecord}
 use Rattle.reader_dirs.specs.Dirs.{chunkCheck, chunkCheckAt, chunksCheck, groupCheck, groupCheckAt, groupsCheck}

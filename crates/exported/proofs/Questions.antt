@@ -22,31 +22,32 @@ use Rattle.answer.specs.Answers.{Answer, ok, refused}
 use Rattle.answer.specs.Walks.{Walk}
 use Rattle.tzb_core.specs.Delta.{fits32, addDelta}
 use Rattle.tzb_core.specs.Varint.{digits, numberAt, atEnd}
-use Rattle.tzb_core.specs.Points.{numbersAt, movedBy, inside, firstOf, nextAt}
+use Rattle.tzb_core.specs.Points.{numbersAt, movedBy, firstOf, nextAt, mustLie}
 use Rattle.tzb_core.specs.Along.{Walker, follow, along, walkOf}
 use Rattle.tzb_core.specs.Scan.{scanner, scanOf}
 use Rattle.tzb_core.specs.Decode.{decoder, pointsOf}
-use Rattle.tzb_core.specs.Ray.{pointOf, rayOf}
-use Rattle.reader_opened.specs.declared.Directory.{Directory}
-use Rattle.reader_opened.specs.declared.Grid.{Grid}
-use Rattle.reader_opened.specs.declared.Opened.{Opened}
+use Rattle.tzb_core.specs.Ray.{rayOf}
+use Rattle.opened.specs.declared.Directory.{Directory}
+use Rattle.opened.specs.declared.Grid.{Grid}
+use Rattle.opened.specs.declared.Opened.{Opened}
 use Rattle.reader_names.specs.Names.{edge}
 use Rattle.reader_names.specs.Asked.{boundsAt, nameAt}
-use Rattle.reader_grid.specs.Asked.{Chosen, none, all, listed, onEarth, inGrid, cellCandidates, candidatesOf, zoneBelow, candidateAt}
+use Rattle.reader_grid.specs.Asked.{onEarth, inGrid, cellCandidates, candidatesOf, zoneBelow, candidateAt}
 use Rattle.reader_records.specs.declared.ChunkRecord.{ChunkRecord}
 use Rattle.reader_records.specs.declared.GroupRecord.{GroupRecord}
 use Rattle.reader_records.specs.declared.RingRecord.{RingRecord}
-use Rattle.reader_records.specs.declared.ListRecord.{ListRecord}
 use Rattle.reader_records.specs.Records.{place, recordAt, ruled, listAt, ringAt, countRule, opAt, groupAt, chunkAt}
 use Rattle.reader_chunks.specs.Chunks.{endOf, span, bytesOf, firstIn, scanIn, decodeBy, decodeIn}
-use Rattle.reader_groups.specs.Groups.{nextFirst, skipTo, scanTo, joinedTo, passAt, lastIn, lastAt, chunksFrom, groupOf}
+use Rattle.reader_groups.specs.Groups.{nextFirst, skipTo, scanTo, joinedTo, passAt, lastIn, lastAt, chunksFrom, groupWalk}
 use Rattle.reader_rings.specs.declared.Turned.{Turned}
 use Rattle.reader_rings.specs.declared.Round.{Round}
 use Rattle.reader_rings.specs.Rings.{turnedAt, jointOf, groupWalk, turnWalk, opStep, opsFrom, ringEnd, ringRest, ringOf, ringContains}
-use Rattle.reader_rings.specs.Zones.{seek, polyOf, zoneOf, containsAt}
-use Rattle.reader_lookup.specs.Asking.{Sought, nowhere, inZone, scaled, unlooked, candidateOf, hitAt, orElse, firstHit, lookupAmong, lookupOf, allHits, hitsAmong, hitsOf, namesRead, placed, listFor, listOf}
+use Rattle.reader_zones.specs.Zones.{polyOf, zoneOf, containsAt, firstSo}
+use Rattle.reader_lookup.specs.Asking.{scaled, unlooked, candidateOf, hitAt, orElse, firstHit, lookupAmong, lookupOf, allHits, hitsAmong, hitsOf, namesRead, placed, listFor, listOf}
 use Rattle.tzb_record.specs.Layout.{recordOf}
 use Rattle.exported.proofs.Tabled.{Numbered, Tabled, TabledWalk, given, need-t, then-t, either-way, walked, must-t, past-t, verdict-t, go-t, yields-t, fine-t, and-t, outcome-t, before-t}
+use Rattle.plane.specs.Places.{pointOf}
+use Rattle.replies.specs.Replies.{Chosen, none, all, listed, Sought, nowhere, inZone}
 
 -- 1 to 46
 abbrev Q : {A : Type 0} → Answer A → Type 0
@@ -159,8 +160,8 @@ module _ (s : List ℕ) where
   unfolding movedBy
   moved q d = then-t _ _ (delta (q .x) (d .x)) (λ x. then-t _ _ (delta (q .y) (d .y)) (λ y. given _))
 
-  within : (q : I32Point) (p : ℕ) → Q (inside q p)
-  unfolding inside
+  within : (q : I32Point) (p : ℕ) → Q (mustLie q p)
+  unfolding mustLie
   within q p = need-t 42 (inDomain q) _ refl (given _)
 
   first-point : Q (firstOf s)
@@ -265,8 +266,8 @@ module _ (o : Opened) (s : List ℕ) where
     chunks-from x zero i v = last i v x
     chunks-from x (suc n) i v = go-t _ _ (pass i v) (λ w. chunks-from x n (i + 1) w)
 
-    group-of : (g : GroupRecord) → W (groupOf o s p g)
-    unfolding groupOf
+    group-of : (g : GroupRecord) → W (groupWalk o s p g)
+    unfolding groupWalk
     group-of g = yields-t _ _ (chunk o s (g .first)) (λ v. chunks-from (g .exit) _ (g .first) v)
 
     -- ---- rings
@@ -312,8 +313,8 @@ module _ (o : Opened) (s : List ℕ) where
     ring-contains edge i = then-t _ _ (ring o s i) (λ r. either-way Q (contains (r .bbox) p) _ _ (verdict-t edge _ (ring-of r)) (given _))
 
     -- ---- zones
-    sought : (f : ℕ → Answer Bool) (found other : Bool) → ((i : ℕ) → Q (f i)) → (n i : ℕ) → Q (seek f found other n i)
-    unfolding seek
+    sought : (f : ℕ → Answer Bool) (found other : Bool) → ((i : ℕ) → Q (f i)) → (n i : ℕ) → Q (firstSo f found other n i)
+    unfolding firstSo
     sought f found other h zero i = given _
     sought f found other h (suc n) i = then-t _ _ (h i) (λ b. either-way Q b _ _ (given _) (sought f found other h n (i + 1)))
 

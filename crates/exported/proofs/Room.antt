@@ -6,15 +6,16 @@ use mathlib.Core.Path.{_≡_, refl, sym, ap, _∙_}
 use mathlib.Core.Bool.{Bool, true, false}
 use mathlib.Core.List.{List}
 use lib.ListN.{length}
-use Rattle.answer.specs.Answers.{Answer, ok, refused, no, Check, _then_, _before_, then-inv, zero-one}
+use Rattle.answer.specs.Answers.{ok, no, Check, _then_, _before_}
 use Rattle.answer.specs.Checks.{claim, atMost}
-use Rattle.answer.specs.CheckLaws.{yes, nay, at-le, le-at, gt-at}
-use Rattle.reader_opened.specs.declared.Opened.{Opened}
+use Rattle.answer.proofs.CheckLaws.{yes, nay, at-le, le-at, gt-at}
+use Rattle.opened.specs.declared.Opened.{Opened}
 use Rattle.tzb_record.specs.Layout.{roomFor}
 use Rattle.tzb.specs.Opening.{openOf}
 use Rattle.tzb_c.specs.Opens.{openInto}
 use Rattle.exported.proofs.Tabled.{Tabled, given, then-t, higher, claim-t, before-t}
 use Rattle.exported.proofs.Opening.{open-tabled}
+use Rattle.answer.proofs.AnswersLaws.{then-inv, zero-one}
 
 module _ (file memory : List ℕ) (o : Opened) where
   has-room : ok o ≡ (roomFor memory before ok o) → 84 ≤ length memory

@@ -11,10 +11,9 @@ use Rattle.basics.specs.Truth.{and-l, and-r}
 use Rattle.plane.specs.Sight.{Sight, On, Off}
 use Rattle.answer.specs.declared.Refusal.{Refusal}
 use Rattle.answer.specs.Refusals.{refusal}
-use Rattle.answer.specs.Answers.{Answer, ok, refused, no, need, Check, fine, _then_, _before_}
+use Rattle.answer.specs.Answers.{Answer, ok, refused, need, Check, fine, _then_, _before_, outcome}
 use Rattle.answer.specs.Walks.{Walk, broken, on, off, add, _go_, _yields_, must, verdict}
 use Rattle.answer.specs.Checks.{claim, deny, andThen, first, each}
-use Rattle.tzb_core.specs.Decode.{outcome}
 use Rattle.tzb_core.specs.Scan.{past}
 
 -- the number goes from 1 up to top

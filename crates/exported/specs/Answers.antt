@@ -16,15 +16,15 @@ use lib.Ieee.{Float}
 use lib.ListN.{length, drop}
 use Rattle.plane.specs.Domain.{inDomain}
 use Rattle.answer.specs.Answers.{Answer, ok, no}
-use Rattle.tzb_core.specs.Ray.{pointOf}
-use Rattle.tzb_core.specs.Points.{point}
-use Rattle.reader_rings.specs.Zones.{zoneOf}
-use Rattle.reader_lookup.specs.Asking.{Sought, nowhere, inZone, lookupOf}
+use Rattle.reader_zones.specs.Zones.{zoneOf}
+use Rattle.reader_lookup.specs.Asking.{lookupOf}
 use Rattle.reader_check.specs.FullCheck.{lowestBroken}
 use Rattle.tzb_record.specs.Layout.{bytesOf, openedIn}
 use Rattle.tzb.specs.Opening.{openedIs, openOf}
 use Rattle.demands.specs.Accepted.{Accepted}
 use Rattle.exported.specs.Words.{none, refusing}
+use Rattle.plane.specs.Places.{pointOf, point}
+use Rattle.replies.specs.Replies.{Sought, nowhere, inZone}
 
 -- r is an answer as a number: its value's own, or -1000 - n for refusal n
 pub record Tells {A : Type 0} (number : A → ℤ) (x : Answer A) (r : ℤ) : Type 0 where

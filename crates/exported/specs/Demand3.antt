@@ -14,12 +14,12 @@ use mathlib.Core.List.{List}
 use mathlib.Core.Logic.{_↔_, _⊎_}
 use lib.IntN.{ℤ, pos}
 use lib.ListN.{take}
-use Rattle.tzb_core.specs.Points.{point}
 use Rattle.tzb.specs.Opening.{openedIs}
 use Rattle.demands.specs.Accepted.{Accepted}
 use Rattle.demands.specs.Words.{InZone}
 use Rattle.exported.specs.Calls.{Tzb-open, Tzb-full-check, Tzb-zone-count, Tzb-contains}
 use Rattle.exported.specs.Words.{refusing, shapeOf}
+use Rattle.plane.specs.Places.{point}
 
 -- the answer is 1 or 0: 1 exactly when it lies inside, and 0 exactly when it does not
 pub record OneOrZero (r : ℤ) (inside : Type 0) : Type 0 where

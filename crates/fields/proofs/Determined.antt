@@ -26,6 +26,11 @@ use Rattle.fields.specs.declared.LoadedI16.{LoadedI16}
 use Rattle.fields.specs.declared.LoadedI16.the-variants as I16
 use Rattle.fields.specs.declared.LoadedI32.{LoadedI32}
 use Rattle.fields.specs.declared.LoadedI32.the-variants as I32
+use Rattle.fields.proofs.wide.Reads as wide-reads
+use Rattle.fields.proofs.half.Reads as half-reads
+use Rattle.fields.proofs.word.Reads as word-reads
+use Rattle.fields.proofs.wide16.Reads as wide16-reads
+use Rattle.fields.proofs.bits16.Reads as bits16-reads
 
 one16 : (a b : Loaded16) (x : Answer ℕ) → told16 a ≡ x → told16 b ≡ x → a ≡ b
 one16 (L16.Value p) (L16.Value q) x e f = cc
@@ -86,3 +91,18 @@ i16-at κ a r r' e e' p q = p ∙ sym q
 
 pub i32-at : Determined i32-at-reads.Learnt
 i32-at κ a r r' e e' p q = p ∙ sym q
+
+pub wide : Determined wide-reads.Learnt
+wide κ a r r' e e' p q = p .0 ∙ sym (q .0)
+
+pub half : Determined half-reads.Learnt
+half κ a r r' e e' p q = p ∙ sym q
+
+pub word : Determined word-reads.Learnt
+word κ a r r' e e' p q = p .0 ∙ sym (q .0)
+
+pub wide16 : Determined wide16-reads.Learnt
+wide16 κ a r r' e e' p q = p .0 ∙ sym (q .0)
+
+pub bits16 : Determined bits16-reads.Learnt
+bits16 κ a r r' e e' p q = p ∙ sym q

@@ -3,12 +3,13 @@ ghost use mathlib.Core.Path.{_≡_};
 ghost use Prim.Native.Nat.{_+_, _≤_, _<_};
 ghost use lib.ListN.{length};
 ghost use mir.Syntax.{w16, w32};
-ghost use mir.Val.{toZ};
+ghost use mir.Val.{toZ, ofZ};
 ghost use Rattle.fields.specs.Le.{le};
+ghost use Rattle.fields.specs.Stores.{toLe, Laid};
 ghost use Rattle.fields.specs.Loads.{inside, loadAt, signedAt, told16, told32, told64, toldI16, toldI32};
 use answer::Refusal;
 
-fn wide16(b: u8) -> u16
+fn byte16(b: u8) -> u16
     ensures { λ r. ⌜ (r ≡ b) × (r < 256) ⌝ }
 {
     b as u16
@@ -18,10 +19,10 @@ pub fn u16_at(s: &[u8], at: usize) -> u16
     requires { ⌜ at + 2 ≤ length (now s) ⌝ }
     ensures { λ r. ⌜ r ≡ le 2 (now (s .entry)) at ⌝ }
 {
-    wide16(s[at]) + 0x100 * wide16(s[at + 1])
+    byte16(s[at]) + 0x100 * byte16(s[at + 1])
 }
 
-fn wide32(x: u16) -> u32
+fn half32(x: u16) -> u32
     ensures { λ r. ⌜ r ≡ x ⌝ }
 {
     x as u32
@@ -31,10 +32,10 @@ pub fn u32_at(s: &[u8], at: usize) -> u32
     requires { ⌜ at + 4 ≤ length (now s) ⌝ }
     ensures { λ r. ⌜ r ≡ le 4 (now (s .entry)) at ⌝ }
 {
-    wide32(u16_at(s, at)) + 0x1_0000 * wide32(u16_at(s, at + 2))
+    half32(u16_at(s, at)) + 0x1_0000 * half32(u16_at(s, at + 2))
 }
 
-fn wide64(x: u32) -> u64
+fn word64(x: u32) -> u64
     ensures { λ r. ⌜ r ≡ x ⌝ }
 {
     x as u64
@@ -44,7 +45,7 @@ pub fn u64_at(s: &[u8], at: usize) -> u64
     requires { ⌜ at + 8 ≤ length (now s) ⌝ }
     ensures { λ r. ⌜ r ≡ le 8 (now (s .entry)) at ⌝ }
 {
-    wide64(u32_at(s, at)) + 0x1_0000_0000 * wide64(u32_at(s, at + 4))
+    word64(u32_at(s, at)) + 0x1_0000_0000 * word64(u32_at(s, at + 4))
 }
 
 // The same bits, read as signed.
@@ -80,6 +81,33 @@ pub fn i32_at(s: &[u8], at: usize) -> i32
     ensures { λ r. ⌜ r ≡ toZ w32 (le 4 (now (s .entry)) at) ⌝ }
 {
     signed32(u32_at(s, at))
+}
+
+// The same as places: a number of 32 bits, one of 16, and the two at a tested place.
+pub fn wide(x: u32) -> usize
+    ensures { λ r. ⌜ (r ≡ x) × (r < 0x1_0000_0000) ⌝ }
+{
+    x as usize
+}
+
+pub fn wide16(x: u16) -> usize
+    ensures { λ r. ⌜ (r ≡ x) × (r < 0x1_0000) ⌝ }
+{
+    x as usize
+}
+
+pub fn half(s: &[u8], at: usize) -> usize
+    requires { ⌜ at + 2 ≤ length (now s) ⌝ }
+    ensures { λ r. ⌜ r ≡ le 2 (now (s .entry)) at ⌝ }
+{
+    u16_at(s, at) as usize
+}
+
+pub fn word(s: &[u8], at: usize) -> usize
+    requires { ⌜ at + 4 ≤ length (now s) ⌝ }
+    ensures { λ r. ⌜ (r ≡ le 4 (now (s .entry)) at) × (r < 0x1_0000_0000) ⌝ }
+{
+    wide(u32_at(s, at))
 }
 
 // What a load answers: the number, or that it would read past the lent bytes.
@@ -161,4 +189,32 @@ pub fn i32_le(raw: &[u8], off: usize) -> LoadedI32
         return LoadedI32::Refused(answer::refuse(44));
     }
     LoadedI32::Value(i32_at(raw, off))
+}
+
+// ---- numbers into lent bytes
+
+// The bytes of a number of any width, least significant first, from that place on.
+pub fn store(out: &mut [u8], at: usize, width: usize, number: u64)
+    requires { ⌜ at + width ≤ length (now out) ⌝ }
+    ensures { λ _. ⌜ Laid (now (out .entry)) at (toLe width number) (now (out .exit)) ⌝ }
+{
+    let mut rest = number;
+    let mut i = 0;
+    while i < width {
+        out[at + i] = (rest % 256) as u8;
+        rest = rest / 256;
+        i += 1;
+    }
+}
+
+// The bits of a signed number.
+pub fn bits16(z: i16) -> u16
+    ensures { λ r. ⌜ r ≡ ofZ w16 z ⌝ }
+{
+    // !z is -1 - z
+    if z < 0 {
+        0xffff - ((!z) as u16)
+    } else {
+        z as u16
+    }
 }

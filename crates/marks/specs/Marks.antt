@@ -11,7 +11,6 @@ use Rattle.plane.specs.declared.I32Point.{I32Point}
 use Rattle.plane.specs.Sight.{Sight}
 use Rattle.plane.specs.Sight as S
 use Rattle.plane.specs.Segment.{cross, amidZ, onZ, countsZ, seg}
-use Rattle.answer.specs.declared.Refusal.{Refusal}
 use Rattle.answer.specs.Checks.{claim, atMost}
 use Rattle.answer.specs.Answers.{Answer, ok, refused, Check}
 use Rattle.tzb_core.specs.Varint.{numberAt, digits}

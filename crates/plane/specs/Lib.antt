@@ -1,4 +1,5 @@
 -- Geometry in whole numbers: what a segment, a line of points and a closed ring say of a point.
+pub mod Places
 pub mod Sight
 pub mod Tally
 pub mod Segment

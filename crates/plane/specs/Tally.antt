@@ -1,7 +1,7 @@
 -- What a walk has seen so far: the point lies on a segment, or on none, with the parity of the segments counted. A commutative monoid in which On absorbs.
 -- Assumes nothing.
 use mathlib.Core.Path.{_≡_, refl, sym, ap, _∙_}
-use mathlib.Core.Bool.{Bool, true, false}
+use mathlib.Core.Bool.{Bool, false}
 use Rattle.basics.specs.Parity.{_⊻_, ⊻-idr, ⊻-comm, ⊻-assoc}
 use Rattle.plane.specs.Sight.{Sight}
 pub use Rattle.plane.specs.Sight.{On, Off}

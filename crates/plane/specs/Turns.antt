@@ -8,7 +8,6 @@ use lib.IntN.{ℤ, pos, negℤ, natAbs, _-ℤ_, _*ℤ_}
 use lib.Signed.{ltZ, leZ}
 use Rattle.basics.specs.Parity.{_⊻_}
 use Rattle.plane.specs.declared.I32Point.{I32Point}
-use Rattle.plane.specs.Sight.{Sight}
 use Rattle.plane.specs.Tally.{On, Off, none}
 use Rattle.plane.specs.Segment.{cross, amidZ, onZ, countsZ, seg, above, same}
 use Rattle.basics.specs.Whole.{isZero, eqZ, Is, is-move, is-unique, is-neg, is-minus, is-mul, shift, shift-is, lt-is, le-is, le-not-lt, lt-not-le, not-lt-le, antisym, neg-zero, neg-pos, pos-is, nonpos-is, sub-pos, asym, eqZ-true}

@@ -9,20 +9,22 @@ use Rattle.basics.specs.Truth.{and-l, and-r}
 use Rattle.plane.specs.declared.I32Point.{I32Point}
 use Rattle.plane.specs.Segment.{same}
 use Rattle.plane.specs.Lines.{every, lastOf}
-use Rattle.answer.specs.Answers.{ok}
+use Rattle.answer.specs.Answers.{ok, holds}
 use Rattle.shapes.specs.Shapes.{inBox, covers}
-use Rattle.reader_opened.specs.declared.Opened.{Opened}
+use Rattle.opened.specs.declared.Opened.{Opened}
 use Rattle.reader_records.specs.declared.ListRecord.{ListRecord}
 use Rattle.reader_records.specs.declared.RingRecord.{RingRecord}
 use Rattle.reader_records.specs.declared.GroupRecord.{GroupRecord}
 use Rattle.reader_records.specs.declared.ChunkRecord.{ChunkRecord}
 use Rattle.reader_records.specs.Records.{zoneAt, polyAt, ringAt, opAt, groupAt, chunkAt, countRule}
 use Rattle.reader_chunks.specs.Chunks.{firstAt, chunkPoints}
-use Rattle.reader_cover.specs.Holds.{holds, all, holds-at, held, answer-of, all-at}
 use Rattle.reader_cover.specs.Cover.{opGroup, opPoints, pointsAdd, chunkCovers, jointCovers, jointsCover, chunkUnder, groupUnder, ringUnder, polyUnder, endsFit, groupCovers, ringCovers, polyCovers, zoneCovers}
 use Rattle.reader_check.specs.declared.Demand.{Demand}
 use Rattle.reader_check.specs.declared.Demand.the-variants as D
 use Rattle.reader_check.specs.FullCheck.{asked, met, allMet, recordsHold, chunksDecode, chunkBoxesCover, groupsCover, boxesCover}
+use Rattle.reader_cover.specs.All.{all}
+use Rattle.answer.proofs.AnswersLaws.{holds-at, held, answer-of}
+use Rattle.reader_cover.proofs.AllLaws.{all-at}
 
 module _ (o : Opened) (s : List ℕ) where
   -- of demands that are all met: the first, and the rest

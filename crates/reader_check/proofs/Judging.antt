@@ -5,10 +5,10 @@ use mathlib.Core.Path.{_≡_, refl, ap, _∙_}
 use mathlib.Core.Bool.{Bool, true, false, _&&_, false≢true}
 use mathlib.Core.List.{List, [], _∷_}
 use lib.Dec.{ltb}
-use Rattle.reader_opened.specs.declared.Opened.{Opened}
-use Rattle.reader_cover.specs.Holds.{all}
+use Rattle.opened.specs.declared.Opened.{Opened}
 use Rattle.reader_check.specs.declared.Demand.{Demand}
 use Rattle.reader_check.specs.FullCheck.{asked, met, allMet, rule, lowestBroken, found}
+use Rattle.reader_cover.specs.All.{all}
 
 -- one demand, and then another of the same rule
 past : (k n : ℕ) (a b : Bool) (after : ℕ) → ltb 0 n ≡ true → found (found k (rule n a 0)) (rule n b after) ≡ found k (rule n (a && b) after)

@@ -9,8 +9,10 @@ use mathlib.Core.List.{List}
 use lib.Dec.{eqb}
 use borrow.Author.Tests.{eqb-true, eqb-false}
 use Rattle.answer.specs.Answers.{Answer, ok, refused}
-use Rattle.reader_opened.specs.declared.Opened.{Opened}
-use Rattle.reader_check.specs.FullCheck.{recordsHold, chunksDecode, chunkBoxesCover, groupsCover, boxesCover, rule, lowestBroken, accepted, judged, fullCheckOf, check-accepted}
+use Rattle.opened.specs.declared.Opened.{Opened}
+use Rattle.reader_check.specs.FullCheck.{recordsHold, chunksDecode, chunkBoxesCover, groupsCover, boxesCover, rule, lowestBroken, judged, checkOf}
+use Rattle.replies.specs.Replies.{accepted}
+use Rattle.reader_check.proofs.FullCheckLaws.{check-accepted}
 
 -- F2 to F6
 pub record Holding (o : Opened) (s : List ℕ) : Type 0 where
@@ -94,17 +96,17 @@ module _ (o : Opened) (s : List ℕ) where
 -- ---- the full check, of what opening answers
 module _ (x : Answer Opened) (s : List ℕ) where
   -- it accepts exactly where opening does (F1) and F2 to F6 hold
-  pub accepted-holds : accepted ≡ fullCheckOf x s → (o : Opened) × (ok o ≡ x) × Holding o s
-  unfolding fullCheckOf
+  pub accepted-holds : accepted ≡ checkOf x s → (o : Opened) × (ok o ≡ x) × Holding o s
+  unfolding checkOf
   accepted-holds h = go x h
     where
       by : (n : ℕ) → accepted ≡ judged n → n ≡ 0
       by zero e = refl
       by (suc n) e = let z : _≡_ {A = ℕ} 0 1 = cc in absurd (omega arith)
 
-      go : (y : Answer Opened) → accepted ≡ fullCheckOf y s → (o : Opened) × (ok o ≡ y) × Holding o s
+      go : (y : Answer Opened) → accepted ≡ checkOf y s → (o : Opened) × (ok o ≡ y) × Holding o s
       go (ok o) e = (o, refl, none-broken o s (by (lowestBroken o s) e))
       go (refused r) e = let z : _≡_ {A = ℕ} 0 1 = cc in absurd (omega arith)
 
-  pub holds-accepted : (o : Opened) → ok o ≡ x → Holding o s → accepted ≡ fullCheckOf x s
+  pub holds-accepted : (o : Opened) → ok o ≡ x → Holding o s → accepted ≡ checkOf x s
   holds-accepted o e h = check-accepted x s o e (lowestBroken o s) refl (all-hold o s h)

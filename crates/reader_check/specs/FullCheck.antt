@@ -1,21 +1,18 @@
 -- Document 01, "What the full check demands": F2 to F6, and the lowest that is broken. A rule is a list of demands, and a demand is made of every record of a directory. F1 is that opening accepts (tzb). For any opened record and any bytes.
 -- Assumes nothing.
-use Prim.Native.Nat.{ℕ, zero, suc, _<_}
-use native.Mathlib.Omega.{arith}
-use mathlib.Core.Path.{_≡_, refl, sym, ap, _∙_}
+use Prim.Native.Nat.{ℕ, zero, suc}
 use mathlib.Core.Bool.{Bool, true, false, _&&_}
 use mathlib.Core.List.{List, [], _∷_}
-use mathlib.Core.Logic.{_≢_}
-use Rattle.answer.specs.declared.Refusal.{Refusal}
 use Rattle.answer.specs.Refusals.{refusal}
-use Rattle.answer.specs.Answers.{Answer, ok, refused}
-use Rattle.reader_opened.specs.declared.Opened.{Opened}
+use Rattle.answer.specs.Answers.{Answer, ok, refused, holds, answered}
+use Rattle.opened.specs.declared.Opened.{Opened}
 use Rattle.reader_records.specs.Records.{zoneAt, polyAt, ringAt, opAt, groupAt}
 use Rattle.reader_chunks.specs.Chunks.{chunkPoints}
-use Rattle.reader_cover.specs.Holds.{holds, answered, all}
 use Rattle.reader_cover.specs.Cover.{pointsAdd, chunkCovers, jointsCover, groupCovers, ringCovers, polyCovers, zoneCovers}
 use Rattle.reader_check.specs.declared.Demand.{Demand}
 use Rattle.reader_check.specs.declared.Demand.the-variants as D
+use Rattle.reader_cover.specs.All.{all}
+use Rattle.replies.specs.Replies.{Outcome, accepted, refusedBy, brokenAt}
 
 -- ---- the demands
 -- how many records a directory has, and the test that record i is to pass
@@ -93,66 +90,17 @@ lowestBroken o s =
     (rule 6 (boxesCover o s)
     0))))
 
--- the full check: where F1 is broken opening's number, else 47 with the lowest broken rule
-pub data Outcome : Type 0 where
-  accepted : Outcome
-  refusedBy : Refusal → Outcome
-  brokenAt : Refusal → ℕ → Outcome
-
 abbrev pub judged : ℕ → Outcome
 judged zero = accepted
 judged (suc n) = brokenAt (refusal 47) (suc n)
 
 -- of what opening answers
-unfoldable pub fullCheckOf : Answer Opened → List ℕ → Outcome
-fullCheckOf (ok o) s = judged (lowestBroken o s)
-fullCheckOf (refused r) s = refusedBy r
+unfoldable pub checkOf : Answer Opened → List ℕ → Outcome
+checkOf (ok o) s = judged (lowestBroken o s)
+checkOf (refused r) s = refusedBy r
 
 -- ---- what the code's steps answer
 -- the number of a rule that is broken already; where there is none, 0, what comes after
 unfoldable pub found : ℕ → ℕ → ℕ
 found zero after = after
 found (suc n) after = suc n
-
--- ---- laws
-module _ (n : ℕ) (b : Bool) (after : ℕ) where
-  pub rule-broken : b ≡ false → n ≡ rule n b after
-  unfolding rule
-  rule-broken e = rw e
-
-  pub rule-met : b ≡ true → (x : ℕ) → x ≡ after → x ≡ rule n b after
-  unfolding rule
-  rule-met e x h = rw e h
-
-module _ (k after : ℕ) where
-  pub found-one : k ≢ 0 → k ≡ found k after
-  unfolding found
-  found-one h = by k h
-    where
-      by : (k : ℕ) → k ≢ 0 → k ≡ found k after
-      by zero h = absurd (h refl)
-      by (suc k) h = refl
-
-  pub found-none : k ≡ 0 → (x : ℕ) → x ≡ after → x ≡ found k after
-  unfolding found
-  found-none e x h = rw e h
-
-module _ (x : Answer Opened) (s : List ℕ) where
-  pub check-refused : (r : Refusal) → refused r ≡ x → refusedBy r ≡ fullCheckOf x s
-  unfolding fullCheckOf
-  check-refused r e = rw (← e)
-
-  module _ (o : Opened) (e : ok o ≡ x) (n : ℕ) (h : n ≡ lowestBroken o s) where
-    check-judged : judged n ≡ fullCheckOf x s
-    unfolding fullCheckOf
-    check-judged = ap judged h ∙ ap (λ (y : Answer Opened). fullCheckOf y s) e
-
-    pub check-accepted : n ≡ 0 → accepted ≡ fullCheckOf x s
-    check-accepted z = ap judged (sym z) ∙ check-judged
-
-    pub check-broken : 0 < n → brokenAt (refusal 47) n ≡ fullCheckOf x s
-    check-broken l = by n l ∙ check-judged
-      where
-        by : (n : ℕ) → 0 < n → brokenAt (refusal 47) n ≡ judged n
-        by zero l = absurd (omega arith)
-        by (suc n) l = refl

@@ -2,11 +2,12 @@
 ghost use mathlib.Core.Path.{_≡_};
 ghost use Rattle.reader_records.specs.Records.{zoneAt, polyAt, ringAt, opAt, groupAt};
 ghost use Rattle.reader_chunks.specs.Chunks.{chunkPoints};
-ghost use Rattle.reader_cover.specs.Holds.{holds, answered, all};
 ghost use Rattle.reader_cover.specs.Cover.{pointsAdd, chunkCovers, jointsCover, groupCovers, ringCovers, polyCovers, zoneCovers};
 ghost use Rattle.reader_check.specs.FullCheck.{asked, found, rule, lowestBroken};
+ghost use Rattle.answer.specs.Answers.{holds, answered};
+ghost use Rattle.reader_cover.specs.All.{all};
+use opened::Opened;
 use reader_cover::Part;
-use reader_opened::Opened;
 use reader_records::GroupAt;
 use reader_records::ListAt;
 use reader_records::OpAt;
@@ -177,7 +178,7 @@ fn judge(o: Opened, s: &[u8], broken: u32, number: u32, demand: Demand, count: u
     if broken != 0 {
         return broken;
     }
-    let n = reader_head::wide(count);
+    let n = fields::wide(count);
     let mut i = 0;
     while i < n {
         if !is_met(o, s, demand, i) {

@@ -10,14 +10,14 @@ use lib.Dec.{ltb, leb}
 use lib.IntN.{ℤ}
 use borrow.Author.Tests.{le-leb, lt-leb}
 use Rattle.plane.specs.declared.I32Point.{I32Point}
-use Rattle.answer.specs.Answers.{ok, no, _then_, need, then-inv, need-inv, fine}
+use Rattle.answer.specs.Answers.{ok, no, _then_, need, fine}
 use Rattle.tzb_core.specs.Decode.{pointsOf, flat, filled}
-use Rattle.tzb_core.proofs.Decoded.{outcome-fine}
 use Rattle.tzb_core.proofs.Neighbours.{count-list, never-empty}
-use Rattle.reader_opened.specs.declared.Opened.{Opened}
+use Rattle.opened.specs.declared.Opened.{Opened}
 use Rattle.reader_records.specs.declared.ChunkRecord.{ChunkRecord}
 use Rattle.reader_records.specs.Records.{chunkAt}
 use Rattle.reader_chunks.specs.Chunks.{bytesOf, chunkPoints, decodeBy, decodeIn, decodeAt, decodedAt}
+use Rattle.answer.proofs.AnswersLaws.{then-inv, need-inv, outcome-fine}
 
 -- a chunk that has points has as many as its record says
 count-is : (b : List ℕ) (n : ℕ) (l : List I32Point) → ok l ≡ pointsOf b n → length l ≡ n

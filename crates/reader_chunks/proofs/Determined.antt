@@ -3,7 +3,7 @@
 use Prim.Native.Nat.{ℕ}
 use mathlib.Core.Path.{_≡_, sym, _∙_}
 use Rattle.basics.specs.Determined.{Determined, DeterminedMemory}
-use Rattle.answer.specs.Answers.{Answer, checked-one}
+use Rattle.answer.specs.Answers.{Answer}
 use Rattle.plane.specs.declared.I32Point.{I32Point}
 use Rattle.tzb_core.proofs.DeterminedChunk.{one-scan, one-trace}
 use Rattle.reader_chunks.specs.Chunks.{toldOffset, toldPoint}
@@ -19,6 +19,7 @@ use Rattle.reader_chunks.proofs.trace_in.Reads as trace-in-reads
 use Rattle.reader_chunks.proofs.first_at.Reads as first-at-reads
 use Rattle.reader_chunks.proofs.trace_at.Reads as trace-at-reads
 use Rattle.reader_chunks.proofs.decode_chunk_points.Reads as decode-chunk-points-reads
+use Rattle.answer.proofs.AnswersLaws.{checked-one}
 
 one-offset : (a b : Offset) (x : Answer ℕ) → toldOffset a ≡ x → toldOffset b ≡ x → a ≡ b
 one-offset (O.At v) (O.At w) x e f = cc

@@ -1,4 +1,5 @@
 -- What follows from the promises: answers are determined; what decoding accepts.
+pub mod ChunksLaws
 pub mod Ranges
 pub mod Determined
 pub mod Decodes

@@ -6,15 +6,15 @@ use mathlib.Core.List.{List}
 use lib.ListN.{length}
 use lib.Dec.{ltb, leb}
 use borrow.Author.Tests.{ltb-true, leb-true}
-use Rattle.answer.specs.Answers.{ok, need, then-inv, need-inv, fine}
+use Rattle.answer.specs.Answers.{ok, need, fine, outcome}
 use Rattle.fields.specs.Part.{part}
 use Rattle.fields.specs.Loads.{inside}
-use Rattle.tzb_core.specs.Decode.{outcome}
-use Rattle.tzb_core.proofs.Decoded.{outcome-fine}
-use Rattle.reader_opened.specs.declared.Opened.{Opened}
+use Rattle.opened.specs.declared.Opened.{Opened}
 use Rattle.reader_records.specs.declared.ChunkRecord.{ChunkRecord}
 use Rattle.reader_records.specs.Records.{place, recordAt, ruled, chunkIn, chunkRule, chunkAt}
-use Rattle.reader_chunks.specs.Chunks.{span, startOf, endOf, end-is}
+use Rattle.reader_chunks.specs.Chunks.{span, startOf, endOf}
+use Rattle.answer.proofs.AnswersLaws.{then-inv, need-inv, outcome-fine}
+use Rattle.reader_chunks.proofs.ChunksLaws.{end-is}
 
 pub span-in : (s : List ℕ) (a e : ℕ) (b : List ℕ) → ok b ≡ span s a e → (a < e) × (e ≤ length s)
 unfolding span

@@ -2,17 +2,17 @@
 ghost use mathlib.Core.Path.{_≡_};
 ghost use Prim.Native.Nat.{_+_, _*_, _≤_, _<_};
 ghost use lib.ListN.{length};
-ghost use Rattle.answer.specs.Answers.{checkedTold};
-ghost use Rattle.tzb_core.specs.Decode.{outcome, filled};
+ghost use Rattle.answer.specs.Answers.{checkedTold, outcome};
+ghost use Rattle.tzb_core.specs.Decode.{filled};
 ghost use Rattle.tzb_core.specs.Scan.{scanned};
 ghost use Rattle.tzb_core.specs.Trace.{toldTrace};
 ghost use Rattle.reader_chunks.specs.Chunks.{toldOffset, toldPoint, startOf, endOf, span, firstIn, scanIn, traceIn, firstAt, traceAt, pointsIn, decodeBy, decodeAt, decodedAt};
 use answer::Checked;
 use answer::Refusal;
 use boxes::BBox;
+use opened::Opened;
 use plane::I32Point;
 use plane::Point;
-use reader_opened::Opened;
 use reader_records::ChunkAt;
 use reader_records::ChunkRecord;
 use tzb_core::chunk;
@@ -36,21 +36,21 @@ pub enum PointAt {
 pub fn start_of(o: Opened, v: ChunkRecord) -> usize
     ensures { λ r. ⌜ (r ≡ startOf o v) × (r < 0x2_0000_0000) ⌝ }
 {
-    reader_head::wide(o.points.off) + reader_head::wide(v.off)
+    fields::wide(o.points.off) + fields::wide(v.off)
 }
 
 // Where the points end.
 fn points_end(o: Opened) -> usize
     ensures { λ r. ⌜ r ≡ o .points .off + o .points .len ⌝ }
 {
-    reader_head::wide(o.points.off) + reader_head::wide(o.points.len)
+    fields::wide(o.points.off) + fields::wide(o.points.len)
 }
 
 // Where chunk `index` ends: where the next of the file starts, or with the points.
 pub fn end_of(o: Opened, s: &[u8], index: usize) -> Offset
     ensures { λ r. ⌜ toldOffset r ≡ endOf o (now (s .entry)) index ⌝ }
 {
-    let count = reader_head::wide(o.chunks.count);
+    let count = fields::wide(o.chunks.count);
     if count <= index {
         return Offset::At(points_end(o));
     }
@@ -173,7 +173,7 @@ fn decode_record(o: Opened, s: &[u8], index: usize, v: ChunkRecord, out: &mut [i
     if v.count == 0 {
         return answer::fail(32);
     }
-    if out.len() < 2 * reader_records::wide16(v.count) {
+    if out.len() < 2 * fields::wide16(v.count) {
         return answer::fail(46);
     }
     let t = end_of(o, s, index);

@@ -6,12 +6,11 @@ use mathlib.Core.Path.{_≡_, refl, sym, ap, _∙_}
 use mathlib.Core.Bool.{Bool, false}
 use mathlib.Core.List.{List}
 use Rattle.answer.specs.declared.Refusal.{Refusal}
-use Rattle.answer.specs.Answers.{Answer, ok, refused, _then_}
-use Rattle.reader_opened.specs.declared.Opened.{Opened}
+use Rattle.answer.specs.Answers.{Answer, ok, refused, _then_, holds}
+use Rattle.opened.specs.declared.Opened.{Opened}
 use Rattle.reader_records.specs.declared.RingRecord.{RingRecord}
 use Rattle.reader_records.specs.declared.GroupRecord.{GroupRecord}
 use Rattle.reader_records.specs.Records.{countRule}
-use Rattle.reader_cover.specs.Holds.{holds}
 use Rattle.reader_cover.specs.Cover.{opGroup, opPoints, pointsAdd}
 
 -- with `sum` counted so far, n ops from op j on

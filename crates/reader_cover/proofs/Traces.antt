@@ -9,18 +9,19 @@ use Rattle.plane.specs.declared.I32Point.{I32Point}
 use Rattle.plane.specs.Segment.{same}
 use Rattle.plane.specs.Lines.{every, lastOf}
 use Rattle.answer.specs.declared.Refusal.{Refusal}
-use Rattle.answer.specs.Answers.{Answer, ok, refused, _then_, need}
+use Rattle.answer.specs.Answers.{Answer, ok, refused, _then_, need, holds, answered}
 use Rattle.boxes.specs.declared.BBox.{BBox}
 use Rattle.boxes.specs.Box.{inBox}
-use Rattle.tzb_core.specs.Decode.{pointsOf, points-are}
+use Rattle.tzb_core.specs.Decode.{pointsOf}
 use Rattle.tzb_core.specs.Trace.{traceOf, traced}
 use Rattle.tzb_core.proofs.Neighbours.{trace-points}
-use Rattle.reader_opened.specs.declared.Opened.{Opened}
+use Rattle.opened.specs.declared.Opened.{Opened}
 use Rattle.reader_records.specs.declared.ChunkRecord.{ChunkRecord}
 use Rattle.reader_records.specs.Records.{chunkAt}
 use Rattle.reader_chunks.specs.Chunks.{startOf, endOf, span, bytesOf, traceIn, traceAt, chunkPoints}
-use Rattle.reader_cover.specs.Holds.{holds, answered, holds-no, holds-ok}
 use Rattle.reader_cover.specs.Cover.{chunkCovers}
+use Rattle.answer.proofs.AnswersLaws.{holds-no, holds-ok}
+use Rattle.tzb_core.proofs.DecodeLaws.{points-are}
 
 -- a test of points, made on their trace
 traced-holds : (b : BBox) (P : List I32Point → Bool) (Q : Bool × I32Point → Bool) → ((l : List I32Point) → Q (every (inBox b) l, lastOf l) ≡ P l)

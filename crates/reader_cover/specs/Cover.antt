@@ -1,25 +1,23 @@
 -- Document 01, "What the full check demands": what is asked of one ring, one chunk, one group, one box. For any opened record and any bytes.
 -- Assumes nothing.
 use Prim.Native.Nat.{ℕ, zero, suc, _+_, _-_, _%_}
-use mathlib.Core.Path.{_≡_}
 use mathlib.Core.Bool.{Bool, _&&_}
 use mathlib.Core.List.{List}
 use Rattle.plane.specs.Segment.{same}
 use Rattle.plane.specs.Lines.{every, lastOf}
-use Rattle.answer.specs.declared.Refusal.{Refusal}
-use Rattle.answer.specs.Answers.{Answer, ok, refused, _then_}
+use Rattle.answer.specs.Answers.{Answer, ok, _then_, holds}
 use Rattle.boxes.specs.declared.BBox.{BBox}
 use Rattle.boxes.specs.Box.{inBox}
-use Rattle.reader_opened.specs.declared.Opened.{Opened}
+use Rattle.opened.specs.declared.Opened.{Opened}
 use Rattle.reader_records.specs.declared.ListRecord.{ListRecord}
 use Rattle.reader_records.specs.declared.RingRecord.{RingRecord}
 use Rattle.reader_records.specs.declared.GroupRecord.{GroupRecord}
 use Rattle.reader_records.specs.Records.{polyAt, ringAt, opAt, groupAt, chunkAt, countRule}
 use Rattle.reader_chunks.specs.Chunks.{firstAt, chunkPoints}
-use Rattle.reader_cover.specs.Holds.{holds, all}
 use Rattle.shapes.specs.Shapes.{covers}
 use Rattle.reader_cover.specs.declared.Part.{Part}
 use Rattle.reader_cover.specs.declared.Part.the-variants as P
+use Rattle.reader_cover.specs.All.{all}
 
 -- the group that op j names
 unfoldable pub opGroup : Opened → List ℕ → ℕ → Answer GroupRecord
@@ -90,18 +88,3 @@ partFits o s (P.Group b) = groupUnder o s b
 partFits o s (P.Ring b) = ringUnder o s b
 partFits o s (P.Polygon b) = polyUnder o s b
 partFits o s P.Joint = jointCovers o s
-
--- ---- laws
-module _ (o : Opened) (s : List ℕ) (j : ℕ) where
-  pub op-group-no : (r : Refusal) → refused r ≡ opAt o s j → refused r ≡ opGroup o s j
-  unfolding opGroup
-  op-group-no r e = rw (← e)
-
-  pub op-group-is : (w : ℕ) → ok w ≡ opAt o s j → groupAt o s (w % 0x8000_0000) ≡ opGroup o s j
-  unfolding opGroup
-  op-group-is w e = rw (← e)
-
-pub ends-are : (o : Opened) (s : List ℕ) (g : GroupRecord) (a b : Bool) (i j : ℕ) → i ≡ g .first → j ≡ g .first + (g .count - 1)
-    → a ≡ holds (same (g .entry)) (firstAt o s i) → b ≡ holds (λ l. same (g .exit) (lastOf l)) (chunkPoints o s j) → a && b ≡ endsFit o s g
-unfolding endsFit
-ends-are o s g a b i j e f h k = rw (h, k, e, f)

@@ -7,12 +7,13 @@ ghost use Rattle.boxes.specs.Box.{inBox};
 ghost use Rattle.shapes.specs.Shapes.{covers};
 ghost use Rattle.reader_records.specs.Records.{toldGroup};
 ghost use Rattle.reader_chunks.specs.Chunks.{firstAt, chunkPoints};
-ghost use Rattle.reader_cover.specs.Holds.{holds, all};
 ghost use Rattle.reader_cover.specs.Cover.{opGroup, pointsAdd, jointCovers, jointsCover, chunkUnder, groupUnder, ringUnder, polyUnder, endsFit, groupCovers, partFits};
+ghost use Rattle.answer.specs.Answers.{holds};
+ghost use Rattle.reader_cover.specs.All.{all};
 use boxes::BBox;
+use opened::Opened;
 use plane::I32Point;
 use reader_chunks::PointAt;
-use reader_opened::Opened;
 use reader_records::ChunkAt;
 use reader_records::GroupAt;
 use reader_records::GroupRecord;
@@ -58,7 +59,7 @@ fn op_group(o: Opened, s: &[u8], index: usize) -> GroupAt
 pub fn points_add(o: Opened, s: &[u8], v: RingRecord) -> bool
     ensures { λ r. ⌜ r ≡ pointsAdd o (now (s .entry)) v ⌝ }
 {
-    let mut j = reader_head::wide(v.first);
+    let mut j = fields::wide(v.first);
     let mut sum = 0;
     let mut ops = v.count;
     while 0 < ops {
@@ -68,7 +69,7 @@ pub fn points_add(o: Opened, s: &[u8], v: RingRecord) -> bool
                 return false;
             }
             GroupAt::At(g) => {
-                sum += reader_head::wide(g.points);
+                sum += fields::wide(g.points);
             }
         }
         j += 1;
@@ -158,8 +159,8 @@ fn part_fits(o: Opened, s: &[u8], part: Part, index: usize) -> bool
 pub fn parts_fit(o: Opened, s: &[u8], part: Part, first: u32, count: u16) -> bool
     ensures { λ r. ⌜ r ≡ all (partFits o (now (s .entry)) part) count first ⌝ }
 {
-    let mut j = reader_head::wide(first);
-    let to = j + reader_records::wide16(count);
+    let mut j = fields::wide(first);
+    let to = j + fields::wide16(count);
     while j < to {
         if !part_fits(o, s, part, j) {
             return false;
@@ -210,8 +211,8 @@ fn is_last(o: Opened, s: &[u8], q: I32Point, index: usize) -> bool
 fn ends_fit(o: Opened, s: &[u8], v: GroupRecord) -> bool
     ensures { λ r. ⌜ r ≡ endsFit o (now (s .entry)) v ⌝ }
 {
-    let first = reader_head::wide(v.first);
-    let last = first + reader_records::wide16(less_one(v.count));
+    let first = fields::wide(v.first);
+    let last = first + fields::wide16(less_one(v.count));
     is_first(o, s, v.entry, first) & is_last(o, s, v.exit, last)
 }
 

@@ -7,12 +7,13 @@ use mathlib.Core.Bool.{Bool, true, false}
 use borrow.Author.Tests.{ltb-true, ltb-false}
 use lib.Dec.{ltb}
 use mathlib.Core.List.{List}
-use Rattle.answer.specs.CheckLaws.{fine-one, fine-rest, fine-claim, at-le, below-lt, same-eq}
+use Rattle.answer.proofs.CheckLaws.{fine-one, fine-rest, fine-claim, at-le, below-lt, same-eq, each-at}
 use Rattle.answer.specs.Answers.{ok, fine}
-use Rattle.reader_opened.specs.declared.Opened.{Opened}
-use Rattle.reader_opened.specs.Opened.{each-at}
-use Rattle.reader_records.specs.Records.{chunkAt, chunkIn, chunkRule, groupAt, groupIn, groupRule, ruled-there}
-use Rattle.reader_dirs.specs.Dirs.{chunkOf, groupOf, chunkCheck, chunkCheckAt, chunksCheck, leastOff, countAt, total, groupCheck, groupCheckAt, groupsCheck, Room}
+use Rattle.opened.specs.declared.Opened.{Opened}
+use Rattle.reader_records.specs.Records.{chunkAt, chunkIn, chunkRule, groupAt, groupIn, groupRule}
+use Rattle.reader_dirs.specs.Dirs.{chunkOf, groupOf, chunkCheck, chunkCheckAt, chunksCheck, leastOff, countAt, groupCheck, groupCheckAt, groupsCheck, Room}
+use Rattle.basics.specs.Total.{total}
+use Rattle.reader_records.proofs.RecordsLaws.{ruled-there}
 
 module _ (s : List ℕ) (o : Opened) (room : Room s o) (passes : chunksCheck s o ≡ fine) where
   module _ (i : ℕ) (h : i < o .chunks .count) where

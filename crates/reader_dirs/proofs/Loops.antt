@@ -6,10 +6,11 @@ use native.Mathlib.Numerals.{add-one}
 use mathlib.Core.Path.{_≡_, refl, sym, ap, _∙_}
 use mathlib.Core.List.{List}
 use Rattle.answer.specs.Answers.{Check}
-use Rattle.reader_opened.specs.declared.Directory.{Directory}
+use Rattle.opened.specs.declared.Directory.{Directory}
 use Rattle.reader_records.specs.declared.ChunkRecord.{ChunkRecord}
 use Rattle.reader_records.specs.declared.GroupRecord.{GroupRecord}
-use Rattle.reader_dirs.specs.Dirs.{total, leastOff, chunkOf, groupOf, chunkCheck, chunkCheckAt, groupCheck, groupCheckAt}
+use Rattle.reader_dirs.specs.Dirs.{leastOff, chunkOf, groupOf, chunkCheck, chunkCheckAt, groupCheck, groupCheckAt}
+use Rattle.basics.specs.Total.{total}
 
 -- with `sum` added so far, the whole is m
 pub total-start : (f : ℕ → ℕ) (n i : ℕ) → 0 + total f (n - i) i ≡ total f (n - i) i

@@ -5,11 +5,12 @@ use mathlib.Core.List.{List, [], _∷_}
 use lib.ListN.{length}
 use Rattle.answer.specs.Answers.{Check}
 use Rattle.answer.specs.Checks.{claim, first, each, atMost, below, same}
-use Rattle.reader_opened.specs.declared.Directory.{Directory}
-use Rattle.reader_opened.specs.declared.Opened.{Opened}
+use Rattle.opened.specs.declared.Directory.{Directory}
+use Rattle.opened.specs.declared.Opened.{Opened}
 use Rattle.reader_records.specs.declared.ChunkRecord.{ChunkRecord}
 use Rattle.reader_records.specs.declared.GroupRecord.{GroupRecord}
 use Rattle.reader_records.specs.Records.{place, chunkIn, chunkRule, groupIn, groupRule}
+use Rattle.basics.specs.Total.{total}
 
 -- chunk i and group i of a directory
 abbrev pub chunkOf : List ℕ → Directory → ℕ → ChunkRecord
@@ -38,11 +39,6 @@ chunkCheckAt s d points i = chunkCheck (chunkOf s d i) points (leastOff s d i)
 
 unfoldable pub chunksCheck : List ℕ → Opened → Check
 chunksCheck s o = each (chunkCheckAt s (o .chunks) (o .points .len)) (o .chunks .count) 0
-
--- n numbers from the i-th on, added
-unfoldable pub total : (ℕ → ℕ) → ℕ → ℕ → ℕ
-total f zero i = 0
-total f (suc n) i = f i + total f n (i + 1)
 
 unfoldable pub countAt : List ℕ → Directory → ℕ → ℕ
 countAt s d i = chunkOf s d i .count

@@ -3,10 +3,11 @@ ghost use mathlib.Core.Path.{_≡_};
 ghost use Prim.Native.Nat.{_+_, _-_, _≤_, _<_};
 ghost use Rattle.answer.specs.Answers.{checkedTold};
 ghost use Rattle.answer.specs.Checks.{each};
-ghost use Rattle.reader_dirs.specs.Dirs.{chunkOf, groupOf, chunkCheck, chunkCheckAt, chunksCheck, countAt, total, groupCheck, groupCheckAt, groupsCheck, Lies, Room};
+ghost use Rattle.reader_dirs.specs.Dirs.{chunkOf, groupOf, chunkCheck, chunkCheckAt, chunksCheck, countAt, groupCheck, groupCheckAt, groupsCheck, Lies, Room};
+ghost use Rattle.basics.specs.Total.{total};
 use answer::Checked;
-use reader_opened::Directory;
-use reader_opened::Opened;
+use opened::Directory;
+use opened::Opened;
 use reader_records::ChunkRecord;
 use reader_records::GroupRecord;
 
@@ -23,7 +24,7 @@ fn chunk(v: ChunkRecord, points: u32, least: usize) -> Checked
     if points <= v.off {
         return answer::fail(32);
     }
-    if reader_head::wide(v.off) < least {
+    if fields::wide(v.off) < least {
         return answer::fail(32);
     }
     Checked::Fine
@@ -34,14 +35,14 @@ fn chunk_no(s: &[u8], d: Directory, i: usize) -> ChunkRecord
     requires { ⌜ Lies (now s) d 24 × (i < d .count) ⌝ }
     ensures { λ r. ⌜ r ≡ chunkOf (now (s .entry)) d i ⌝ }
 {
-    reader_records::chunk_in(s, reader_head::wide(d.off) + i * 24)
+    reader_records::chunk_in(s, fields::wide(d.off) + i * 24)
 }
 
 fn chunks_of(s: &[u8], d: Directory, points: u32) -> Checked
     requires { ⌜ Lies (now s) d 24 ⌝ }
     ensures { λ r. ⌜ checkedTold r ≡ each (chunkCheckAt (now (s .entry)) d points) (d .count) 0 ⌝ }
 {
-    let n = reader_head::wide(d.count);
+    let n = fields::wide(d.count);
     let mut least = 0;
     let mut i = 0;
     while i < n {
@@ -50,7 +51,7 @@ fn chunks_of(s: &[u8], d: Directory, points: u32) -> Checked
         if let Checked::Refused(k) = a {
             return Checked::Refused(k);
         }
-        least = reader_head::wide(v.off) + 1;
+        least = fields::wide(v.off) + 1;
         i += 1;
     }
     Checked::Fine
@@ -70,8 +71,8 @@ fn count_at(s: &[u8], d: Directory, i: usize) -> usize
     requires { ⌜ Lies (now s) d 24 × (i < d .count) ⌝ }
     ensures { λ r. ⌜ (r ≡ countAt (now (s .entry)) d i) × (r < 0x1_0000) ⌝ }
 {
-    let at = reader_head::wide(d.off) + i * 24;
-    reader_records::wide16(fields::u16_at(s, at + 4))
+    let at = fields::wide(d.off) + i * 24;
+    fields::wide16(fields::u16_at(s, at + 4))
 }
 
 // The point counts of the chunks from `from` on and before `to`, added.
@@ -93,7 +94,7 @@ fn group_no(s: &[u8], g: Directory, i: usize) -> GroupRecord
     requires { ⌜ Lies (now s) g 44 × (i < g .count) ⌝ }
     ensures { λ r. ⌜ r ≡ groupOf (now (s .entry)) g i ⌝ }
 {
-    reader_records::group_in(s, reader_head::wide(g.off) + i * 44)
+    reader_records::group_in(s, fields::wide(g.off) + i * 44)
 }
 
 // 34 and 33 of a group, whose chunks are in the directory d.
@@ -104,9 +105,9 @@ fn group(s: &[u8], d: Directory, v: GroupRecord) -> Checked
     if !reader_records::group_rule(d.count, v) {
         return answer::fail(34);
     }
-    let from = reader_head::wide(v.first);
-    let sum = points_of(s, d, from, from + reader_records::wide16(v.count));
-    if sum != reader_head::wide(v.points) {
+    let from = fields::wide(v.first);
+    let sum = points_of(s, d, from, from + fields::wide16(v.count));
+    if sum != fields::wide(v.points) {
         return answer::fail(33);
     }
     Checked::Fine
@@ -116,7 +117,7 @@ fn groups_of(s: &[u8], g: Directory, d: Directory) -> Checked
     requires { ⌜ Lies (now s) g 44 × Lies (now s) d 24 ⌝ }
     ensures { λ r. ⌜ checkedTold r ≡ each (groupCheckAt (now (s .entry)) g d) (g .count) 0 ⌝ }
 {
-    let n = reader_head::wide(g.count);
+    let n = fields::wide(g.count);
     let mut i = 0;
     while i < n {
         let v = group_no(s, g, i);

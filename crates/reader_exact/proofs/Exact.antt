@@ -9,17 +9,17 @@ use Rattle.plane.specs.declared.I32Point.{I32Point}
 use Rattle.plane.specs.Segment.{seg}
 use Rattle.plane.specs.Domain.{inDomain}
 use Rattle.answer.specs.Answers.{ok}
-use Rattle.tzb_core.specs.Ray.{pointOf}
 use Rattle.shapes.specs.Shapes.{zoneIn}
 use Rattle.shapes.specs.Layout.{zoneAt, Named, Covered, Domain}
 use Rattle.shapes.proofs.File.{float-file-exact, file-elsewhere}
-use Rattle.reader_opened.specs.declared.Opened.{Opened}
-use Rattle.reader_rings.specs.Zones.{zoneOf, containsAt}
+use Rattle.opened.specs.declared.Opened.{Opened}
+use Rattle.reader_zones.specs.Zones.{zoneOf, containsAt}
 use Rattle.reader_exact.specs.Directories.{directories}
 use Rattle.reader_exact.specs.Sound.{Sound}
 use Rattle.reader_exact.proofs.Given.{zone-ruled, poly-ruled, ring-ruled, op-named, group-ruled, entry-in, exit-in}
 use Rattle.reader_exact.proofs.Chunks.{holds, chunk-in}
 use Rattle.reader_exact.proofs.Zones.{zone-walk}
+use Rattle.plane.specs.Places.{pointOf}
 
 module _ (o : Opened) (s : List ℕ) (k : Sound o s) where
   -- what each record names is there

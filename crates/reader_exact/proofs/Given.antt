@@ -7,14 +7,16 @@ use mathlib.Core.List.{List}
 use borrow.Author.Tests.{ltb-true}
 use Rattle.basics.specs.Truth.{and-l, and-r}
 use Rattle.plane.specs.Domain.{inDomain}
-use Rattle.answer.specs.Answers.{Answer, ok, refused, need, zero-one, then-inv, need-inv, ok-inv}
+use Rattle.answer.specs.Answers.{Answer, ok, refused, need, valueOr, Given}
 use Rattle.fields.specs.Le.{le}
 use Rattle.boxes.specs.Box.{boxInDomain}
 use Rattle.shapes.specs.Layout.{Span, Names}
-use Rattle.reader_opened.specs.declared.Opened.{Opened}
-use Rattle.reader_records.specs.Records.{recordAt, ruled, within, listIn, listRule, listAt, zoneAt, polyAt, ringIn, ringRule, ringAt, opRule, opAt, groupIn, groupRule, groupAt, within-some, within-fits, group-ends}
-use Rattle.reader_exact.specs.Directories.{valueOr, noList, noRing, noGroup, listSpan, ringSpan, groupSpan, zoneRecord, polyRecord, ringRecord, opWord, opGroup, groupRecord}
-use Rattle.reader_exact.specs.Sound.{Given, Sound}
+use Rattle.opened.specs.declared.Opened.{Opened}
+use Rattle.reader_records.specs.Records.{recordAt, ruled, listIn, listRule, listAt, zoneAt, polyAt, ringIn, ringRule, ringAt, opRule, opAt, groupIn, groupRule, groupAt, fitsBelow}
+use Rattle.reader_exact.specs.Directories.{noList, noRing, noGroup, listSpan, ringSpan, groupSpan, zoneRecord, polyRecord, ringRecord, opWord, opGroup, groupRecord}
+use Rattle.reader_exact.specs.Sound.{Sound}
+use Rattle.answer.proofs.AnswersLaws.{zero-one, then-inv, need-inv, ok-inv}
+use Rattle.reader_records.proofs.RecordsLaws.{within-some, within-fits, group-ends}
 
 -- where an answer is given, nothing stands in
 given-value : {A : Type 0} (fixed : A) (x : Answer A) → Given x → ok (valueOr fixed x) ≡ x
@@ -37,11 +39,11 @@ pub record Ruled (t : Span) (below : ℕ) : Type 0 where
   pub box-in : boxInDomain (t .box) ≡ true
   pub names : Names t below
 
-is-ruled : (t : Span) (below : ℕ) → boxInDomain (t .box) && within (t .first) (t .count) below ≡ true → Ruled t below
+is-ruled : (t : Span) (below : ℕ) → boxInDomain (t .box) && fitsBelow (t .first) (t .count) below ≡ true → Ruled t below
 is-ruled t below h =
-    let w = and-r (boxInDomain (t .box)) (within (t .first) (t .count) below) h in
+    let w = and-r (boxInDomain (t .box)) (fitsBelow (t .first) (t .count) below) h in
     record {
-      box-in = and-l (boxInDomain (t .box)) (within (t .first) (t .count) below) h;
+      box-in = and-l (boxInDomain (t .box)) (fitsBelow (t .first) (t .count) below) h;
       names = record { some = within-some (t .first) (t .count) below w; fits = within-fits (t .first) (t .count) below w };
     }
 
@@ -100,7 +102,7 @@ module _ (o : Opened) (s : List ℕ) (k : Sound o s) (i : ℕ) where
     unfolding groupRule
     group-ruled =
         let g = groupRecord o s i in
-        is-ruled (groupSpan g) (o .chunks .count) (and-l (boxInDomain (g .bbox) && within (g .first) (g .count) (o .chunks .count)) (inDomain (g .entry) && inDomain (g .exit)) kept)
+        is-ruled (groupSpan g) (o .chunks .count) (and-l (boxInDomain (g .bbox) && fitsBelow (g .first) (g .count) (o .chunks .count)) (inDomain (g .entry) && inDomain (g .exit)) kept)
 
     pub entry-in : inDomain (groupRecord o s i .entry) ≡ true
     entry-in = and-l (inDomain (groupRecord o s i .entry)) (inDomain (groupRecord o s i .exit)) (group-ends (o .chunks .count) (groupRecord o s i) kept)

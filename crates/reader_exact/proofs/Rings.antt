@@ -15,26 +15,29 @@ use Rattle.plane.specs.Segment.{same}
 use Rattle.plane.specs.Lines.{link, onward, around, Stretch}
 use Rattle.plane.specs.Runs.{run}
 use Rattle.answer.specs.Answers.{ok}
-use Rattle.answer.specs.Walks.{Walk, _go_, done, verdict, add-none}
+use Rattle.answer.specs.Walks.{Walk, _go_, done, verdict}
 use Rattle.boxes.specs.Box.{contains}
 use Rattle.tzb_core.specs.Ray.{rayOf}
 use Rattle.tzb_core.specs.Scan.{past}
 use Rattle.shapes.specs.Walk.{floatTests, legWalk, ringWalk}
 use Rattle.shapes.specs.Layout.{legAt}
 use Rattle.shapes.specs.Layout as Layout
-use Rattle.reader_opened.specs.declared.Opened.{Opened}
+use Rattle.opened.specs.declared.Opened.{Opened}
 use Rattle.reader_records.specs.declared.GroupRecord.{GroupRecord}
 use Rattle.reader_records.specs.declared.RingRecord.{RingRecord}
 use Rattle.reader_records.specs.Records.{countRule}
 use Rattle.reader_groups.specs.Groups.{One}
 use Rattle.reader_rings.specs.declared.Turned.{Turned}
 use Rattle.reader_rings.specs.declared.Round.{Round}
-use Rattle.reader_rings.specs.Rings.{turnOf, turnedAt, jointOf, groupWalk, turnWalk, opStep, opsFrom, ringEnd, ringRest, ringOf, ringContains, turned-is, end-is}
-use Rattle.reader_exact.specs.Directories.{ringRecord, opWord, opGroup, opPoints, groupRecord, directories, total}
+use Rattle.reader_rings.specs.Rings.{turnOf, turnedAt, jointOf, groupWalk, turnWalk, opStep, opsFrom, ringEnd, ringRest, ringOf, ringContains}
+use Rattle.reader_exact.specs.Directories.{ringRecord, opWord, opGroup, opPoints, groupRecord, directories}
 use Rattle.reader_exact.specs.Sound.{Sound}
 use Rattle.reader_exact.proofs.Walks.{past-go, past-done, go-assoc, past-verdict}
 use Rattle.reader_exact.proofs.Given.{ring-is, ring-ruled, op-is, op-named, group-is}
 use Rattle.reader_exact.proofs.Groups.{group-walk}
+use Rattle.basics.specs.Total.{total}
+use Rattle.answer.proofs.WalksLaws.{add-none}
+use Rattle.reader_rings.proofs.RingsLaws.{turned-is, end-is}
 
 -- ---- a group as an op has it
 turn-is : (w : ℕ) (g : GroupRecord) → record { entry = cond (not (ltb w 0x8000_0000)) (g .exit) (g .entry); exit = cond (not (ltb w 0x8000_0000)) (g .entry) (g .exit); group = g } ≡ turnOf w g

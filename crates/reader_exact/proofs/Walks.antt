@@ -6,8 +6,9 @@ use Rattle.plane.specs.Sight.{Sight, On, Off}
 use Rattle.plane.specs.Tally as Tally
 use Rattle.plane.specs.Tally.{_⊕_, none, ⊕-idr}
 use Rattle.answer.specs.Answers.{ok}
-use Rattle.answer.specs.Walks.{Walk, broken, on, off, add, add-add, _go_, done, verdict}
+use Rattle.answer.specs.Walks.{Walk, broken, on, off, add, _go_, done, verdict}
 use Rattle.tzb_core.specs.Scan.{past}
+use Rattle.answer.proofs.WalksLaws.{add-add}
 
 -- what follows a tally is added to it
 pub past-go : {A B : Type 0} (t : Sight) (x : A) (f : A → Walk B) (u : Sight) (y : B) → f x ≡ past u y → (past t x go f) ≡ past (t ⊕ u) y

@@ -12,9 +12,9 @@ use Rattle.answer.specs.Answers.{Answer, ok, _then_}
 use Rattle.boxes.specs.Box.{contains}
 use Rattle.shapes.specs.Walk.{floatTests, ringWalk, polygonWalk, zoneWalk}
 use Rattle.shapes.specs.Layout.{ringAt, polygonAt, zoneAt}
-use Rattle.reader_opened.specs.declared.Opened.{Opened}
+use Rattle.opened.specs.declared.Opened.{Opened}
 use Rattle.reader_rings.specs.Rings.{ringContains}
-use Rattle.reader_rings.specs.Zones.{seek, polyOf, zoneOf}
+use Rattle.reader_zones.specs.Zones.{polyOf, zoneOf, firstSo}
 use Rattle.reader_exact.specs.Directories.{zoneRecord, polyRecord, directories}
 use Rattle.reader_exact.specs.Sound.{Sound}
 use Rattle.reader_exact.proofs.Given.{zone-is, zone-ruled, poly-is, poly-ruled}
@@ -22,12 +22,12 @@ use Rattle.reader_exact.proofs.Rings.{ring-walk}
 
 -- the first of n that is the sought one: whether some is
 seek-some : {A : Type 0} (f : ℕ → Answer Bool) (P : A → Bool) (g : ℕ → A) (found other : Bool) (n i : ℕ) → ((j : ℕ) → i ≤ j → j < i + n → f j ≡ ok (P (g j)))
-    → seek f found other n i ≡ ok (cond (some P (run g n i)) found other)
-unfolding seek run
+    → firstSo f found other n i ≡ ok (cond (some P (run g n i)) found other)
+unfolding firstSo run
 seek-some f P g found other zero i h = refl
 seek-some f P g found other (suc n) i h = rw (h i (omega arith) (omega arith)) (either (P (g i)) (seek-some f P g found other n (i + 1) (λ j l m. h j (omega arith) (omega arith))))
   where
-    either : (b : Bool) → seek f found other n (i + 1) ≡ ok (cond (some P (run g n (i + 1))) found other) → cond b (ok found) (seek f found other n (i + 1)) ≡ ok (cond (b || some P (run g n (i + 1))) found other)
+    either : (b : Bool) → firstSo f found other n (i + 1) ≡ ok (cond (some P (run g n (i + 1))) found other) → cond b (ok found) (firstSo f found other n (i + 1)) ≡ ok (cond (b || some P (run g n (i + 1))) found other)
     either true e = refl
     either false e = e
 
@@ -41,7 +41,7 @@ module _ (o : Opened) (s : List ℕ) (k : Sound o s) (p : Point) where
     inOuter : Bool
     inOuter = ringWalk (floatTests p) true (ringAt (directories o s) (polyRecord o s i .first))
 
-    rings-walk : (ringContains o s p true (polyRecord o s i .first) then λ b. cond b (seek (ringContains o s p false) false true (polyRecord o s i .count - 1) (polyRecord o s i .first + 1)) (ok false)) ≡ ok (inOuter && not inHole)
+    rings-walk : (ringContains o s p true (polyRecord o s i .first) then λ b. cond b (firstSo (ringContains o s p false) false true (polyRecord o s i .count - 1) (polyRecord o s i .first + 1)) (ok false)) ≡ ok (inOuter && not inHole)
     unfolding inOuter
     rings-walk =
         let n = poly-ruled o s k i h .names in
@@ -60,7 +60,7 @@ module _ (o : Opened) (s : List ℕ) (k : Sound o s) (p : Point) where
     unfolding polyOf polygonWalk polygonAt directories inOuter
     poly-walk = rw (← poly-is o s k i h) (either (contains (polyRecord o s i .bbox) p))
       where
-        either : (b : Bool) → cond b (ringContains o s p true (polyRecord o s i .first) then λ b. cond b (seek (ringContains o s p false) false true (polyRecord o s i .count - 1) (polyRecord o s i .first + 1)) (ok false)) (ok false) ≡ ok (b && (inOuter && not inHole))
+        either : (b : Bool) → cond b (ringContains o s p true (polyRecord o s i .first) then λ b. cond b (firstSo (ringContains o s p false) false true (polyRecord o s i .count - 1) (polyRecord o s i .first + 1)) (ok false)) (ok false) ≡ ok (b && (inOuter && not inHole))
         either true = rings-walk
         either false = refl
 
@@ -76,12 +76,12 @@ module _ (o : Opened) (s : List ℕ) (k : Sound o s) (p : Point) where
       yes true = refl
       yes false = refl
 
-      polygons : seek (polyOf o s p) true false (zoneRecord o s i .count) (zoneRecord o s i .first) ≡ ok inSome
+      polygons : firstSo (polyOf o s p) true false (zoneRecord o s i .count) (zoneRecord o s i .first) ≡ ok inSome
       polygons =
           let n = zone-ruled o s k i h .names in
           seek-some (polyOf o s p) (polygonWalk (floatTests p)) (polygonAt (directories o s)) true false (zoneRecord o s i .count) (zoneRecord o s i .first) (λ j l m. poly-walk j (omega (arith, n .some, n .fits)))
           ∙ yes inSome
 
-      either : (b : Bool) → cond b (seek (polyOf o s p) true false (zoneRecord o s i .count) (zoneRecord o s i .first)) (ok false) ≡ ok (b && inSome)
+      either : (b : Bool) → cond b (firstSo (polyOf o s p) true false (zoneRecord o s i .count) (zoneRecord o s i .first)) (ok false) ≡ ok (b && inSome)
       either true = polygons
       either false = refl

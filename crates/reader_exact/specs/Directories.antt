@@ -1,27 +1,22 @@
 -- The directories that a file holds, as shapes has them: each record, and each chunk's points, as the reader answers them. Where it refuses, a fixed value stands in; of a sound file (specs/Sound) none is ever asked for.
 -- Assumes nothing.
-use Prim.Native.Nat.{ℕ, zero, suc, _+_, _%_}
+use Prim.Native.Nat.{ℕ, _%_}
 use mathlib.Core.List.{List, [], _∷_}
 use mathlib.Core.Bool.{not}
 use lib.Dec.{ltb}
 use lib.IntN.{pos}
 use Rattle.plane.specs.declared.I32Point.{I32Point}
 use Rattle.plane.specs.Lines.{origin}
-use Rattle.answer.specs.Answers.{Answer, ok, refused, _then_}
+use Rattle.answer.specs.Answers.{ok, _then_, valueOr}
 use Rattle.boxes.specs.declared.BBox.{BBox}
 use Rattle.shapes.specs.Shapes.{Chunk}
 use Rattle.shapes.specs.Layout.{Span, Directories}
-use Rattle.reader_opened.specs.declared.Opened.{Opened}
+use Rattle.opened.specs.declared.Opened.{Opened}
 use Rattle.reader_records.specs.declared.ListRecord.{ListRecord}
 use Rattle.reader_records.specs.declared.RingRecord.{RingRecord}
 use Rattle.reader_records.specs.declared.GroupRecord.{GroupRecord}
 use Rattle.reader_records.specs.Records.{zoneAt, polyAt, ringAt, opAt, groupAt, chunkAt}
 use Rattle.reader_chunks.specs.Chunks.{chunkPoints}
-
--- the answer's value, or the fixed one
-abbrev pub valueOr : {A : Type 0} → A → Answer A → A
-valueOr fixed (ok a) = a
-valueOr fixed (refused r) = fixed
 
 -- ---- what stands in
 pub nowhere : BBox
@@ -40,9 +35,9 @@ pub noChunk : Chunk
 noChunk = record { box = nowhere; first = origin; rest = [] }
 
 -- a chunk with its points
-abbrev pub chunkOf : BBox → List I32Point → Chunk
-chunkOf b [] = record { box = b; first = origin; rest = [] }
-chunkOf b (q ∷ l) = record { box = b; first = q; rest = l }
+abbrev pub shapeOf : BBox → List I32Point → Chunk
+shapeOf b [] = record { box = b; first = origin; rest = [] }
+shapeOf b (q ∷ l) = record { box = b; first = q; rest = l }
 
 -- what a record names: of a zone or a polygon, of a ring, of a group
 abbrev pub listSpan : ListRecord → Span
@@ -73,7 +68,7 @@ module _ (o : Opened) (s : List ℕ) where
   groupRecord i = valueOr noGroup (groupAt o s i)
 
   unfoldable pub chunkShape : ℕ → Chunk
-  chunkShape i = valueOr noChunk (chunkAt o s i then λ v. chunkPoints o s i then λ l. ok (chunkOf (v .bbox) l))
+  chunkShape i = valueOr noChunk (chunkAt o s i then λ v. chunkPoints o s i then λ l. ok (shapeOf (v .bbox) l))
 
   -- the group that an op names, and its point count
   abbrev pub opGroup : ℕ → ℕ
@@ -102,8 +97,3 @@ module _ (o : Opened) (s : List ℕ) where
         polygonSpan = λ i. listSpan (polyRecord i);
         zoneSpan = λ i. listSpan (zoneRecord i);
       }
-
--- ---- a number summed over the n places from i on
-unfoldable pub total : (ℕ → ℕ) → ℕ → ℕ → ℕ
-total f zero i = 0
-total f (suc n) i = f i + total f n (i + 1)

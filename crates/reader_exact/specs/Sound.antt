@@ -4,16 +4,12 @@ use Prim.Native.Nat.{ℕ, _<_}
 use mathlib.Core.Path.{_≡_}
 use mathlib.Core.Bool.{true}
 use mathlib.Core.List.{List}
-use Rattle.answer.specs.Answers.{Answer, ok}
-use Rattle.reader_opened.specs.declared.Opened.{Opened}
+use Rattle.answer.specs.Answers.{Given}
+use Rattle.opened.specs.declared.Opened.{Opened}
 use Rattle.reader_records.specs.Records.{zoneAt, polyAt, ringAt, opAt, groupAt, countRule}
 use Rattle.reader_chunks.specs.Chunks.{chunkPoints}
-use Rattle.reader_exact.specs.Directories.{ringRecord, opPoints, total}
-
--- the answer is no refusal
-pub record Given {A : Type 0} (x : Answer A) : Type 0 where
-  pub value : A
-  pub is : ok value ≡ x
+use Rattle.reader_exact.specs.Directories.{ringRecord, opPoints}
+use Rattle.basics.specs.Total.{total}
 
 pub record Sound (o : Opened) (s : List ℕ) : Type 0 where
   -- "Every zone, polygon and ring meets the record rule, every ring op names a group"

@@ -13,19 +13,22 @@ use lib.Ieee.{Float}
 use Rattle.fields.specs.Le.{le}
 use Rattle.fields.specs.Loads.{inside, loadAt}
 use Rattle.answer.specs.Checks.{same}
-use Rattle.answer.specs.Answers.{Answer, ok, need-met, fine}
-use Rattle.answer.specs.CheckLaws.{fine-one, fine-rest, fine-claim, at-le, le-at, below-lt, same-eq, eq-same}
-use Rattle.reader_table.specs.declared.Section.{Section}
-use Rattle.reader_opened.specs.declared.Grid.{Grid}
-use Rattle.reader_opened.specs.declared.Opened.{Opened}
-use Rattle.reader_opened.specs.Opened.{each-at, gridOf, Within}
+use Rattle.answer.specs.Answers.{Answer, ok, fine}
+use Rattle.answer.proofs.CheckLaws.{fine-one, fine-rest, fine-claim, at-le, le-at, below-lt, same-eq, eq-same, each-at}
+use Rattle.opened.specs.declared.Section.{Section}
+use Rattle.opened.specs.declared.Grid.{Grid}
+use Rattle.opened.specs.declared.Opened.{Opened}
+use Rattle.reader_opened.specs.Opened.{gridOf}
 use Rattle.reader_grid.specs.Word.{wordCount, wordOffset}
 use Rattle.reader_grid.specs.Grid.{cellCount, candidateCheck, cellCheck, gridCheck}
 use Rattle.reader_grid.specs.Floor.{floorOf}
-use Rattle.reader_grid.specs.Asked.{Chosen, none, all, listed, onEarth, inGrid, cellOf, cellCandidates, candidatesOf, candidatePlace, candidateAt}
+use Rattle.reader_grid.specs.Asked.{onEarth, inGrid, cellOf, cellCandidates, candidatesOf, candidatePlace, candidateAt}
 use Rattle.reader_grid.proofs.Numbers.{column-below, row-below}
 use Rattle.reader_grid.proofs.Checking.{ranged}
 use Rattle.reader_grid.proofs.Asking.{zone-in, place-read, cell-outside, cell-read, off-earth, no-grid, by-grid}
+use Rattle.opened.specs.Within.{Within}
+use Rattle.replies.specs.Replies.{Chosen, none, all, listed}
+use Rattle.answer.proofs.AnswersLaws.{need-met}
 
 -- a zone of the file stands at that place of the candidate list
 pub record ListedZone (o : Opened) (s : List ℕ) (place : ℕ) : Type 0 where

@@ -9,13 +9,15 @@ use lib.Ieee.{Float}
 use Rattle.fields.specs.Loads.{loadAt}
 use Rattle.answer.specs.declared.Refusal.{Refusal}
 use Rattle.answer.specs.Refusals.{refusal}
-use Rattle.answer.specs.Answers.{Answer, ok, refused, need-met, need-not, then-ok, then-no}
-use Rattle.answer.specs.CheckLaws.{lt-below, ge-below, eq-same, ne-same}
-use Rattle.reader_opened.specs.declared.Grid.{Grid}
-use Rattle.reader_opened.specs.declared.Opened.{Opened}
+use Rattle.answer.specs.Answers.{Answer, ok, refused}
+use Rattle.answer.proofs.CheckLaws.{lt-below, ge-below, eq-same, ne-same}
+use Rattle.opened.specs.declared.Grid.{Grid}
+use Rattle.opened.specs.declared.Opened.{Opened}
 use Rattle.reader_grid.specs.Word.{wordCount, wordOffset}
 use Rattle.reader_grid.specs.Floor.{floorOf}
-use Rattle.reader_grid.specs.Asked.{Chosen, none, all, listed, onEarth, inGrid, cellOf, read, cellCandidates, candidatesOf, candidatePlace, zoneBelow, candidateAt}
+use Rattle.reader_grid.specs.Asked.{onEarth, inGrid, cellOf, read, cellCandidates, candidatesOf, candidatePlace, zoneBelow, candidateAt}
+use Rattle.replies.specs.Replies.{Chosen, none, all, listed}
+use Rattle.answer.proofs.AnswersLaws.{need-met, need-not, then-ok, then-no}
 
 module _ (zones zone : ℕ) where
   pub zone-in : (r : ℕ) → r ≡ zone → r < zones → ok r ≡ zoneBelow zones zone

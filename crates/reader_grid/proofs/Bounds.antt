@@ -1,4 +1,4 @@
--- The four comparisons of a position: they pass exactly where both numbers are finite and within ±180, ±90, and then both have a floor.
+-- The four comparisons of a position: they pass exactly where both numbers are finite and inRange ±180, ±90, and then both have a floor.
 -- Assumes nothing.
 use Prim.Native.Nat.{ℕ, _*_, _≤_, _^_}
 use native.Mathlib.Omega.{arith}
@@ -11,7 +11,7 @@ use lib.IntN.{ℤ, pos}
 use lib.Ieee.{Float, nan, inf, fin, binary64, up, down, lt, eq, le, ofInt, ofBits, neg}
 use lib.Ieee.Scale.{finite}
 use Rattle.basics.specs.Truth.{and-l, and-r}
-use Rattle.reader_grid.specs.Asked.{within, onEarth}
+use Rattle.reader_grid.specs.Asked.{onEarth, inRange}
 use Rattle.reader_grid.specs.Floor.{Small}
 
 -- a number between two finite ones is finite
@@ -23,11 +23,11 @@ between-finite s t m n e d (inf true) = refl
 between-finite s t m n e d (inf false) = refl
 between-finite s t m n e d (fin r k i) = refl
 
-pub within-180 : (x : Float) → (le (neg (ofBits binary64 4640537203540230144)) x && le x (ofBits binary64 4640537203540230144)) ≡ within 180 x
+pub within-180 : (x : Float) → (le (neg (ofBits binary64 4640537203540230144)) x && le x (ofBits binary64 4640537203540230144)) ≡ inRange 180 x
 unfolding neg ofBits ofInt
 within-180 x = between-finite true false 45 45 (pos 2) (pos 2) x
 
-pub within-90 : (x : Float) → (le (neg (ofBits binary64 4636033603912859648)) x && le x (ofBits binary64 4636033603912859648)) ≡ within 90 x
+pub within-90 : (x : Float) → (le (neg (ofBits binary64 4636033603912859648)) x && le x (ofBits binary64 4636033603912859648)) ≡ inRange 90 x
 unfolding neg ofBits ofInt
 within-90 x = between-finite true false 45 45 (pos 1) (pos 1) x
 
@@ -68,8 +68,8 @@ bounded k j (fin true m e) l h =
 module _ (lng lat : Float) (h : onEarth lng lat ≡ true) where
   pub lng-small : Small lng
   unfolding onEarth ofInt
-  lng-small = bounded 45 2 lng (omega arith) (and-l (within 180 lng) (within 90 lat) h)
+  lng-small = bounded 45 2 lng (omega arith) (and-l (inRange 180 lng) (inRange 90 lat) h)
 
   pub lat-small : Small lat
   unfolding onEarth ofInt
-  lat-small = bounded 45 1 lat (omega arith) (and-r (within 180 lng) (within 90 lat) h)
+  lat-small = bounded 45 1 lat (omega arith) (and-r (inRange 180 lng) (inRange 90 lat) h)

@@ -8,7 +8,7 @@ use mathlib.Core.List.{List, [], _∷_}
 use lib.Dec.{leb}
 use Rattle.answer.specs.Answers.{Check, fine}
 use Rattle.answer.specs.Checks.{claim, first, each, atMost}
-use Rattle.answer.specs.CheckLaws.{fine-claim, at-le, none-left}
+use Rattle.answer.proofs.CheckLaws.{fine-claim, at-le, none-left}
 use Rattle.reader_grid.specs.Word.{wordCount, wordOffset, rangeCheck}
 use Rattle.reader_grid.specs.Grid.{cellCheck}
 

@@ -3,18 +3,18 @@
 use Prim.Native.Nat.{ℕ, zero, suc, _+_, _-_, _≤_, _<_, _^_}
 use native.Mathlib.Omega.{arith}
 use mathlib.Core.Path.{_≡_, refl}
-use mathlib.Core.Bool.{Bool, true, false, cond, false≢true}
+use mathlib.Core.Bool.{true, false, false≢true}
 use borrow.Author.Tests.{ltb-true}
 use lib.Dec.{T, ltb}
-use lib.IntN.{ℤ, pos, negsuc, negℤ, natAbs, subℕ, _+ℤ_, _-ℤ_}
-use lib.Signed.{mag, leZ, ltZ, nonNeg, natAbs-le}
+use lib.IntN.{ℤ, pos, negsuc, negℤ, natAbs, _+ℤ_, _-ℤ_}
+use lib.Signed.{leZ, ltZ, nonNeg, natAbs-le}
 use mir.Syntax.{Width, w16, w32, w64}
 use mir.Val.{SFits, toZ, ofZ, hbits}
 use mir.ValLaws.{toZ-ofZ, toZ-pos}
 use Rattle.basics.specs.Truth.{and-l, and-r}
 use Rattle.basics.specs.Signed.{sum-abs, mag-le}
 use Rattle.reader_grid.specs.Grid.{lastOf}
-use Rattle.reader_opened.specs.declared.Grid.{Grid}
+use Rattle.opened.specs.declared.Grid.{Grid}
 use Rattle.reader_grid.specs.Asked.{inSpan, inGrid}
 
 neg-abs : (x : ℤ) → natAbs (negℤ x) ≡ natAbs x

@@ -9,41 +9,21 @@ use lib.Signed.{leZ, ltZ}
 use lib.Ieee.{Float, binary64, ofInt, le}
 use lib.Ieee.Scale.{finite}
 use Rattle.fields.specs.Loads.{loadAt}
-use Rattle.answer.specs.Answers.{Answer, ok, refused, need, _then_}
+use Rattle.answer.specs.Answers.{Answer, ok, need, _then_}
 use Rattle.answer.specs.Checks.{below, same}
-use Rattle.reader_opened.specs.declared.Grid.{Grid}
-use Rattle.reader_opened.specs.declared.Opened.{Opened}
+use Rattle.opened.specs.declared.Grid.{Grid}
+use Rattle.opened.specs.declared.Opened.{Opened}
 use Rattle.reader_grid.specs.Word.{wordCount, wordOffset}
 use Rattle.reader_grid.specs.Grid.{cellCount}
 use Rattle.reader_grid.specs.Floor.{floorOf}
-use Rattle.reader_grid.specs.declared.Choice.{Choice}
-use Rattle.reader_grid.specs.declared.Choice.the-variants as C
-use Rattle.reader_grid.specs.declared.Candidate.{Candidate}
-use Rattle.reader_grid.specs.declared.Candidate.the-variants as Z
-
--- no candidate; all of that many zones; that many entries of the candidate list, from that place on (a word's count may be 0: then nothing is listed)
-pub data Chosen : Type 0 where
-  none : Chosen
-  all : ℕ → Chosen
-  listed : ℕ → ℕ → Chosen
-
--- what the enums of the code say
-abbrev pub told : Choice → Answer Chosen
-told C.None = ok none
-told (C.All zones) = ok (all zones)
-told (C.Listed count place) = ok (listed count place)
-told (C.Refused k) = refused k
-
-abbrev pub toldZone : Candidate → Answer ℕ
-toldZone (Z.Zone zone) = ok zone
-toldZone (Z.Refused k) = refused k
+use Rattle.replies.specs.Replies.{Chosen, none, all, listed}
 
 -- A longitude or latitude not finite or outside ±180, ±90
-abbrev pub within : ℕ → Float → Bool
-within bound x = finite x && (le (ofInt binary64 (negℤ (pos bound))) x && le x (ofInt binary64 (pos bound)))
+abbrev pub inRange : ℕ → Float → Bool
+inRange bound x = finite x && (le (ofInt binary64 (negℤ (pos bound))) x && le x (ofInt binary64 (pos bound)))
 
 unfoldable pub onEarth : Float → Float → Bool
-onEarth lng lat = within 180 lng && within 90 lat
+onEarth lng lat = inRange 180 lng && inRange 90 lat
 
 -- a column or row that the grid has
 abbrev pub inSpan : ℤ → ℕ → Bool

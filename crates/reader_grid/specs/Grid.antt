@@ -9,8 +9,8 @@ use lib.Signed.{leZ}
 use Rattle.fields.specs.Le.{le}
 use Rattle.answer.specs.Answers.{Check}
 use Rattle.answer.specs.Checks.{claim, first, each, atMost, below, same}
-use Rattle.reader_table.specs.declared.Section.{Section}
-use Rattle.reader_opened.specs.declared.Grid.{Grid}
+use Rattle.opened.specs.declared.Section.{Section}
+use Rattle.opened.specs.declared.Grid.{Grid}
 use Rattle.reader_grid.specs.Word.{wordCount, wordOffset, rangeCheck}
 
 -- first + count - 1

@@ -7,34 +7,20 @@ ghost use lib.Signed.{leZ};
 ghost use lib.ListN.{length};
 ghost use Rattle.answer.specs.Answers.{checkedTold};
 ghost use Rattle.answer.specs.Checks.{each};
-ghost use Rattle.reader_opened.specs.Opened.{Within};
 ghost use Rattle.reader_grid.specs.Word.{wordCount, wordOffset, rangeCheck};
-ghost use Rattle.reader_grid.specs.Grid.{lastOf, dimensions, cellCount, candidateCheck, cellCheck, gridCheck};
+ghost use Rattle.reader_grid.specs.Grid.{lastOf, dimensions, candidateCheck, cellCheck, gridCheck};
 ghost use Rattle.reader_grid.specs.Floor.{floorOf, Small};
-ghost use Rattle.reader_grid.specs.Asked.{told, toldZone, onEarth, inSpan, inGrid, cellOf, cellCandidates, candidatesOf, candidatePlace, zoneBelow, candidateAt};
+ghost use Rattle.reader_grid.specs.Asked.{onEarth, inSpan, inGrid, cellOf, cellCandidates, candidatesOf, candidatePlace, zoneBelow, candidateAt};
+ghost use Rattle.opened.specs.Within.{Within};
+ghost use Rattle.replies.specs.Replies.{choiceTold, candidateTold};
 use answer::Checked;
-use answer::Refusal;
 use fields::Loaded16;
 use fields::Loaded32;
-use reader_opened::Grid;
-use reader_opened::Opened;
-use reader_table::Section;
-
-// The zones that a question looks at.
-pub enum Choice {
-    None,
-    // All zones, in order: how many there are.
-    All(u32),
-    // The candidates of a cell: how many, and the place of the first.
-    Listed(u32, u32),
-    Refused(Refusal),
-}
-
-// The zone at a place of the candidate list.
-pub enum Candidate {
-    Zone(u32),
-    Refused(Refusal),
-}
+use opened::Grid;
+use opened::Opened;
+use opened::Section;
+use replies::Candidate;
+use replies::Choice;
 
 // ---- opening
 
@@ -60,7 +46,7 @@ fn zone_listed(s: &[u8], at: usize, zones: usize, j: usize) -> Checked
     requires { ⌜ (at + 2 * j + 2 ≤ length (now s)) × (length (now s) < 0x1_0000_0000) ⌝ }
     ensures { λ r. ⌜ checkedTold r ≡ candidateCheck (now (s .entry)) at zones j ⌝ }
 {
-    answer::claim(31, reader_head::half(s, at + 2 * j) < zones)
+    answer::claim(31, fields::half(s, at + 2 * j) < zones)
 }
 
 // 31, of n candidates from `at` on.
@@ -104,7 +90,7 @@ fn cell(s: &[u8], at: usize, cands: usize, total: usize, zones: usize, i: usize)
     requires { ⌜ (at + 4 * i + 4 ≤ length (now s)) × (cands + 2 * total ≤ length (now s)) × (length (now s) < 0x1_0000_0000) ⌝ }
     ensures { λ r. ⌜ checkedTold r ≡ cellCheck (now (s .entry)) at cands total zones i ⌝ }
 {
-    let w = reader_head::word(s, at + 4 * i);
+    let w = fields::word(s, at + 4 * i);
     let a = range(w, total);
     if let Checked::Refused(k) = a {
         return Checked::Refused(k);
@@ -140,7 +126,7 @@ pub fn grid(s: &[u8], sec: Section, g: Grid, zones: usize) -> Checked
     requires { ⌜ Within (now s) sec × (length (now s) < 0x1_0000_0000) ⌝ }
     ensures { λ r. ⌜ checkedTold r ≡ gridCheck (now (s .entry)) sec g zones ⌝ }
 {
-    let len = reader_head::wide(sec.len);
+    let len = fields::wide(sec.len);
     if len < 12 {
         return answer::fail(27);
     }
@@ -148,11 +134,11 @@ pub fn grid(s: &[u8], sec: Section, g: Grid, zones: usize) -> Checked
         return answer::fail(28);
     }
     let n = area(g.cols, g.rows);
-    let total = reader_head::wide(g.total);
+    let total = fields::wide(g.total);
     if 12 + 4 * n + 2 * total != len {
         return answer::fail(29);
     }
-    let at = reader_head::wide(sec.off);
+    let at = fields::wide(sec.off);
     cells(s, at + 12, n, total, zones)
 }
 
@@ -216,12 +202,12 @@ fn cell_place(g: Grid, column: i64, row: i64) -> usize
     ensures { λ r. ⌜ r ≡ g .off + 12 + 4 * cellOf g column row ⌝ }
 {
     let cell = natural(row) * wide16(g.cols) + natural(column);
-    reader_head::wide(g.off) + 12 + 4 * cell
+    fields::wide(g.off) + 12 + 4 * cell
 }
 
 // The candidates of a cell.
 fn cell_candidates(s: &[u8], g: Grid, column: i64, row: i64) -> Choice
-    ensures { λ r. ⌜ told r ≡ cellCandidates (now (s .entry)) g column row ⌝ }
+    ensures { λ r. ⌜ choiceTold r ≡ cellCandidates (now (s .entry)) g column row ⌝ }
 {
     if !in_grid(g, column, row) {
         return Choice::None;
@@ -235,7 +221,7 @@ fn cell_candidates(s: &[u8], g: Grid, column: i64, row: i64) -> Choice
 
 // The candidates for a position.
 pub fn candidates(o: Opened, s: &[u8], lng: f64, lat: f64) -> Choice
-    ensures { λ r. ⌜ told r ≡ candidatesOf o (now (s .entry)) lng lat ⌝ }
+    ensures { λ r. ⌜ choiceTold r ≡ candidatesOf o (now (s .entry)) lng lat ⌝ }
 {
     if !on_earth(lng, lat) {
         return Choice::None;
@@ -255,7 +241,7 @@ fn candidate_place(g: Grid, place: u32) -> usize
     ensures { λ r. ⌜ r ≡ candidatePlace g place ⌝ }
 {
     let cells = area(g.cols, g.rows);
-    reader_head::wide(g.off) + 12 + 4 * cells + 2 * reader_head::wide(place)
+    fields::wide(g.off) + 12 + 4 * cells + 2 * fields::wide(place)
 }
 
 fn number(x: u16) -> u32
@@ -266,7 +252,7 @@ fn number(x: u16) -> u32
 
 // 31.
 fn zone_below(zones: u32, x: u16) -> Candidate
-    ensures { λ r. ⌜ toldZone r ≡ zoneBelow zones x ⌝ }
+    ensures { λ r. ⌜ candidateTold r ≡ zoneBelow zones x ⌝ }
 {
     let zone = number(x);
     if zone < zones {
@@ -278,7 +264,7 @@ fn zone_below(zones: u32, x: u16) -> Candidate
 
 // The zone at a place of the candidate list.
 pub fn candidate_at(o: Opened, s: &[u8], place: u32) -> Candidate
-    ensures { λ r. ⌜ toldZone r ≡ candidateAt o (now (s .entry)) place ⌝ }
+    ensures { λ r. ⌜ candidateTold r ≡ candidateAt o (now (s .entry)) place ⌝ }
 {
     let g = o.grid;
     if g.total <= place {

@@ -5,8 +5,8 @@ use mathlib.Core.Path.{_≡_, refl, sym, ap, _∙_}
 use mathlib.Core.Bool.{Bool}
 use mathlib.Core.List.{List}
 use Rattle.plane.specs.declared.I32Point.{I32Point}
-use Rattle.answer.specs.Answers.{Answer, ok, then-ok, zero-one}
-use Rattle.reader_opened.specs.declared.Opened.{Opened}
+use Rattle.answer.specs.Answers.{Answer, ok}
+use Rattle.opened.specs.declared.Opened.{Opened}
 use Rattle.reader_records.specs.declared.ChunkRecord.{ChunkRecord}
 use Rattle.reader_records.specs.Records.{chunkAt}
 use Rattle.reader_chunks.specs.Chunks.{startOf, endOf, firstIn}
@@ -19,6 +19,7 @@ use Rattle.reader_groups.specs.declared.Joined.{Joined}
 use Rattle.reader_groups.specs.declared.Joined.the-variants as J
 use Rattle.reader_groups.specs.declared.Pass.{Pass}
 use Rattle.reader_groups.specs.declared.Pass.the-variants as P
+use Rattle.answer.proofs.AnswersLaws.{then-ok, zero-one}
 
 -- of an equal answer
 pub kept-at : (k : Known) (x y : Answer I32Point) → x ≡ y → Kept k y → Kept k x

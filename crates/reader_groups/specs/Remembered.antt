@@ -5,7 +5,7 @@ use mathlib.Core.Path.{_≡_}
 use mathlib.Core.List.{List}
 use Rattle.plane.specs.declared.I32Point.{I32Point}
 use Rattle.answer.specs.Answers.{Answer, ok, _then_}
-use Rattle.reader_opened.specs.declared.Opened.{Opened}
+use Rattle.opened.specs.declared.Opened.{Opened}
 use Rattle.reader_records.specs.declared.ChunkRecord.{ChunkRecord}
 use Rattle.reader_chunks.specs.Chunks.{startOf, endOf, firstIn}
 use Rattle.reader_groups.specs.Groups.{One}

@@ -6,15 +6,15 @@ ghost use Rattle.answer.specs.Walks.{add};
 ghost use Rattle.tzb_core.specs.Ray.{rayOf};
 ghost use Rattle.tzb_core.specs.Scan.{past, scanned};
 ghost use Rattle.reader_chunks.specs.Chunks.{toldPoint, startOf, firstIn, scanIn};
-ghost use Rattle.reader_groups.specs.Groups.{went, joined, passed, nextFirst, skipTo, scanTo, joinedTo, passAt, lastIn, lastAt, chunksFrom, groupOf};
+ghost use Rattle.reader_groups.specs.Groups.{went, joined, passed, nextFirst, skipTo, scanTo, joinedTo, passAt, lastIn, lastAt, chunksFrom, groupWalk};
 ghost use Rattle.reader_groups.specs.Remembered.{ownFirst, Kept, Leaves, Hands};
 use answer::Refusal;
+use opened::Opened;
 use plane::I32Point;
 use plane::Point;
 use plane::Seen;
 use reader_chunks::Offset;
 use reader_chunks::PointAt;
-use reader_opened::Opened;
 use reader_records::ChunkAt;
 use reader_records::ChunkRecord;
 use reader_records::GroupRecord;
@@ -296,9 +296,9 @@ fn scan_chunks(
 
 // Past all chunks of a group.
 pub fn scan_group(o: Opened, s: &[u8], p: Point, g: GroupRecord) -> Went
-    ensures { λ r. ⌜ went r ≡ groupOf o (now (s .entry)) p g ⌝ }
+    ensures { λ r. ⌜ went r ≡ groupWalk o (now (s .entry)) p g ⌝ }
 {
-    let from = reader_head::wide(g.first);
+    let from = fields::wide(g.first);
     let t = reader_records::chunk_at(o, s, from);
     match t {
         ChunkAt::Refused(k) => Went::Refused(k),

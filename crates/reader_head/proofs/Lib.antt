@@ -1,2 +1,4 @@
 -- What follows from the promises.
+pub mod MagicLaws
+pub mod HeadLaws
 pub mod Determined

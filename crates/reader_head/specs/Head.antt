@@ -1,19 +1,15 @@
 -- Document 01, "Opening, in this order", 1 to 11.
 -- Assumes nothing.
-use Prim.Native.Nat.{ℕ, _+_, _-_, _*_, _≤_, _<_}
-use mathlib.Core.Bool.{Bool, true, false, _&&_, _||_, not, true≢false}
+use Prim.Native.Nat.{ℕ, _+_, _-_, _*_, _≤_}
+use mathlib.Core.Bool.{Bool, _&&_, _||_, not}
 use lib.Dec.{ltb, leb, eqb}
-use borrow.Author.Tests.{ltb-false, not-true}
 use mathlib.Core.List.{List, [], _∷_}
 use lib.ListN.{length, getD, take}
 use Rattle.fields.specs.Part.{part}
 use Rattle.fields.specs.Le.{le}
 use Rattle.utf8.specs.Rfc3629.{utf8}
 use Rattle.crc.specs.Crc32.{crc32}
-use Rattle.answer.specs.Answers.{Check, fine}
-use Rattle.answer.specs.CheckLaws.{fine-one, fine-rest, fine-claim, at-le}
-use mathlib.Core.Path.{_≡_, refl}
-use native.Mathlib.Omega.{arith}
+use Rattle.answer.specs.Answers.{Check}
 use Rattle.answer.specs.Checks.{claim, deny, first, seek, atMost, same}
 use Rattle.reader_head.specs.Magic.{startsWith, tzfb}
 
@@ -69,38 +65,10 @@ boundsCheck s =
 unfoldable pub headCheck : List ℕ → Check
 headCheck s = first (startCheck s ∷ fieldsCheck s ∷ versionCheck s ∷ boundsCheck s ∷ [])
 
--- ---- laws: what is known of a file whose head is fine
-pub size-in : (n : ℕ) → (ltb n 68 || ltb 4_294_967_295 n) ≡ false → (68 ≤ n) × (n ≤ 4_294_967_295)
-size-in n e = go (ltb n 68) (ltb 4_294_967_295 n) refl refl e
-  where
-    go : (a b : Bool) → ltb n 68 ≡ a → ltb 4_294_967_295 n ≡ b → (a || b) ≡ false → (68 ≤ n) × (n ≤ 4_294_967_295)
-    go true b x y h = absurd (true≢false h)
-    go false true x y h = absurd (true≢false h)
-    go false false x y h = (ltb-false _ _ x, ltb-false _ _ y)
-
-sized : (s : List ℕ) → deny 1 (ltb (length s) 68 || ltb 4_294_967_295 (length s)) ≡ fine → (68 ≤ length s) × (length s ≤ 4_294_967_295)
-unfolding deny
-sized s e = size-in (length s) (not-true _ (fine-claim _ _ e))
-
 pub record Long (s : List ℕ) : Type 0 where
   pub long : 68 ≤ length s
-
-pub started : (s : List ℕ) → startCheck s ≡ fine → Long s
-unfolding startCheck
-started s e = record { long = sized s (fine-one _ _ e) .0 }
 
 pub record Headed (s : List ℕ) : Type 0 where
   pub long : 68 ≤ length s
   pub short : length s ≤ 4_294_967_295
   pub table : 64 + 16 * le 4 s 20 ≤ length s - 4
-
-pub headed : (s : List ℕ) → headCheck s ≡ fine → Headed s
-unfolding headCheck startCheck boundsCheck
-headed s e =
-    let a = fine-one _ _ e in
-    let z = fine-one _ _ (fine-rest _ _ (fine-rest _ _ (fine-rest _ _ e))) in
-    record {
-      long = sized s (fine-one _ _ a) .0;
-      short = sized s (fine-one _ _ a) .1;
-      table = at-le _ _ (fine-claim _ _ (fine-one _ _ z));
-    }

@@ -1,36 +1,12 @@
 // Opening, 1 to 11: the header, the table's bounds, the checksum.
 ghost use mathlib.Core.Path.{_≡_};
-ghost use mathlib.Core.Bool.{_&&_};
 ghost use Prim.Native.Nat.{_+_, _-_, _*_, _≤_, _<_};
 ghost use lib.ListN.{length};
-ghost use lib.Dec.{leb};
 ghost use Rattle.answer.specs.Answers.{checkedTold};
 ghost use Rattle.answer.specs.Checks.{seek};
-ghost use Rattle.fields.specs.Le.{le};
 ghost use Rattle.reader_head.specs.Magic.{startsWith};
 ghost use Rattle.reader_head.specs.Head.{startCheck, isCount, fieldsCheck, versionCheck, boundsCheck, headCheck, Long, isZero, notZero};
 use answer::Checked;
-
-pub fn wide(x: u32) -> usize
-    ensures { λ r. ⌜ (r ≡ x) × (r < 0x1_0000_0000) ⌝ }
-{
-    x as usize
-}
-
-// A number of two, and of four bytes.
-pub fn half(s: &[u8], at: usize) -> usize
-    requires { ⌜ at + 2 ≤ length (now s) ⌝ }
-    ensures { λ r. ⌜ r ≡ le 2 (now (s .entry)) at ⌝ }
-{
-    fields::u16_at(s, at) as usize
-}
-
-pub fn word(s: &[u8], at: usize) -> usize
-    requires { ⌜ at + 4 ≤ length (now s) ⌝ }
-    ensures { λ r. ⌜ (r ≡ le 4 (now (s .entry)) at) × (r < 0x1_0000_0000) ⌝ }
-{
-    wide(fields::u32_at(s, at))
-}
 
 fn starts_with(s: &[u8], t: &[u8]) -> bool
     ensures { λ r. ⌜ r ≡ startsWith (now (s .entry)) (now (t .entry)) ⌝ }
@@ -81,13 +57,15 @@ fn fields(s: &[u8]) -> Checked
     ensures { λ r. ⌜ checkedTold r ≡ fieldsCheck (now (s .entry)) ⌝ }
 {
     let size = s.len();
-    if (half(s, 6) != 64) | ((word(s, 12) != 100_000) | (word(s, 16) != size)) {
+    if (fields::half(s, 6) != 64)
+        | ((fields::word(s, 12) != 100_000) | (fields::word(s, 16) != size))
+    {
         return answer::fail(5);
     }
-    if !is_count(word(s, 40)) {
+    if !is_count(fields::word(s, 40)) {
         return answer::fail(6);
     }
-    answer::claim(7, is_count(word(s, 44)))
+    answer::claim(7, is_count(fields::word(s, 44)))
 }
 
 // The first of the places from `from` on, and before `to`, at which a zero stands.
@@ -141,7 +119,7 @@ fn bounds(s: &[u8]) -> Checked
     ensures { λ r. ⌜ checkedTold r ≡ boundsCheck (now (s .entry)) ⌝ }
 {
     let end = s.len() - 4;
-    if end < 64 + 16 * word(s, 20) {
+    if end < 64 + 16 * fields::word(s, 20) {
         return answer::fail(10);
     }
     if crc::crc32_ieee(&s[..end]) != fields::u32_at(s, end) {

@@ -8,13 +8,13 @@ use mathlib.Core.List.{List, _∷_}
 use lib.ListN.{length, set, length-set}
 use lib.Seq.{sets}
 use Rattle.answer.specs.declared.Refusal.{Refusal}
-use Rattle.answer.specs.Answers.{Answer, ok, refused, _then_, _before_, Check, fine}
+use Rattle.answer.specs.Answers.{Answer, ok, refused, _then_, _before_, Check, fine, outcome}
 use Rattle.answer.specs.Checks.{andThen}
-use Rattle.tzb_core.specs.Decode.{outcome}
-use Rattle.reader_opened.specs.declared.Opened.{Opened}
+use Rattle.opened.specs.declared.Opened.{Opened}
 use Rattle.reader_names.specs.Asked.{nameAt}
-use Rattle.reader_lookup.specs.Asking.{Sought, nowhere, inZone, also, allHits, namesRead}
+use Rattle.reader_lookup.specs.Asking.{also, allHits, namesRead}
 use Rattle.reader_lookup.specs.Gather.{seen, seenOn, tally}
+use Rattle.replies.specs.Replies.{Sought, nowhere, inZone}
 
 and-then-assoc : (a b c : Check) → andThen (andThen a b) c ≡ andThen a (andThen b c)
 unfolding andThen

@@ -1,4 +1,5 @@
 -- Laws of the two questions.
+pub mod AskingLaws
 pub mod Listed
 pub mod Named
 pub mod Gathered

@@ -8,14 +8,16 @@ use mathlib.Core.List.{List}
 use lib.ListN.{getD}
 use lib.IntN.{ℤ}
 use lib.Ieee.{Float}
-use Rattle.answer.specs.Answers.{Answer, ok, _then_, then-inv, need-inv, ok-inv, zero-one}
+use Rattle.answer.specs.Answers.{Answer, ok, _then_}
 use Rattle.answer.specs.Checks.{same}
 use Rattle.fields.specs.Le.{le}
 use Rattle.fields.specs.Loads.{loadAt, inside}
 use Rattle.fields.proofs.Join.{fits}
-use Rattle.reader_opened.specs.declared.Grid.{Grid}
-use Rattle.reader_opened.specs.declared.Opened.{Opened}
-use Rattle.reader_grid.specs.Asked.{Chosen, none, all, listed, onEarth, inGrid, read, cellCandidates, candidatesOf}
+use Rattle.opened.specs.declared.Grid.{Grid}
+use Rattle.opened.specs.declared.Opened.{Opened}
+use Rattle.reader_grid.specs.Asked.{onEarth, inGrid, read, cellCandidates, candidatesOf}
+use Rattle.replies.specs.Replies.{Chosen, none, all, listed}
+use Rattle.answer.proofs.AnswersLaws.{then-inv, need-inv, ok-inv, zero-one}
 
 module _ (n place : ℕ) where
   -- where another answer stands, it is not this one

@@ -7,15 +7,17 @@ use mathlib.Core.List.{List, [], _∷_}
 use lib.IntN.{pos, negℤ}
 use lib.Ieee.{Float, binary64, ofInt, lt}
 use lib.ListN.{length}
-use Rattle.answer.specs.Answers.{Answer, ok, _then_, then-inv, need-inv, ok-inv}
+use Rattle.answer.specs.Answers.{Answer, ok, _then_}
 use Rattle.answer.specs.Checks.{same, atMost}
-use Rattle.answer.specs.CheckLaws.{at-le}
-use Rattle.reader_opened.specs.declared.Opened.{Opened}
+use Rattle.answer.proofs.CheckLaws.{at-le}
+use Rattle.opened.specs.declared.Opened.{Opened}
 use Rattle.reader_names.specs.Asked.{nameOr}
 use Rattle.reader_order.specs.Order.{ordered, inOrder, called, times}
 use Rattle.reader_order.proofs.Sorted.{is-ordered, same-times, as-they-came}
-use Rattle.reader_lookup.specs.Asking.{Sought, nowhere, inZone, orElse, also, firstHit, allHits, strictly, unlooked, hitsOf, namesRead, placed, listFor, listOf}
+use Rattle.reader_lookup.specs.Asking.{orElse, also, firstHit, allHits, strictly, unlooked, hitsOf, namesRead, placed, listFor, listOf}
 use Rattle.reader_lookup.proofs.Placed.{before-inv}
+use Rattle.replies.specs.Replies.{Sought, nowhere, inZone}
+use Rattle.answer.proofs.AnswersLaws.{then-inv, need-inv, ok-inv}
 
 -- ---- the list
 module _ (o : Opened) (s : List ℕ) (lng lat : Float) (places : ℕ) (l : List ℕ) (h : ok l ≡ listOf o s lng lat places) where

@@ -4,10 +4,9 @@ use Prim.Native.Nat.{ℕ}
 use mathlib.Core.Path.{_≡_}
 use mathlib.Core.List.{List}
 use Rattle.answer.specs.declared.Refusal.{Refusal}
-use Rattle.answer.specs.Answers.{ok, refused, Check, fine}
+use Rattle.answer.specs.Answers.{ok, refused, Check, fine, outcome}
 use Rattle.answer.specs.Checks.{andThen}
-use Rattle.tzb_core.specs.Decode.{outcome}
-use Rattle.reader_opened.specs.declared.Opened.{Opened}
+use Rattle.opened.specs.declared.Opened.{Opened}
 use Rattle.reader_names.specs.Asked.{boundsAt, nameAt}
 
 module _ (o : Opened) (s : List ℕ) (zone : ℕ) where

@@ -7,15 +7,17 @@ use mathlib.Core.List.{List, _++_}
 use lib.ListN.{length, take, drop}
 use lib.Seq.{sets, sets-eq, length-sets, take-at, drop-at}
 use Rattle.answer.specs.declared.Refusal.{Refusal}
-use Rattle.answer.specs.Answers.{Answer, ok, refused, no, _then_, _before_, need-met, need-not, then-inv, ok-inv, zero-one, Check, fine}
+use Rattle.answer.specs.Answers.{Answer, ok, refused, no, _then_, _before_, Check, fine, howMany, left}
 use Rattle.answer.specs.Checks.{andThen}
-use Rattle.answer.specs.CheckLaws.{le-at, gt-at}
-use Rattle.reader_opened.specs.declared.Opened.{Opened}
+use Rattle.answer.proofs.CheckLaws.{le-at, gt-at}
+use Rattle.opened.specs.declared.Opened.{Opened}
 use Rattle.reader_names.specs.Asked.{nameOr}
 use Rattle.reader_order.specs.Order.{ordered}
 use Rattle.reader_order.proofs.Sorted.{same-length}
-use Rattle.reader_lookup.specs.Asking.{Sought, also, allHits, namesRead, placed, listFor, howMany, filled}
+use Rattle.reader_lookup.specs.Asking.{also, allHits, namesRead, placed, listFor}
 use Rattle.reader_lookup.specs.Gather.{seen, seenOn, tally, Kept}
+use Rattle.replies.specs.Replies.{Sought}
+use Rattle.answer.proofs.AnswersLaws.{need-met, need-not, then-inv, ok-inv, zero-one}
 
 -- what an answer after a check was made of
 pub before-inv : {A : Type 0} (c : Check) (x : Answer A) (a : A) → ok a ≡ (c before x) → (c ≡ fine) × (ok a ≡ x)
@@ -62,13 +64,13 @@ module _ (zones held : List ℕ) (k : ℕ) (h : Kept zones held k) (out : List �
       place-count = ap ok (h .count ∙ sym (same-length (nameOr o s) zones)) ∙ ap howMany place-done
 
       -- the zones in candidate order in front of what was there; then the first m in order
-      pub place-memory : (next : List ℕ) → next ≡ zones ++ drop m out → (front : List ℕ) → front ≡ ordered (nameOr o s) (take m next) → front ++ drop m next ≡ filled out (placed o s (length out) zones)
+      pub place-memory : (next : List ℕ) → next ≡ zones ++ drop m out → (front : List ℕ) → front ≡ ordered (nameOr o s) (take m next) → front ++ drop m next ≡ left out (placed o s (length out) zones)
       place-memory next w front f =
           let c : length zones ≡ m = sym (h .count) ∙ sym e in
           let name = nameOr o s in
           ap₂ (λ (a b : List ℕ). a ++ b) (f ∙ ap (ordered name) (ap (take m) w ∙ take-at zones (drop m out) m c)) (ap (drop m) w ∙ drop-at zones (drop m out) m c)
           ∙ ap (λ (j : ℕ). ordered name zones ++ drop j out) (sym c ∙ sym (same-length name zones))
-          ∙ ap (filled out) place-done
+          ∙ ap (left out) place-done
 
 -- ---- the list
 module _ (o : Opened) (s : List ℕ) (hit : ℕ → Answer Sought) (n from : ℕ) where

@@ -6,8 +6,9 @@ use mathlib.Core.List.{List, []}
 use lib.ListN.{length, take}
 use Rattle.answer.specs.Answers.{Answer, ok, refused, _then_, _before_, Check}
 use Rattle.answer.specs.Checks.{andThen}
-use Rattle.reader_opened.specs.declared.Opened.{Opened}
-use Rattle.reader_lookup.specs.Asking.{Sought, also, namesRead}
+use Rattle.opened.specs.declared.Opened.{Opened}
+use Rattle.reader_lookup.specs.Asking.{also, namesRead}
+use Rattle.replies.specs.Replies.{Sought}
 
 -- of n candidates from place i on, up to the first refusal
 abbrev pub seenOn : Answer Sought → List ℕ → List ℕ

@@ -4,34 +4,22 @@ ghost use mathlib.Core.List.{_++_};
 ghost use Prim.Native.Nat.{_+_, _<_, _≤_};
 ghost use lib.ListN.{length, take, drop, set};
 ghost use lib.Seq.{sets};
-ghost use Rattle.reader_lookup.specs.Asking.{found, counted, scaled, candidateOf, inZone, hitAt, firstHit, unlooked, lookupAmong, lookupOf, allHits, placed, listFor, listOf, howMany, filled};
+ghost use Rattle.reader_lookup.specs.Asking.{scaled, candidateOf, hitAt, firstHit, unlooked, lookupAmong, lookupOf, allHits, placed, listFor, listOf};
 ghost use Rattle.reader_lookup.specs.Gather.{seen, tally, Kept};
-ghost use Rattle.answer.specs.Answers.{ok, _then_, fine, checkedTold};
+ghost use Rattle.answer.specs.Answers.{ok, _then_, fine, checkedTold, howMany, left, outcome};
 ghost use Rattle.answer.specs.Checks.{andThen};
-ghost use Rattle.tzb_core.specs.Decode.{outcome};
 ghost use Rattle.reader_names.specs.Asked.{nameAt};
-ghost use Rattle.reader_grid.specs.Asked.{toldZone, listed, candidateAt};
+ghost use Rattle.reader_grid.specs.Asked.{candidateAt};
+ghost use Rattle.replies.specs.Replies.{foundTold, listingTold, inZone, candidateTold, listed};
 use answer::Checked;
-use answer::Refusal;
+use opened::Opened;
 use plane::Point;
-use reader_grid::Candidate;
-use reader_grid::Choice;
-use reader_names::Bounds;
-use reader_opened::Opened;
-use reader_rings::Verdict;
-
-// The zone that a position lies in.
-pub enum Found {
-    None,
-    Zone(u32),
-    Refused(Refusal),
-}
-
-// How many zones were listed.
-pub enum Listing {
-    Zones(u32),
-    Refused(Refusal),
-}
+use replies::Bounds;
+use replies::Candidate;
+use replies::Choice;
+use replies::Found;
+use replies::Listing;
+use replies::Verdict;
 
 // A position in hundred-thousandths of a degree.
 fn scaled_at(lng: f64, lat: f64) -> Point
@@ -54,7 +42,7 @@ fn is_unlooked(o: Opened, n: u32, lng: f64, lat: f64) -> bool
 
 // The candidate at a place.
 fn candidate(o: Opened, s: &[u8], grid: bool, place: u32) -> Candidate
-    ensures { λ r. ⌜ toldZone r ≡ candidateOf o (now (s .entry)) grid place ⌝ }
+    ensures { λ r. ⌜ candidateTold r ≡ candidateOf o (now (s .entry)) grid place ⌝ }
 {
     if grid {
         return reader_grid::candidate_at(o, s, place);
@@ -64,13 +52,13 @@ fn candidate(o: Opened, s: &[u8], grid: bool, place: u32) -> Candidate
 
 // The candidate at a place, where it contains the point.
 fn hit_at(o: Opened, s: &[u8], p: Point, grid: bool, place: u32) -> Found
-    ensures { λ r. ⌜ found r ≡ hitAt o (now (s .entry)) p grid place ⌝ }
+    ensures { λ r. ⌜ foundTold r ≡ hitAt o (now (s .entry)) p grid place ⌝ }
 {
     let c = candidate(o, s, grid, place);
     match c {
         Candidate::Refused(k) => Found::Refused(k),
         Candidate::Zone(zone) => {
-            let v = reader_rings::timezone_contains(o, s, p, reader_head::wide(zone));
+            let v = reader_zones::timezone_contains(o, s, p, fields::wide(zone));
             match v {
                 Verdict::Refused(k) => Found::Refused(k),
                 Verdict::Is(b) => { if b { Found::Zone(zone) } else { Found::None } }
@@ -82,7 +70,7 @@ fn hit_at(o: Opened, s: &[u8], p: Point, grid: bool, place: u32) -> Found
 // The first of n candidates from a place on that contains the point.
 fn first_in(o: Opened, s: &[u8], p: Point, grid: bool, n: u32, from: u32) -> Found
     requires { ⌜ from + n < 0x1_0000_0000 ⌝ }
-    ensures { λ r. ⌜ found r ≡ firstHit (hitAt o (now (s .entry)) p grid) n from ⌝ }
+    ensures { λ r. ⌜ foundTold r ≡ firstHit (hitAt o (now (s .entry)) p grid) n from ⌝ }
 {
     let mut place = from;
     let mut left = n;
@@ -105,7 +93,7 @@ fn first_in(o: Opened, s: &[u8], p: Point, grid: bool, n: u32, from: u32) -> Fou
 
 // One candidate unlooked-at.
 fn zone_listed(o: Opened, s: &[u8], place: u32) -> Found
-    ensures { λ r. ⌜ found r ≡ (candidateAt o (now (s .entry)) place then λ zone. ok (inZone zone)) ⌝ }
+    ensures { λ r. ⌜ foundTold r ≡ (candidateAt o (now (s .entry)) place then λ zone. ok (inZone zone)) ⌝ }
 {
     let c = reader_grid::candidate_at(o, s, place);
     match c {
@@ -117,7 +105,7 @@ fn zone_listed(o: Opened, s: &[u8], place: u32) -> Found
 // Among n listed candidates from a place on: unlooked-at, or the first that contains the point.
 fn lookup_listed(o: Opened, s: &[u8], lng: f64, lat: f64, n: u32, place: u32) -> Found
     requires { ⌜ place + n < 0x1_0000_0000 ⌝ }
-    ensures { λ r. ⌜ found r ≡ lookupAmong o (now (s .entry)) lng lat (listed n place) ⌝ }
+    ensures { λ r. ⌜ foundTold r ≡ lookupAmong o (now (s .entry)) lng lat (listed n place) ⌝ }
 {
     if is_unlooked(o, n, lng, lat) {
         return zone_listed(o, s, place);
@@ -127,7 +115,7 @@ fn lookup_listed(o: Opened, s: &[u8], lng: f64, lat: f64, n: u32, place: u32) ->
 
 // The zone that a position lies in.
 pub fn lookup(o: Opened, s: &[u8], lng: f64, lat: f64) -> Found
-    ensures { λ r. ⌜ found r ≡ lookupOf o (now (s .entry)) lng lat ⌝ }
+    ensures { λ r. ⌜ foundTold r ≡ lookupOf o (now (s .entry)) lng lat ⌝ }
 {
     let c = reader_grid::candidates(o, s, lng, lat);
     match c {
@@ -163,7 +151,7 @@ fn name_after(names: Checked, o: Opened, s: &[u8], zone: u32) -> Checked
 fn keep(held: &mut [u32], k: u32, zone: u32)
     ensures { λ _. ⌜ now (held .exit) ≡ set (now (held .entry)) k zone ⌝ }
 {
-    let i = reader_head::wide(k);
+    let i = fields::wide(k);
     if i < held.len() {
         held[i] = zone;
     }
@@ -172,7 +160,7 @@ fn keep(held: &mut [u32], k: u32, zone: u32)
 // Every one of n candidates from a place on is tested, and the names of those that contain the point are read: how many they are. They are kept in `held` as far as there is room.
 fn gather(o: Opened, s: &[u8], p: Point, grid: bool, n: u32, from: u32, held: &mut [u32]) -> Listing
     requires { ⌜ from + n < 0x1_0000_0000 ⌝ }
-    ensures { λ r. ⌜ counted r ≡ tally o (now (s .entry)) fine 0 (allHits (hitAt o (now (s .entry)) p grid) n from) ⌝ }
+    ensures { λ r. ⌜ listingTold r ≡ tally o (now (s .entry)) fine 0 (allHits (hitAt o (now (s .entry)) p grid) n from) ⌝ }
     ensures memory { λ r. ⌜ now (held .exit) ≡ sets (now (held .entry)) 0 (seen (hitAt o (now (s .entry)) p grid) n from) ⌝ }
 {
     let mut names = Checked::Fine;
@@ -250,10 +238,10 @@ fn place_hits(
 ) -> Listing
     requires { ⌜ from + n < 0x1_0000_0000 ⌝ }
     requires { ⌜ Kept (seen (hitAt o (now s) p grid) n from) (now held) k ⌝ }
-    ensures { λ r. ⌜ counted r ≡ howMany (placed o (now (s .entry)) (length (now (out .entry))) (seen (hitAt o (now (s .entry)) p grid) n from)) ⌝ }
-    ensures memory { λ r. ⌜ now (out .exit) ≡ filled (now (out .entry)) (placed o (now (s .entry)) (length (now (out .entry))) (seen (hitAt o (now (s .entry)) p grid) n from)) ⌝ }
+    ensures { λ r. ⌜ listingTold r ≡ howMany (placed o (now (s .entry)) (length (now (out .entry))) (seen (hitAt o (now (s .entry)) p grid) n from)) ⌝ }
+    ensures memory { λ r. ⌜ now (out .exit) ≡ left (now (out .entry)) (placed o (now (s .entry)) (length (now (out .entry))) (seen (hitAt o (now (s .entry)) p grid) n from)) ⌝ }
 {
-    let m = reader_head::wide(k);
+    let m = fields::wide(k);
     if out.len() < m {
         return Listing::Refused(answer::refuse(46));
     }
@@ -274,8 +262,8 @@ fn list_with(
     out: &mut [u32],
 ) -> Listing
     requires { ⌜ from + n < 0x1_0000_0000 ⌝ }
-    ensures { λ r. ⌜ counted r ≡ howMany (allHits (hitAt o (now (s .entry)) p grid) n from then listFor o (now (s .entry)) (length (now (out .entry)))) ⌝ }
-    ensures memory { λ r. ⌜ now (out .exit) ≡ filled (now (out .entry)) (allHits (hitAt o (now (s .entry)) p grid) n from then listFor o (now (s .entry)) (length (now (out .entry)))) ⌝ }
+    ensures { λ r. ⌜ listingTold r ≡ howMany (allHits (hitAt o (now (s .entry)) p grid) n from then listFor o (now (s .entry)) (length (now (out .entry)))) ⌝ }
+    ensures memory { λ r. ⌜ now (out .exit) ≡ left (now (out .entry)) (allHits (hitAt o (now (s .entry)) p grid) n from then listFor o (now (s .entry)) (length (now (out .entry)))) ⌝ }
 {
     let t = gather(o, s, p, grid, n, from, held);
     match t {
@@ -287,8 +275,8 @@ fn list_with(
 // The same with memory of its own. A cell has at most 15 candidates, so 16 places hold all of its zones. Without GRID a position may lie in as many zones as the record has: where there are more than 16, they are asked a second time. So no array of 65,536 is needed, and a record made by hand with still more zones is answered too.
 fn list_in(o: Opened, s: &[u8], p: Point, grid: bool, n: u32, from: u32, out: &mut [u32]) -> Listing
     requires { ⌜ from + n < 0x1_0000_0000 ⌝ }
-    ensures { λ r. ⌜ counted r ≡ howMany (allHits (hitAt o (now (s .entry)) p grid) n from then listFor o (now (s .entry)) (length (now (out .entry)))) ⌝ }
-    ensures memory { λ r. ⌜ now (out .exit) ≡ filled (now (out .entry)) (allHits (hitAt o (now (s .entry)) p grid) n from then listFor o (now (s .entry)) (length (now (out .entry)))) ⌝ }
+    ensures { λ r. ⌜ listingTold r ≡ howMany (allHits (hitAt o (now (s .entry)) p grid) n from then listFor o (now (s .entry)) (length (now (out .entry)))) ⌝ }
+    ensures memory { λ r. ⌜ now (out .exit) ≡ left (now (out .entry)) (allHits (hitAt o (now (s .entry)) p grid) n from then listFor o (now (s .entry)) (length (now (out .entry)))) ⌝ }
 {
     let mut held = [0u32; 16];
     list_with(o, s, p, grid, n, from, &mut held, out)
@@ -296,8 +284,8 @@ fn list_in(o: Opened, s: &[u8], p: Point, grid: bool, n: u32, from: u32, out: &m
 
 // All zones that a position lies in, in the order of their names, into the first places of `out`: how many there are. A refusal leaves the lent memory as it was, and places behind the zones are never touched.
 pub fn lookup_into(o: Opened, s: &[u8], lng: f64, lat: f64, out: &mut [u32]) -> Listing
-    ensures { λ r. ⌜ counted r ≡ howMany (listOf o (now (s .entry)) lng lat (length (now (out .entry)))) ⌝ }
-    ensures memory { λ r. ⌜ now (out .exit) ≡ filled (now (out .entry)) (listOf o (now (s .entry)) lng lat (length (now (out .entry)))) ⌝ }
+    ensures { λ r. ⌜ listingTold r ≡ howMany (listOf o (now (s .entry)) lng lat (length (now (out .entry)))) ⌝ }
+    ensures memory { λ r. ⌜ now (out .exit) ≡ left (now (out .entry)) (listOf o (now (s .entry)) lng lat (length (now (out .entry)))) ⌝ }
 {
     let c = reader_grid::candidates(o, s, lng, lat);
     match c {

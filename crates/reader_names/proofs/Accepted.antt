@@ -11,13 +11,13 @@ use Rattle.utf8.specs.Grammar.{Octets}
 use Rattle.utf8.proofs.Same.{utf8-is-rfc3629}
 use Rattle.answer.specs.Answers.{ok, fine}
 use Rattle.answer.specs.Checks.{seek, pick}
-use Rattle.answer.specs.CheckLaws.{fine-one, fine-rest, fine-claim, same-eq, eq-same}
+use Rattle.answer.proofs.CheckLaws.{fine-one, fine-rest, fine-claim, same-eq, eq-same}
 use Rattle.reader_head.specs.Head.{isZero}
-use Rattle.reader_opened.specs.declared.Opened.{Opened}
-use Rattle.reader_opened.specs.Opened.{Within}
+use Rattle.opened.specs.declared.Opened.{Opened}
 use Rattle.reader_names.specs.Names.{namesCheck, textCheck}
 use Rattle.reader_names.specs.Asked.{nameAt, nameOr, orEmpty, refusalOf}
 use Rattle.reader_names.proofs.Named.{named}
+use Rattle.opened.specs.Within.{Within}
 
 -- a zone has a name
 pub record NameGiven (o : Opened) (s : List ℕ) (zone : ℕ) : Type 0 where

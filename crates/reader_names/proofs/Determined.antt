@@ -1,18 +1,16 @@
 -- Any two answers that a promise allows are equal: stated over the contracts themselves. A part of the file that is handed back is fixed by its bytes and its place.
 -- Assumes nothing.
-use mathlib.Core.Path.{_≡_, sym, ap, ap₂, _∙_}
+use mathlib.Core.Path.{_≡_, sym, _∙_}
 use Prim.Native.Nat.{ℕ}
 use mathlib.Core.List.{List}
 use denote.Ref.{RefT, now, ptr}
 use Rattle.basics.specs.Determined.{Determined}
 use Rattle.reader_names.proofs.names.Reads as names-reads
-use Rattle.answer.specs.Answers.{Answer, checked-one}
-use Rattle.reader_names.specs.declared.Bounds.{Bounds}
-use Rattle.reader_names.specs.declared.Bounds.the-variants as B
-use Rattle.reader_names.specs.Asked.{told}
 use Rattle.reader_names.proofs.name_bounds.Reads as name-bounds-reads
 use Rattle.reader_names.proofs.name.Reads as name-reads
 use Rattle.reader_names.proofs.name_refusal.Reads as name-refusal-reads
+use Rattle.replies.proofs.One.{one-bounds}
+use Rattle.answer.proofs.AnswersLaws.{checked-one}
 
 pub names : Determined names-reads.Learnt
 names κ a r r' e e' p q = checked-one r r' (p ∙ sym q)
@@ -26,14 +24,6 @@ name κ a r r' e e' p q = (p .0 ∙ sym (q .0), p .1 ∙ sym (q .1))
 
 pub name-refusal : Determined name-refusal-reads.Learnt
 name-refusal κ a r r' e e' p q = p ∙ sym q
-
-pub one-bounds : (a b : Bounds) (x : Answer (ℕ × ℕ)) → told a ≡ x → told b ≡ x → a ≡ b
-one-bounds (B.At i j) (B.At k l) x e f =
-    let t : _≡_ {A = ℕ × ℕ} (i, j) (k, l) = cc in
-    ap₂ B.At (ap (λ (u : ℕ × ℕ). u .0) t) (ap (λ (u : ℕ × ℕ). u .1) t)
-one-bounds (B.At i j) (B.Refused k) x e f = cc
-one-bounds (B.Refused k) (B.At i j) x e f = cc
-one-bounds (B.Refused k) (B.Refused l) x e f = cc
 
 pub name-bounds : Determined name-bounds-reads.Learnt
 name-bounds κ a r r' e e' p q = one-bounds r r' _ p q

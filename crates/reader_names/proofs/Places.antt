@@ -10,12 +10,13 @@ use Rattle.fields.specs.Le.{le}
 use Rattle.fields.specs.Part.{part}
 use Rattle.answer.specs.declared.Refusal.{Refusal}
 use Rattle.answer.specs.Refusals.{refusal}
-use Rattle.answer.specs.Answers.{Answer, ok, refused, need, need-met, need-not, then-ok, then-no}
+use Rattle.answer.specs.Answers.{Answer, ok, refused, need}
 use Rattle.answer.specs.Checks.{atMost, below}
-use Rattle.answer.specs.CheckLaws.{at-le, le-at, gt-at, lt-below, ge-below}
-use Rattle.reader_opened.specs.declared.Opened.{Opened}
+use Rattle.answer.proofs.CheckLaws.{at-le, le-at, gt-at, lt-below, ge-below}
+use Rattle.opened.specs.declared.Opened.{Opened}
 use Rattle.reader_names.specs.Names.{edge}
 use Rattle.reader_names.specs.Asked.{boundsAt, partAt, nameAt, orEmpty, orStart, nameFrom, behind, nameOr, refusalOf}
+use Rattle.answer.proofs.AnswersLaws.{need-met, need-not, then-ok, then-no}
 
 pub edge-is : (s : List ℕ) (at n i at' n' i' x : ℕ) → at' ≡ at → n' ≡ n → i' ≡ i → x ≡ le 4 s (at' + 4 + 4 * i') → at' + 8 + 4 * n' + x ≡ edge s at n i
 edge-is s at n i at' n' i' x ea en ei e = rw (e, ea, en, ei)

@@ -6,9 +6,7 @@ use lib.ListN.{length}
 use Rattle.fields.specs.Part.{part}
 use Rattle.answer.specs.Answers.{Answer, ok, refused, need, _then_}
 use Rattle.answer.specs.Checks.{atMost, below}
-use Rattle.reader_opened.specs.declared.Opened.{Opened}
-use Rattle.reader_names.specs.declared.Bounds.{Bounds}
-use Rattle.reader_names.specs.declared.Bounds.the-variants as B
+use Rattle.opened.specs.declared.Opened.{Opened}
 use Rattle.reader_names.specs.Names.{edge}
 
 -- Where the name stands in the file: a zone number too large is 45, the two offsets past the end 44, a name that ends before it starts 23, its bytes past the end 44.
@@ -51,8 +49,3 @@ behind place n = (place .0, n + place .1)
 unfoldable pub refusalOf : Answer (List ℕ) → ℕ
 refusalOf (ok name) = 0
 refusalOf (refused k) = k .number
-
--- what the bounds tell
-abbrev pub told : Bounds → Answer (ℕ × ℕ)
-told (B.At from to) = ok (from, to)
-told (B.Refused k) = refused k

@@ -6,10 +6,11 @@ ghost use denote.Ref.{ptr};
 ghost use Rattle.answer.specs.Answers.{checkedTold};
 ghost use Rattle.answer.specs.Checks.{each};
 ghost use Rattle.reader_names.specs.Names.{offsetAt, Shaped, Ordered, shapeCheck, offsetRule, offsetCheck, textCheck, textAt, namesCheck};
-ghost use Rattle.reader_names.specs.Asked.{boundsAt, told, nameOr, nameFrom, behind, refusalOf, nameAt};
+ghost use Rattle.reader_names.specs.Asked.{boundsAt, nameOr, nameFrom, behind, refusalOf, nameAt};
+ghost use Rattle.replies.specs.Replies.{boundsTold};
 use answer::Checked;
-use answer::Refusal;
-use reader_opened::Opened;
+use opened::Opened;
+use replies::Bounds;
 
 // 21 and 22.
 fn shape(s: &[u8], at: usize, len: usize, n: usize) -> Checked
@@ -20,7 +21,7 @@ fn shape(s: &[u8], at: usize, len: usize, n: usize) -> Checked
     if len < prefix {
         return answer::fail(21);
     }
-    if prefix + reader_head::word(s, at) != len {
+    if prefix + fields::word(s, at) != len {
         return answer::fail(22);
     }
     Checked::Fine
@@ -30,7 +31,7 @@ fn offset(s: &[u8], at: usize, n: usize, i: usize) -> usize
     requires { ⌜ Shaped (now s) at n × (i ≤ n) ⌝ }
     ensures { λ r. ⌜ (r ≡ offsetAt (now (s .entry)) at i) × (r < 0x1_0000_0000) ⌝ }
 {
-    reader_head::word(s, at + 4 + 4 * i)
+    fields::word(s, at + 4 + 4 * i)
 }
 
 // 23 and 24 of one offset, with the one before.
@@ -50,7 +51,7 @@ fn offsets(s: &[u8], at: usize, n: usize) -> Checked
     requires { ⌜ Shaped (now s) at n ⌝ }
     ensures { λ r. ⌜ checkedTold r ≡ each (offsetCheck (now (s .entry)) at n) (n + 1) 0 ⌝ }
 {
-    let blob = reader_head::word(s, at);
+    let blob = fields::word(s, at);
     let mut prev = 0;
     let mut i = 0;
     while i <= n {
@@ -119,27 +120,21 @@ pub fn names(s: &[u8], at: usize, len: usize, n: usize) -> Checked
     texts(s, at, n)
 }
 
-// Where a zone's name stands: from its start up to its end.
-pub enum Bounds {
-    At(usize, usize),
-    Refused(Refusal),
-}
-
 // The two offsets, and the name's bytes, for any bytes and any zone number.
 pub fn name_bounds(s: &[u8], names: u32, zones: u32, zone: u32) -> Bounds
-    ensures { λ r. ⌜ told r ≡ boundsAt (now (s .entry)) names zones zone ⌝ }
+    ensures { λ r. ⌜ boundsTold r ≡ boundsAt (now (s .entry)) names zones zone ⌝ }
 {
     if zones <= zone {
         return Bounds::Refused(answer::refuse(45));
     }
-    let at = reader_head::wide(names);
-    let p = at + 4 + 4 * reader_head::wide(zone);
+    let at = fields::wide(names);
+    let p = at + 4 + 4 * fields::wide(zone);
     if s.len() < p + 8 {
         return Bounds::Refused(answer::refuse(44));
     }
-    let blob = at + 8 + 4 * reader_head::wide(zones);
-    let from = blob + reader_head::word(s, p);
-    let to = blob + reader_head::word(s, p + 4);
+    let blob = at + 8 + 4 * fields::wide(zones);
+    let from = blob + fields::word(s, p);
+    let to = blob + fields::word(s, p + 4);
     if to < from {
         return Bounds::Refused(answer::refuse(23));
     }

@@ -1,7 +1,6 @@
 -- Any two answers that a promise allows are equal: stated over the contracts themselves.
 -- Assumes nothing.
 use mathlib.Core.Path.{sym, _∙_}
-use Rattle.answer.specs.Answers.{checked-one}
 use Rattle.basics.specs.Determined.{Determined}
 use Rattle.reader_opened.proofs.present.Reads as present-reads
 use Rattle.reader_opened.proofs.flag.Reads as flag-reads
@@ -11,6 +10,7 @@ use Rattle.reader_opened.proofs.counts.Reads as counts-reads
 use Rattle.reader_opened.proofs.grid_of.Reads as grid-of-reads
 use Rattle.reader_opened.proofs.read_sections.Reads as read-sections-reads
 use Rattle.reader_opened.proofs.opened_of.Reads as opened-of-reads
+use Rattle.answer.proofs.AnswersLaws.{checked-one}
 
 pub present : Determined present-reads.Learnt
 present κ a r r' e e' p q = checked-one r r' (p ∙ sym q)

@@ -1,15 +1,17 @@
 // Opening, 17 to 20, and the opened record: numbers of 32 bits or fewer, so that no sum of a question wraps in 64.
 ghost use mathlib.Core.Path.{_≡_};
-ghost use Prim.Native.Nat.{_+_, _-_, _*_, _≤_, _<_};
-ghost use lib.ListN.{length};
+ghost use Prim.Native.Nat.{_+_, _-_, _*_, _<_};
 ghost use Rattle.answer.specs.Answers.{checkedTold};
 ghost use Rattle.reader_head.specs.Head.{Headed};
 ghost use Rattle.answer.specs.Checks.{each};
-ghost use Rattle.reader_table.specs.Table.{entriesCheck};
-ghost use Rattle.reader_table.specs.declared.Section.{Section};
-ghost use Rattle.reader_opened.specs.Opened.{gridOf, sectionsOf, directoryOf, openedOf, presentAt, presentCheck, bit, flagCheck, zonesCheck, lengthsCheck, countsCheck, Within, Tabled};
+ghost use Rattle.opened.specs.declared.Section.{Section};
+ghost use Rattle.reader_opened.specs.Opened.{gridOf, sectionsOf, directoryOf, openedOf, presentAt, presentCheck, bit, flagCheck, zonesCheck, lengthsCheck, countsCheck, Tabled};
+ghost use Rattle.opened.specs.Within.{Within};
 use answer::Checked;
-use reader_table::Section;
+use opened::Directory;
+use opened::Grid;
+use opened::Opened;
+use opened::Section;
 
 // What the table says of a file: where each section lies. 0 and 0 for one that is not there.
 pub struct Sections {
@@ -24,36 +26,6 @@ pub struct Sections {
     pub chunkdir: Section,
     pub gridpart: Section,
     pub points: Section,
-}
-
-// Records in a row.
-pub struct Directory {
-    pub off: u32,
-    pub count: u32,
-}
-
-// GRID: where it lies, and its first twelve bytes.
-pub struct Grid {
-    pub off: u32,
-    pub lng: i16,
-    pub lat: i16,
-    pub cols: u16,
-    pub rows: u16,
-    pub total: u32,
-}
-
-// An opened file: all that a question needs beside the file's bytes.
-pub struct Opened {
-    pub flags: u32,
-    pub names: Section,
-    pub zones: Directory,
-    pub polys: Directory,
-    pub rings: Directory,
-    pub ops: Directory,
-    pub groups: Directory,
-    pub chunks: Directory,
-    pub points: Section,
-    pub grid: Grid,
 }
 
 // 17, of one type.
@@ -106,7 +78,7 @@ pub fn flag(s: &[u8]) -> Checked
 {
     let n = reader_table::count(s);
     let g = as_bit(reader_table::seen(s, 8, n));
-    if reader_head::word(s, 8) % 2 != g {
+    if fields::word(s, 8) % 2 != g {
         return answer::fail(18);
     }
     Checked::Fine
@@ -116,7 +88,7 @@ pub fn flag(s: &[u8]) -> Checked
 pub fn zone_length(o: Sections) -> Checked
     ensures { λ r. ⌜ checkedTold r ≡ zonesCheck o ⌝ }
 {
-    if reader_head::wide(o.tzdir.len) != 24 * reader_head::wide(o.zones) {
+    if fields::wide(o.tzdir.len) != 24 * fields::wide(o.zones) {
         return answer::fail(19);
     }
     Checked::Fine
@@ -180,7 +152,7 @@ pub fn grid_of(s: &[u8], p: Section) -> Grid
             total: 0,
         };
     }
-    let at = reader_head::wide(p.off);
+    let at = fields::wide(p.off);
     Grid {
         off: p.off,
         lng: fields::i16_at(s, at),

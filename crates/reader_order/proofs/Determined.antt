@@ -2,11 +2,7 @@
 -- Assumes nothing.
 use mathlib.Core.Path.{refl, sym, _∙_}
 use Rattle.basics.specs.Determined.{Determined, DeterminedMemory}
-use Rattle.reader_order.proofs.comes_before.Reads as comes-before-reads
 use Rattle.reader_order.proofs.sort_zones.Reads as sort-zones-reads
-
-pub comes-before : Determined comes-before-reads.Learnt
-comes-before κ a r r' e e' p q = p ∙ sym q
 
 pub sort-zones : Determined sort-zones-reads.Learnt
 sort-zones κ a r r' e e' p q = refl

@@ -1,6 +1,4 @@
 -- Laws of the order of names, and what the sort gives.
-pub mod Bytes
-pub mod Words
 pub mod Sorted
 pub mod Only
 pub mod Shift

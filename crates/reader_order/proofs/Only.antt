@@ -4,9 +4,10 @@ use Prim.Native.Nat.{ℕ}
 use mathlib.Core.Path.{_≡_, refl, sym, ap, ap₂, _∙_}
 use mathlib.Core.Bool.{Bool, true, false, cond}
 use mathlib.Core.List.{List, [], _∷_, nil≢cons, cons≢nil, head-eq-of-cons-eq, tail-eq-of-cons-eq}
-use Rattle.reader_order.specs.Order.{comesBefore, sameBytes, ordered, inOrder, called}
-use Rattle.reader_order.proofs.Bytes.{never-self, neither, same-self}
+use Rattle.reader_order.specs.Order.{ordered, inOrder, called}
+use Rattle.texts.proofs.Bytes.{never-self, neither, same-self}
 use Rattle.reader_order.proofs.Sorted.{Sorted, sorted-in, called-none, is-ordered, as-they-came}
+use Rattle.texts.specs.Spelled.{comesBefore, sameBytes}
 
 module _ (name : ℕ → List ℕ) where
   -- a zone is among those of its name

@@ -10,8 +10,9 @@ use lib.Dec.{eqb}
 use lib.ListN.{length, take, drop, take-append-drop}
 use lib.Seq.{take-take}
 use Rattle.basics.specs.Truth.{and-i, and-l, and-r}
-use Rattle.reader_order.specs.Order.{comesBefore, sameBytes, insert, insertAll, ordered, inOrder, called, times}
-use Rattle.reader_order.proofs.Bytes.{asym, not-before, never-self, same-eq}
+use Rattle.reader_order.specs.Order.{insert, insertAll, ordered, inOrder, called, times}
+use Rattle.texts.proofs.Bytes.{asym, not-before, never-self, same-eq}
+use Rattle.texts.specs.Spelled.{comesBefore, sameBytes}
 
 module _ (name : ℕ → List ℕ) where
   -- no name of the list comes before that of z

@@ -1,23 +1,10 @@
 -- Document 01, "Asking": zones are listed by name bytes, equal names in candidate order. The order, the list in order, and what it is for a list to be in order.
 -- Assumes nothing.
 use Prim.Native.Nat.{ℕ, _+_}
-use mathlib.Core.Bool.{Bool, true, false, _&&_, _||_, not, cond}
+use mathlib.Core.Bool.{Bool, true, _&&_, not, cond}
 use mathlib.Core.List.{List, [], _∷_}
-use lib.Dec.{ltb, eqb}
-
--- a comes before b by its bytes: smaller at the first byte that differs, or at its end while b goes on
-unfoldable pub comesBefore : List ℕ → List ℕ → Bool
-comesBefore [] [] = false
-comesBefore [] (y ∷ b) = true
-comesBefore (x ∷ a) [] = false
-comesBefore (x ∷ a) (y ∷ b) = ltb x y || (eqb x y && comesBefore a b)
-
--- the same bytes
-unfoldable pub sameBytes : List ℕ → List ℕ → Bool
-sameBytes [] [] = true
-sameBytes [] (y ∷ b) = false
-sameBytes (x ∷ a) [] = false
-sameBytes (x ∷ a) (y ∷ b) = eqb x y && sameBytes a b
+use lib.Dec.{eqb}
+use Rattle.texts.specs.Spelled.{comesBefore, sameBytes}
 
 -- of zones that have names
 module _ (name : ℕ → List ℕ) where

@@ -4,7 +4,7 @@ use Prim.Native.Nat.{ℕ, _+_}
 use mathlib.Core.Bool.{cond}
 use mathlib.Core.List.{List, [], _∷_, _++_}
 use lib.ListN.{take, drop}
-use Rattle.reader_order.specs.Order.{comesBefore}
+use Rattle.texts.specs.Spelled.{comesBefore}
 
 -- how many zones stand in front of the first whose name comes after that one
 unfoldable pub placeFor : (ℕ → List ℕ) → List ℕ → List ℕ → ℕ

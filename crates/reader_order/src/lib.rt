@@ -5,60 +5,16 @@ ghost use mathlib.Core.List.{_++_};
 ghost use Prim.Native.Nat.{_+_, _<_, _≤_};
 ghost use lib.ListN.{length, take, drop, getD};
 ghost use Rattle.reader_names.specs.Asked.{nameOr};
-ghost use Rattle.reader_order.specs.Order.{comesBefore, insert, insertAll, ordered, inOrder};
+ghost use Rattle.reader_order.specs.Order.{insert, insertAll, ordered, inOrder};
 ghost use Rattle.reader_order.specs.Place.{placeFor, movedUp};
-use reader_opened::Opened;
-
-// A length that both names have: that of the shorter.
-fn common_length(a: &[u8], b: &[u8]) -> usize
-    ensures { λ r. ⌜ (r ≤ length (now (a .entry))) × (r ≤ length (now (b .entry))) ⌝ }
-{
-    if a.len() < b.len() { a.len() } else { b.len() }
-}
-
-// How many bytes at the front of both names can be passed over, since they are the same: eight at a time.
-fn same_front(a: &[u8], b: &[u8]) -> usize
-    ensures { λ r. ⌜ r ≤ length (now (a .entry)) ⌝ }
-    ensures { λ r. ⌜ comesBefore (drop r (now (a .entry))) (drop r (now (b .entry))) ≡ comesBefore (now (a .entry)) (now (b .entry)) ⌝ }
-{
-    let n = common_length(a, b);
-    let mut i = 0;
-    while 8 <= n - i {
-        if fields::u64_at(a, i) != fields::u64_at(b, i) {
-            return i;
-        }
-        i += 8;
-    }
-    i
-}
-
-// Whether a comes before b by its bytes: equal fronts are passed over, then it is byte by byte.
-pub fn comes_before(a: &[u8], b: &[u8]) -> bool
-    ensures { λ r. ⌜ r ≡ comesBefore (now (a .entry)) (now (b .entry)) ⌝ }
-{
-    let mut i = same_front(a, b);
-    while i < b.len() {
-        if a.len() <= i {
-            return true;
-        }
-        let x = a[i];
-        let y = b[i];
-        if x < y {
-            return true;
-        }
-        if y < x {
-            return false;
-        }
-        i += 1;
-    }
-    false
-}
+ghost use Rattle.texts.specs.Spelled.{comesBefore};
+use opened::Opened;
 
 // Whether a name comes before that of a zone, which is empty where it is refused.
 fn before_zone(o: Opened, s: &[u8], own: &[u8], zone: u32) -> bool
     ensures { λ r. ⌜ r ≡ comesBefore (now (own .entry)) (nameOr o (now (s .entry)) zone) ⌝ }
 {
-    comes_before(own, reader_names::name(o, s, zone))
+    texts::comes_before(own, reader_names::name(o, s, zone))
 }
 
 // The place of the first zone, of the first k, whose name comes after own: k where there is none. The first k are in order: the last is looked at first, then the place is found by halving. `after` is the place after the one that is looked at.

@@ -21,7 +21,6 @@ use Rattle.reader_records.specs.declared.GroupAt.{GroupAt}
 use Rattle.reader_records.specs.declared.GroupAt.the-variants as G
 use Rattle.reader_records.specs.declared.ChunkAt.{ChunkAt}
 use Rattle.reader_records.specs.declared.ChunkAt.the-variants as C
-use Rattle.reader_records.proofs.wide16.Reads as wide16-reads
 use Rattle.reader_records.proofs.list_at.Reads as list-at-reads
 use Rattle.reader_records.proofs.tz_at.Reads as tz-at-reads
 use Rattle.reader_records.proofs.poly_at.Reads as poly-at-reads
@@ -107,9 +106,6 @@ group-rule κ a r r' e e' p q = p ∙ sym q
 
 pub chunk-rule : Determined chunk-rule-reads.Learnt
 chunk-rule κ a r r' e e' p q = p ∙ sym q
-
-pub wide16 : Determined wide16-reads.Learnt
-wide16 κ a r r' e e' p q = p .0 ∙ sym (q .0)
 
 pub count-rule : Determined count-rule-reads.Learnt
 count-rule κ a r r' e e' p q = p ∙ sym q

@@ -2,11 +2,11 @@
 ghost use mathlib.Core.Path.{_≡_};
 ghost use Prim.Native.Nat.{_+_, _≤_, _<_};
 ghost use lib.ListN.{length};
-ghost use Rattle.reader_records.specs.Records.{toldPlace, toldList, toldRing, toldOp, toldGroup, toldChunk, directory, recordAt, boxIn, pointIn, within, listIn, listRule, listAt, zoneAt, polyAt, ringIn, ringRule, ringAt, countRule, opRule, opAt, groupIn, groupRule, groupPlace, groupAt, chunkIn, chunkRule, chunkAt};
+ghost use Rattle.reader_records.specs.Records.{toldPlace, toldList, toldRing, toldOp, toldGroup, toldChunk, directory, recordAt, boxIn, pointIn, listIn, listRule, listAt, zoneAt, polyAt, ringIn, ringRule, ringAt, countRule, opRule, opAt, groupIn, groupRule, groupPlace, groupAt, chunkIn, chunkRule, chunkAt, fitsBelow};
 use answer::Refusal;
 use boxes::BBox;
+use opened::Opened;
 use plane::I32Point;
-use reader_opened::Opened;
 
 // A zone with its polygons, a polygon with its rings.
 pub struct ListRecord {
@@ -69,21 +69,15 @@ pub enum ChunkAt {
     Refused(Refusal),
 }
 
-pub fn wide16(x: u16) -> usize
-    ensures { λ r. ⌜ (r ≡ x) × (r < 0x1_0000) ⌝ }
-{
-    x as usize
-}
-
 // Where record `index` of `width` bytes stands, in a directory of `count` records from `off` on.
 fn record_at(s: &[u8], off: u32, count: u32, width: usize, index: usize) -> RecordPlace
     requires { ⌜ width ≤ 64 ⌝ }
     ensures { λ r. ⌜ toldPlace r ≡ recordAt (now (s .entry)) (directory off count) width index ⌝ }
 {
-    if reader_head::wide(count) <= index {
+    if fields::wide(count) <= index {
         return RecordPlace::Refused(answer::refuse(34));
     }
-    let at = reader_head::wide(off) + index * width;
+    let at = fields::wide(off) + index * width;
     if s.len() < at + width {
         return RecordPlace::Refused(answer::refuse(44));
     }
@@ -114,9 +108,9 @@ fn point_in(s: &[u8], at: usize) -> I32Point
 
 // At least one, and all within the directory below.
 fn is_within(first: u32, count: u16, below: u32) -> bool
-    ensures { λ r. ⌜ r ≡ within first count below ⌝ }
+    ensures { λ r. ⌜ r ≡ fitsBelow first count below ⌝ }
 {
-    (0 < count) & (reader_head::wide(first) + wide16(count) <= reader_head::wide(below))
+    (0 < count) & (fields::wide(first) + fields::wide16(count) <= fields::wide(below))
 }
 
 fn list_in(s: &[u8], at: usize) -> ListRecord
@@ -207,14 +201,14 @@ pub fn ring_at(o: Opened, s: &[u8], index: usize) -> RingAt
 pub fn count_rule(v: RingRecord, sum: usize) -> bool
     ensures { λ r. ⌜ r ≡ countRule v sum ⌝ }
 {
-    sum == reader_head::wide(v.points) + wide16(v.count)
+    sum == fields::wide(v.points) + fields::wide16(v.count)
 }
 
 // The group is one of the directory.
 fn op_rule(below: u32, word: usize) -> bool
     ensures { λ r. ⌜ r ≡ opRule below word ⌝ }
 {
-    word % 0x8000_0000 < reader_head::wide(below)
+    word % 0x8000_0000 < fields::wide(below)
 }
 
 pub fn op_at(o: Opened, s: &[u8], index: usize) -> OpAt
@@ -224,7 +218,7 @@ pub fn op_at(o: Opened, s: &[u8], index: usize) -> OpAt
     match t {
         RecordPlace::Refused(r) => OpAt::Refused(r),
         RecordPlace::At(at) => {
-            let word = reader_head::word(s, at);
+            let word = fields::word(s, at);
             if op_rule(o.groups.count, word) {
                 OpAt::At(word)
             } else {

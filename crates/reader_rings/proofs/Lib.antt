@@ -1,2 +1,3 @@
 -- That answers are determined.
+pub mod RingsLaws
 pub mod Determined

@@ -1,27 +1,25 @@
 // Containment: rings, polygons and zones.
 ghost use mathlib.Core.Path.{_≡_};
-ghost use mathlib.Core.Bool.{true, false};
+ghost use mathlib.Core.Bool.{false};
 ghost use Prim.Native.Nat.{_+_, _-_, _≤_, _<_};
 ghost use Rattle.answer.specs.Walks.{verdict};
-ghost use Rattle.tzb_core.specs.Points.{point};
 ghost use Rattle.reader_groups.specs.Groups.{went};
 ghost use Rattle.reader_records.specs.Records.{groupIn};
 ghost use lib.ListN.{length};
-ghost use Rattle.reader_rings.specs.Rings.{legTold, LegRoom, rounds, sumAfter, judged, turnOf, turnedAt, jointOf, groupWalk, turnWalk, opStep, opsFrom, ringEnd, ringRest, ringOf, ringContains};
-ghost use Rattle.reader_rings.specs.Zones.{seek, holesOut, polyInside, polyOf, zoneOf, containsAt};
+ghost use Rattle.reader_rings.specs.Rings.{legTold, LegRoom, rounds, sumAfter, turnOf, turnedAt, jointOf, groupWalk, turnWalk, opStep, opsFrom, ringEnd, ringRest, ringOf, ringContains};
+ghost use Rattle.replies.specs.Replies.{verdictTold};
 use answer::Refusal;
+use opened::Opened;
 use plane::I32Point;
 use plane::Point;
 use plane::Seen;
 use reader_groups::Went;
-use reader_opened::Opened;
 use reader_records::GroupRecord;
-use reader_records::ListAt;
-use reader_records::ListRecord;
 use reader_records::OpAt;
 use reader_records::RecordPlace;
 use reader_records::RingAt;
 use reader_records::RingRecord;
+use replies::Verdict;
 
 // A group with its ends as a ring op has them.
 pub struct Turned {
@@ -46,11 +44,6 @@ pub enum Rounds {
     Refused(Refusal),
     On,
     Off(bool, Round),
-}
-
-pub enum Verdict {
-    Is(bool),
-    Refused(Refusal),
 }
 
 // The op with index i, and its group's place.
@@ -162,7 +155,7 @@ fn op_step(o: Opened, s: &[u8], p: Point, i: usize, z: Round) -> Rounds
                         b,
                         Round {
                             exit: x,
-                            sum: z.sum + reader_head::wide(t.group.points),
+                            sum: z.sum + fields::wide(t.group.points),
                         },
                     )
                 }
@@ -219,9 +212,9 @@ fn ring_rest(o: Opened, s: &[u8], p: Point, r: RingRecord, t: Turned) -> Went
     let x = t.exit;
     let so = Round {
         exit: x,
-        sum: reader_head::wide(t.group.points),
+        sum: fields::wide(t.group.points),
     };
-    let w = ops_from(o, s, p, r.count, reader_head::wide(r.first) + 1, so);
+    let w = ops_from(o, s, p, r.count, fields::wide(r.first) + 1, so);
     match w {
         Rounds::Refused(k) => Went::Refused(k),
         Rounds::On => Went::On,
@@ -236,7 +229,7 @@ fn ring_rest(o: Opened, s: &[u8], p: Point, r: RingRecord, t: Turned) -> Went
 fn ring_walk(o: Opened, s: &[u8], p: Point, r: RingRecord) -> Went
     ensures { λ w. ⌜ went w ≡ ringOf o (now (s .entry)) p r ⌝ }
 {
-    let u = leg_at(o, s, reader_head::wide(r.first));
+    let u = leg_at(o, s, fields::wide(r.first));
     match u {
         LegAt::Refused(k) => Went::Refused(k),
         LegAt::At(word, at) => {
@@ -254,7 +247,7 @@ fn ring_walk(o: Opened, s: &[u8], p: Point, r: RingRecord) -> Went
 
 // Inside or not, where a point on an edge gets `edge`.
 fn verdict_of(edge: bool, w: Went) -> Verdict
-    ensures { λ r. ⌜ judged r ≡ verdict edge (went w) ⌝ }
+    ensures { λ r. ⌜ verdictTold r ≡ verdict edge (went w) ⌝ }
 {
     match w {
         Went::Refused(k) => Verdict::Refused(k),
@@ -265,7 +258,7 @@ fn verdict_of(edge: bool, w: Went) -> Verdict
 
 // Whether ring `index` contains the point; one on an edge gets `edge`.
 pub fn ring_contains(o: Opened, s: &[u8], p: Point, edge: bool, index: usize) -> Verdict
-    ensures { λ r. ⌜ judged r ≡ ringContains o (now (s .entry)) p edge index ⌝ }
+    ensures { λ r. ⌜ verdictTold r ≡ ringContains o (now (s .entry)) p edge index ⌝ }
 {
     let t = reader_records::ring_at(o, s, index);
     match t {
@@ -278,122 +271,5 @@ pub fn ring_contains(o: Opened, s: &[u8], p: Point, edge: bool, index: usize) ->
                 Verdict::Is(false)
             }
         }
-    }
-}
-
-// Whether the point is in none of the holes: the rings from `from` on, `count` with the outer one.
-fn holes_out(o: Opened, s: &[u8], p: Point, count: u16, from: usize) -> Verdict
-    requires { ⌜ from < 0x2_0000_0000 ⌝ }
-    ensures { λ r. ⌜ judged r ≡ holesOut o (now (s .entry)) p (count - 1) from ⌝ }
-{
-    let mut i = from;
-    let mut left = count;
-    while 1 < left {
-        let t = ring_contains(o, s, p, false, i);
-        match t {
-            Verdict::Refused(k) => {
-                return Verdict::Refused(k);
-            }
-            Verdict::Is(b) => {
-                if b {
-                    return Verdict::Is(false);
-                }
-            }
-        }
-        i += 1;
-        left -= 1;
-    }
-    Verdict::Is(true)
-}
-
-// Whether a polygon contains the point, which lies in its box: its first ring does, and no hole.
-fn poly_inside(o: Opened, s: &[u8], p: Point, q: ListRecord) -> Verdict
-    ensures { λ r. ⌜ judged r ≡ polyInside o (now (s .entry)) p q ⌝ }
-{
-    let from = reader_head::wide(q.first);
-    let u = ring_contains(o, s, p, true, from);
-    match u {
-        Verdict::Refused(k) => Verdict::Refused(k),
-        Verdict::Is(y) => {
-            if y {
-                holes_out(o, s, p, q.count, from + 1)
-            } else {
-                Verdict::Is(false)
-            }
-        }
-    }
-}
-
-// Whether one of the polygons does. Its box is tested first, before anything is called.
-fn polys_from(o: Opened, s: &[u8], p: Point, count: u16, from: usize) -> Verdict
-    requires { ⌜ from < 0x1_0000_0000 ⌝ }
-    ensures { λ r. ⌜ judged r ≡ seek (polyOf o (now (s .entry)) p) true false count from ⌝ }
-{
-    let off = o.polys.off;
-    let all = o.polys.count;
-    let below = o.rings.count;
-    let mut i = from;
-    let mut left = count;
-    while 0 < left {
-        let t = reader_records::list_at(s, off, all, below, i);
-        match t {
-            ListAt::Refused(k) => {
-                return Verdict::Refused(k);
-            }
-            ListAt::At(q) => {
-                let b = q.bbox;
-                if b.contains(p) {
-                    let v = poly_inside(o, s, p, q);
-                    match v {
-                        Verdict::Refused(k) => {
-                            return Verdict::Refused(k);
-                        }
-                        Verdict::Is(b) => {
-                            if b {
-                                return Verdict::Is(true);
-                            }
-                        }
-                    }
-                }
-            }
-        }
-        i += 1;
-        left -= 1;
-    }
-    Verdict::Is(false)
-}
-
-// Whether zone `index` contains the point. Its two numbers are read one by one, so that they are handed over in registers: stored one by one and read as one, they would be waited for.
-pub fn timezone_contains(o: Opened, s: &[u8], p: Point, index: usize) -> Verdict
-    ensures { λ r. ⌜ judged r ≡ zoneOf o (now (s .entry)) p index ⌝ }
-{
-    let p = Point { x: p.x, y: p.y };
-    let t = reader_records::tz_at(o, s, index);
-    match t {
-        ListAt::Refused(k) => Verdict::Refused(k),
-        ListAt::At(z) => {
-            let b = z.bbox;
-            if b.contains(p) {
-                polys_from(o, s, p, z.count, reader_head::wide(z.first))
-            } else {
-                Verdict::Is(false)
-            }
-        }
-    }
-}
-
-// Whether the zone contains the point of whole numbers: a zone number too large is 45, then a point outside the domain is no.
-pub fn contains(o: Opened, s: &[u8], zone: u32, x: i32, y: i32) -> Verdict
-    ensures { λ r. ⌜ judged r ≡ containsAt o (now (s .entry)) zone (point x y) ⌝ }
-{
-    if o.zones.count <= zone {
-        return Verdict::Refused(answer::refuse(45));
-    }
-    let q = I32Point { x, y };
-    if boxes::point_in_domain(q) {
-        let p = tzb_core::raycast::to_point(q);
-        timezone_contains(o, s, p, reader_head::wide(zone))
-    } else {
-        Verdict::Is(false)
     }
 }

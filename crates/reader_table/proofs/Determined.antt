@@ -1,12 +1,12 @@
 -- Any two answers that a promise allows are equal: stated over the contracts themselves.
 -- Assumes nothing.
 use mathlib.Core.Path.{sym, _∙_}
-use Rattle.answer.specs.Answers.{checked-one}
 use Rattle.basics.specs.Determined.{Determined}
 use Rattle.reader_table.proofs.count.Reads as count-reads
 use Rattle.reader_table.proofs.seen.Reads as seen-reads
 use Rattle.reader_table.proofs.entries.Reads as entries-reads
 use Rattle.reader_table.proofs.section_of.Reads as section-of-reads
+use Rattle.answer.proofs.AnswersLaws.{checked-one}
 
 pub count : Determined count-reads.Learnt
 count κ a r r' e e' p q = p .0 ∙ sym (q .0)

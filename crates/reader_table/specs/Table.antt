@@ -1,15 +1,13 @@
 -- Document 01, "Opening, in this order", the section table: 12 to 16.
 -- Assumes nothing.
-use Prim.Native.Nat.{ℕ, _+_, _-_, _*_, _%_, _≤_, _<_}
+use Prim.Native.Nat.{ℕ, _+_, _-_, _*_, _%_}
 use mathlib.Core.Bool.{Bool, true, false}
 use mathlib.Core.List.{List, [], _∷_}
-use mathlib.Core.Path.{_≡_}
-use Rattle.answer.specs.CheckLaws.{ge-below, lt-below}
 use lib.ListN.{length}
 use Rattle.fields.specs.Le.{le}
 use Rattle.answer.specs.Answers.{Check}
 use Rattle.answer.specs.Checks.{claim, deny, first, each, seek, atMost, below, same, both, either}
-use Rattle.reader_table.specs.declared.Section.{Section}
+use Rattle.opened.specs.declared.Section.{Section}
 
 -- entries of 16 bytes from 64: type, offset, length, four unread
 abbrev pub sections : List ℕ → ℕ
@@ -80,13 +78,3 @@ entryAt s k = record { off = offAt s k; len = lenAt s k }
 
 unfoldable pub sectionOf : List ℕ → ℕ → Section
 sectionOf s t = pickSection (has s t (sections s)) (entryAt s (seek (isType s t) (sections s) 0)) (record { off = 0; len = 0 })
-
--- ---- laws
-module _ (s : List ℕ) (t n k : ℕ) (en : n ≡ sections s) (ek : k ≡ seek (isType s t) n 0) where
-  pub section-none : n ≤ k → record { off = 0; len = 0 } ≡ sectionOf s t
-  unfolding sectionOf has
-  section-none h = rw (← en, ← ek, ge-below k n h)
-
-  pub section-some : (a b : ℕ) → k < n → a ≡ offAt s k → b ≡ lenAt s k → record { off = a; len = b } ≡ sectionOf s t
-  unfolding sectionOf has entryAt
-  section-some a b h ea eb = rw (← en, ← ek, lt-below k n h, ea, eb)

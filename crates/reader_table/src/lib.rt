@@ -1,9 +1,7 @@
 // Opening, 12 to 16: the section table.
 ghost use mathlib.Core.Path.{_≡_};
 ghost use Prim.Native.Nat.{_+_, _-_, _*_, _≤_, _<_};
-ghost use lib.ListN.{length};
 ghost use Rattle.answer.specs.Answers.{checkedTold};
-ghost use Rattle.fields.specs.Le.{le};
 ghost use Rattle.reader_head.specs.Head.{Headed};
 ghost use Rattle.answer.specs.Checks.{seek, each};
 ghost use Rattle.reader_table.specs.Table.{sections, entryField, isType, has, repeats, banned, apart, apartAt, placedCheck, typedCheck, entryCheck, entriesCheck, sectionOf};
@@ -12,19 +10,14 @@ ghost use Rattle.reader_table.specs.Shared.{Settled};
 mod units;
 
 use answer::Checked;
-
-// A section's place in the file.
-pub struct Section {
-    pub off: u32,
-    pub len: u32,
-}
+use opened::Section;
 
 // How many entries the table has.
 pub fn count(s: &[u8]) -> usize
     requires { ⌜ Headed (now s) ⌝ }
     ensures { λ r. ⌜ (r ≡ sections (now (s .entry))) × (r < 0x1000_0000) ⌝ }
 {
-    reader_head::word(s, 20)
+    fields::word(s, 20)
 }
 
 // The four bytes of entry i that stand k bytes into it.
@@ -32,7 +25,7 @@ fn field(s: &[u8], i: usize, k: usize) -> usize
     requires { ⌜ Headed (now s) × (i < sections (now s)) × (k ≤ 12) ⌝ }
     ensures { λ r. ⌜ (r ≡ entryField (now (s .entry)) i k) × (r < 0x1_0000_0000) ⌝ }
 {
-    reader_head::word(s, 64 + 16 * i + k)
+    fields::word(s, 64 + 16 * i + k)
 }
 
 // The first of n entries that has a type; n where none has it.

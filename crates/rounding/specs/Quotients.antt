@@ -1,6 +1,6 @@
 -- Differences and quotients of whole numbers as floats: the difference is exact, and two rounded quotients compare as the exact ones do. Assumes nothing.
 use mathlib.Core.Path.{_≡_, refl, sym, ap₂, _∙_, subst}
-use Prim.Native.Nat.{ℕ, zero, _+_, _-_, _*_, _^_, _≤_, _<_}
+use Prim.Native.Nat.{ℕ, _+_, _-_, _*_, _^_, _≤_, _<_}
 use native.Mathlib.Nat.{le-trans, le-of-lt, lt-of-lt-of-le}
 use native.Mathlib.Omega.{arith}
 use mathlib.Core.Bool.{Bool, true, false, not, _&&_, _||_, cond, and-true}

@@ -1,7 +1,7 @@
 -- The comparisons of two floats by the fractions that they equal; and of two rounded fractions by their cross products. Assumes nothing.
 use mathlib.Core.Path.{_≡_, refl, sym, ap, ap₂, _∙_}
 use mathlib.Core.Logic.{_⊎_, inl, inr}
-use Prim.Native.Nat.{ℕ, zero, suc, _+_, _-_, _*_, _/_, _^_, _≤_, _<_}
+use Prim.Native.Nat.{ℕ, zero, suc, _+_, _-_, _*_, _^_, _≤_, _<_}
 use native.Mathlib.Nat.{le-trans, le-of-lt, lt-of-le-of-lt, lt-of-not-le, mul-le-mul-right, mul-le-mul-left, mul-pos, zero-mul, eq-of-mul-eq-mul-right, eq-zero-or-pos, mul-le-mul, add-le-add}
 use native.Mathlib.Omega.{arith}
 use mathlib.Core.Bool.{Bool, _||_}

@@ -6,11 +6,11 @@ use harness::Said;
 use harness::float;
 use harness::number;
 use harness::size;
-use reader_grid::Candidate;
-use reader_grid::Choice;
-use reader_names::Bounds;
-use reader_opened::Opened;
-use tzb::Opening;
+use opened::Opened;
+use replies::Bounds;
+use replies::Candidate;
+use replies::Choice;
+use replies::Opening;
 
 fn is_at(b: Bounds, q: &[u8]) -> bool {
     match b {

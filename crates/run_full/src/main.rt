@@ -2,7 +2,7 @@
 // full check accepts it, opening's number where that refuses it, else 47 and a hundred times the lowest broken rule. Writes how many are
 // answered so before the first difference or the list's end.
 use harness::Tally;
-use tzb::FullCheck;
+use replies::FullCheck;
 
 // Whether the port says of the record's file what its number says.
 fn is_same(r: &[u8; 1024]) -> bool {

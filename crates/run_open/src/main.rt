@@ -2,9 +2,9 @@
 // and writes how many are answered so before the first difference or the list's end. A file that opens is then asked for its first
 // name, for one past its last zone (45), and for a name and a chunk of which the bytes are not lent (44).
 use harness::Tally;
-use reader_opened::Opened;
+use opened::Opened;
 use reader_records::ChunkAt;
-use tzb::Opening;
+use replies::Opening;
 
 // The number by which chunk 0 is refused, or 0.
 fn first_chunk(o: Opened, file: &[u8]) -> u32 {

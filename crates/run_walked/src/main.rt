@@ -8,11 +8,11 @@ use harness::float;
 use harness::number;
 use harness::size;
 use harness::whole;
-use reader_lookup::Found;
-use reader_lookup::Listing;
-use reader_opened::Opened;
-use reader_rings::Verdict;
-use tzb::Opening;
+use opened::Opened;
+use replies::Found;
+use replies::Listing;
+use replies::Opening;
+use replies::Verdict;
 
 // ---- lent memory: 64 places. Each holds 1,234,567,890, which is neither a coordinate nor a zone.
 
@@ -144,7 +144,7 @@ fn is_answered(o: Opened, s: &[u8], q: &[u8]) -> bool {
     let zone = number(q, 4);
     match number(q, 0) {
         1 => is_decoded(o, s, q),
-        2 => verdict(reader_rings::contains(o, s, zone, whole(q, 8), whole(q, 12))).is_expected(q),
+        2 => verdict(reader_zones::contains(o, s, zone, whole(q, 8), whole(q, 12))).is_expected(q),
         3 => found(reader_lookup::lookup(o, s, float(q, 16), float(q, 24))).is_expected(q),
         4 => is_listed(o, s, q),
         _ => false,

@@ -11,7 +11,6 @@ use Rattle.plane.specs.Domain.{inDomain}
 use Rattle.plane.specs.Lines.{every}
 use Rattle.plane.specs.Runs.{run}
 use Rattle.boxes.specs.Box.{boxInDomain}
-use Rattle.tzb_core.specs.Ray.{pointOf}
 use Rattle.shapes.specs.Shapes.{groupChunks, zoneIn, chunkInDomain, groupInDomain, legInDomain, ringInDomain, polygonInDomain, zoneInDomain}
 use Rattle.shapes.specs.Walk.{floatTests, wholeTests, zoneWalk}
 use Rattle.shapes.specs.Layout.{Directories, groupAt, legAt, ringAt, polygonAt, zoneAt, Named, Covered, Domain}
@@ -19,6 +18,7 @@ use Rattle.shapes.proofs.Fits.{below, named, named-apart, zone-fits}
 use Rattle.shapes.proofs.Whole.{skips-are-exact}
 use Rattle.shapes.proofs.Elsewhere.{zone-elsewhere}
 use Rattle.shapes.proofs.Floats.{float-walk-exact}
+use Rattle.plane.specs.Places.{pointOf}
 
 module _ (d : Directories) (n : Named d) (c : Covered d) where
   -- in whole numbers, wherever the file lies

@@ -9,16 +9,17 @@ use lib.IntN.{ℤ, natAbs}
 use Rattle.basics.specs.Truth.{and-l, and-r}
 use Rattle.plane.specs.declared.I32Point.{I32Point}
 use Rattle.plane.specs.Segment.{seg}
-use Rattle.plane.specs.Domain.{inDomain, domain-x, domain-y}
+use Rattle.plane.specs.Domain.{inDomain}
 use Rattle.boxes.specs.declared.BBox.{BBox}
 use Rattle.boxes.specs.Box.{contains, relevant, right, ordered, least, greatest, boxInDomain}
-use Rattle.tzb_core.specs.Ray.{pointOf}
 use Rattle.tzb_core.proofs.Order.{le-float, lt-float, above-float}
 use Rattle.tzb_core.proofs.Exact.{ray-exact}
 use Rattle.shapes.specs.Shapes.{Zone, inBox, zoneFits, zoneInDomain, zoneIn}
 use Rattle.shapes.specs.Walk.{floatTests, wholeTests, zoneWalk}
 use Rattle.shapes.proofs.Whole.{skips-are-exact}
 use Rattle.shapes.proofs.Agree.{Agree, zone-agree}
+use Rattle.plane.specs.Places.{pointOf}
+use Rattle.plane.proofs.DomainLaws.{domain-x, domain-y}
 
 abbrev Near : ℤ → Type 0
 Near z = natAbs z ≤ 18_000_000

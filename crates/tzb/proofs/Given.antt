@@ -12,24 +12,30 @@ use lib.Ieee.{Float}
 use Rattle.basics.specs.Truth.{and-l, and-r}
 use Rattle.fields.specs.Le.{le}
 use Rattle.answer.specs.declared.Refusal.{Refusal}
-use Rattle.answer.specs.CheckLaws.{fine-one, fine-rest, fine-claim, same-eq, at-le, ne-same}
-use Rattle.answer.specs.Answers.{Answer, ok, refused, _before_, zero-one, ok-inv, Check, fine}
+use Rattle.answer.proofs.CheckLaws.{fine-one, fine-rest, fine-claim, same-eq, at-le, ne-same}
+use Rattle.answer.specs.Answers.{Answer, ok, refused, _before_, Check, fine}
 use Rattle.reader_head.specs.Head.{headCheck, fieldsCheck, isCount}
 use Rattle.reader_table.specs.Table.{sections, has, sectionOf}
-use Rattle.reader_opened.specs.declared.Directory.{Directory}
+use Rattle.opened.specs.declared.Directory.{Directory}
 use Rattle.reader_opened.specs.declared.Sections.{Sections}
-use Rattle.reader_opened.specs.declared.Grid.{Grid}
-use Rattle.reader_opened.specs.declared.Opened.{Opened}
-use Rattle.reader_opened.specs.Opened.{bit, flagCheck, zonesCheck, countsCheck, sectionsOf, gridOf, directoryOf, openedOf, Within, Tabled, within}
+use Rattle.opened.specs.declared.Grid.{Grid}
+use Rattle.opened.specs.declared.Opened.{Opened}
+use Rattle.reader_opened.specs.Opened.{bit, flagCheck, zonesCheck, countsCheck, sectionsOf, gridOf, directoryOf, openedOf, Tabled}
 use Rattle.reader_names.specs.Names.{namesCheck}
 use Rattle.reader_names.proofs.Accepted.{NameGiven, name-given}
 use Rattle.reader_grid.specs.Grid.{gridCheck}
 use Rattle.reader_grid.specs.Asked.{candidatesOf}
 use Rattle.reader_grid.proofs.Accepted.{ChosenGiven, candidates-given}
-use Rattle.reader_records.specs.Records.{place, recordAt, record-at, chunkAt, chunkRule, groupAt, groupRule}
-use Rattle.reader_dirs.specs.Dirs.{chunkOf, groupOf, chunksCheck, groupsCheck, countAt, total, Lies, Room}
+use Rattle.reader_records.specs.Records.{place, recordAt, chunkAt, chunkRule, groupAt, groupRule}
+use Rattle.reader_dirs.specs.Dirs.{chunkOf, groupOf, chunksCheck, groupsCheck, countAt, Lies, Room}
 use Rattle.reader_dirs.proofs.Accepted.{chunk-kept, chunk-found, chunk-some, chunk-inside, rises, group-kept, group-found, group-sum}
-use Rattle.tzb.specs.Opening.{tableCheck, sizesCheck, namesIn, gridIn, contentsCheck, gridIs, openedIs, openOf, Placed, tabled, placed, lies, room}
+use Rattle.tzb.specs.Opening.{tableCheck, sizesCheck, namesIn, gridIn, contentsCheck, gridIs, openedIs, openOf, Placed}
+use Rattle.opened.specs.Within.{Within}
+use Rattle.basics.specs.Total.{total}
+use Rattle.answer.proofs.AnswersLaws.{zero-one, ok-inv}
+use Rattle.reader_opened.proofs.OpenedLaws.{within}
+use Rattle.reader_records.proofs.RecordsLaws.{record-at}
+use Rattle.tzb.proofs.OpeningLaws.{tabled, placed, lies, room}
 
 -- an answer that was given after a check
 before-inv : {A : Type 0} (c : Check) (x : Answer A) (a : A) → ok a ≡ (c before x) → (c ≡ fine) × (ok a ≡ x)

@@ -11,16 +11,18 @@ use lib.ListN.{length}
 use lib.IntN.{ℤ}
 use Rattle.fields.specs.Part.{part}
 use Rattle.plane.specs.declared.I32Point.{I32Point}
-use Rattle.answer.specs.Answers.{Answer, ok, need, need-met, _then_, then-ok}
+use Rattle.answer.specs.Answers.{Answer, ok, need, _then_}
 use Rattle.tzb_core.specs.Points.{firstOf}
 use Rattle.tzb_core.specs.Decode.{pointsOf}
-use Rattle.reader_opened.specs.declared.Opened.{Opened}
+use Rattle.opened.specs.declared.Opened.{Opened}
 use Rattle.reader_records.specs.declared.ChunkRecord.{ChunkRecord}
 use Rattle.reader_records.specs.Records.{chunkAt}
 use Rattle.reader_dirs.specs.Dirs.{chunkOf}
-use Rattle.reader_chunks.specs.Chunks.{startOf, endOf, span, bytesOf, firstIn, firstAt, chunkPoints, decodeBy, decodeIn, end-last, end-is, span-is}
+use Rattle.reader_chunks.specs.Chunks.{startOf, endOf, span, bytesOf, firstIn, firstAt, chunkPoints, decodeBy, decodeIn}
 use Rattle.tzb.specs.Opening.{openOf}
 use Rattle.tzb.proofs.Given.{chunk-answered, chunk-counts, chunk-begins, chunks-rise, points-within}
+use Rattle.answer.proofs.AnswersLaws.{need-met, then-ok}
+use Rattle.reader_chunks.proofs.ChunksLaws.{end-last, end-is, span-is}
 
 -- where a chunk ends
 pub record ChunkEnd (o : Opened) (file : List ℕ) (i : ℕ) : Type 0 where

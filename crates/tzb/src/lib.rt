@@ -2,10 +2,12 @@
 ghost use mathlib.Core.Path.{_≡_};
 ghost use Rattle.answer.specs.Answers.{checkedTold};
 ghost use Rattle.reader_opened.specs.Opened.{openedOf};
-ghost use Rattle.tzb.specs.FullCheck.{fullCheckOf, checkTold};
-ghost use Rattle.tzb.specs.Opening.{tableCheck, sizesCheck, namesIn, gridIn, contentsCheck, openOf, told, Placed};
+ghost use Rattle.tzb.specs.FullCheck.{fullCheckOf};
+ghost use Rattle.tzb.specs.Opening.{tableCheck, sizesCheck, namesIn, gridIn, contentsCheck, openOf, Placed};
+ghost use Rattle.replies.specs.Replies.{checkTold, openingTold};
 use answer::Checked;
-use answer::Refusal;
+use opened::Grid;
+use opened::Opened;
 pub use reader_chunks::decode_chunk_points;
 pub use reader_grid::candidate_at;
 pub use reader_grid::candidates;
@@ -13,8 +15,6 @@ pub use reader_lookup::lookup;
 pub use reader_lookup::lookup_into;
 pub use reader_names::name;
 pub use reader_names::name_refusal;
-use reader_opened::Grid;
-use reader_opened::Opened;
 use reader_opened::Sections;
 pub use reader_records::chunk_at;
 pub use reader_records::group_at;
@@ -22,12 +22,9 @@ pub use reader_records::op_at;
 pub use reader_records::poly_at;
 pub use reader_records::ring_at;
 pub use reader_records::tz_at;
-pub use reader_rings::contains;
-
-pub enum Opening {
-    Done(Opened),
-    Refused(Refusal),
-}
+pub use reader_zones::contains;
+use replies::FullCheck;
+use replies::Opening;
 
 // 1 to 18: the header, the section table, the sections that there must be.
 fn table(s: &[u8]) -> Checked
@@ -68,9 +65,9 @@ fn names(s: &[u8], p: Sections) -> Checked
     requires { ⌜ Placed (now s) p ⌝ }
     ensures { λ r. ⌜ checkedTold r ≡ namesIn (now (s .entry)) p ⌝ }
 {
-    let at = reader_head::wide(p.names.off);
-    let len = reader_head::wide(p.names.len);
-    let n = reader_head::wide(p.zones);
+    let at = fields::wide(p.names.off);
+    let len = fields::wide(p.names.len);
+    let n = fields::wide(p.zones);
     reader_names::names(s, at, len, n)
 }
 
@@ -83,7 +80,7 @@ fn grid(s: &[u8], p: Sections, g: Grid) -> Checked
         return Checked::Fine;
     }
     let part = p.gridpart;
-    let n = reader_head::wide(p.zones);
+    let n = fields::wide(p.zones);
     reader_grid::grid(s, part, g, n)
 }
 
@@ -113,7 +110,7 @@ fn contents(s: &[u8], p: Sections, g: Grid, o: Opened) -> Checked
 
 // The opened record, or the first refusal.
 pub fn open(file: &[u8]) -> Opening
-    ensures { λ r. ⌜ told r ≡ openOf (now (file .entry)) ⌝ }
+    ensures { λ r. ⌜ openingTold r ≡ openOf (now (file .entry)) ⌝ }
 {
     let a = table(file);
     if let Checked::Refused(k) = a {
@@ -128,13 +125,6 @@ pub fn open(file: &[u8]) -> Opening
         return Opening::Refused(k);
     }
     Opening::Done(o)
-}
-
-// What the full check says: accepted; opening's refusal; or 47 with the lowest broken rule, 2 to 6.
-pub enum FullCheck {
-    Accepted,
-    Refused(Refusal),
-    Broken(Refusal, u32),
 }
 
 // Checks F1 to F6 over the whole file. Of an accepted file no question is refused but for a number that is too large, a place of the candidate list that no cell lists, or room that is too short.

@@ -7,16 +7,18 @@ use mathlib.Core.Bool.{Bool, true, false, cond}
 use mathlib.Core.List.{List}
 use lib.IntN.{ℤ}
 use lib.Ieee.{Float}
-use Rattle.answer.specs.Answers.{Answer, ok, refused, _then_, zero-one, then-inv, need-inv, ok-inv}
+use Rattle.answer.specs.Answers.{Answer, ok, refused, _then_}
 use Rattle.answer.specs.Checks.{below, same}
-use Rattle.answer.specs.CheckLaws.{below-lt}
+use Rattle.answer.proofs.CheckLaws.{below-lt}
 use Rattle.plane.specs.declared.Point.{Point}
 use Rattle.fields.specs.Loads.{loadAt}
-use Rattle.reader_opened.specs.declared.Grid.{Grid}
-use Rattle.reader_opened.specs.declared.Opened.{Opened}
-use Rattle.reader_grid.specs.Asked.{Chosen, none, all, listed, onEarth, inGrid, read, cellOf, cellCandidates, candidatesOf, candidatePlace, zoneBelow, candidateAt}
-use Rattle.reader_rings.specs.Zones.{zoneOf}
-use Rattle.reader_lookup.specs.Asking.{Sought, nowhere, inZone, orElse, candidateOf, hitAt, firstHit, unlooked, scaled, lookupAmong, lookupOf}
+use Rattle.opened.specs.declared.Grid.{Grid}
+use Rattle.opened.specs.declared.Opened.{Opened}
+use Rattle.reader_grid.specs.Asked.{onEarth, inGrid, read, cellOf, cellCandidates, candidatesOf, candidatePlace, zoneBelow, candidateAt}
+use Rattle.reader_zones.specs.Zones.{zoneOf}
+use Rattle.reader_lookup.specs.Asking.{orElse, candidateOf, hitAt, firstHit, unlooked, scaled, lookupAmong, lookupOf}
+use Rattle.replies.specs.Replies.{Chosen, none, all, listed, Sought, nowhere, inZone}
+use Rattle.answer.proofs.AnswersLaws.{zero-one, then-inv, need-inv, ok-inv}
 
 -- ---- a zone at a place of the candidate list
 listed-below : (o : Opened) (s : List ℕ) (place zone : ℕ) → ok zone ≡ candidateAt o s place → zone < o .zones .count

@@ -1,32 +1,27 @@
 // Every question, asked with the opened record as bytes beside the file's bytes. A record that cannot be read is refused first; none is trusted.
 ghost use mathlib.Core.Path.{_≡_};
 ghost use lib.ListN.{length};
-ghost use Rattle.answer.specs.Answers.{checkedTold};
-ghost use Rattle.tzb_core.specs.Points.{point};
-ghost use Rattle.tzb_core.specs.Decode.{outcome, filled};
+ghost use Rattle.answer.specs.Answers.{checkedTold, outcome, left, howMany};
+ghost use Rattle.tzb_core.specs.Decode.{filled};
 ghost use Rattle.reader_chunks.specs.Chunks.{decodeIn};
-ghost use Rattle.tzb_asked.specs.Asked.{nameTold, choiceTold, candidateTold, verdictTold, countTold, foundTold, listingTold, placesAfter, howMany, countAt, nameAsked, endsAsked, endsAfter, choiceAsked, candidateAsked, containsAsked, decodeAsked, lookupAsked, listAsked};
+ghost use Rattle.tzb_asked.specs.Asked.{nameAsked, endsAsked, endsAfter, choiceAsked, candidateAsked, containsAsked, decodeAsked, lookupAsked, listAsked, chunkCount};
+ghost use Rattle.plane.specs.Places.{point};
+ghost use Rattle.replies.specs.Replies.{boundsTold, choiceTold, candidateTold, verdictTold, countTold, foundTold, listingTold};
 use answer::Checked;
-use answer::Refusal;
-use reader_grid::Candidate;
-use reader_grid::Choice;
-use reader_lookup::Found;
-use reader_lookup::Listing;
-use reader_names::Bounds;
-use reader_opened::Opened;
+use opened::Opened;
 use reader_records::ChunkAt;
-use reader_rings::Verdict;
+use replies::Bounds;
+use replies::Candidate;
+use replies::Choice;
+use replies::Count;
+use replies::Found;
+use replies::Listing;
+use replies::Verdict;
 use tzb_record::RecordRead;
-
-// How many points or zones there are.
-pub enum Count {
-    Is(u32),
-    Refused(Refusal),
-}
 
 // Where a zone's name stands in the file.
 pub fn name_bounds(record: &[u8], file: &[u8], zone: u32) -> Bounds
-    ensures { λ r. ⌜ nameTold r ≡ nameAsked (now («record» .entry)) (now (file .entry)) zone ⌝ }
+    ensures { λ r. ⌜ boundsTold r ≡ nameAsked (now («record» .entry)) (now (file .entry)) zone ⌝ }
 {
     let a = tzb_record::read_record(record);
     match a {
@@ -83,13 +78,13 @@ pub fn contains(record: &[u8], file: &[u8], zone: u32, x: i32, y: i32) -> Verdic
     let a = tzb_record::read_record(record);
     match a {
         RecordRead::Refused(k) => Verdict::Refused(k),
-        RecordRead::Is(o) => reader_rings::contains(o, file, zone, x, y),
+        RecordRead::Is(o) => reader_zones::contains(o, file, zone, x, y),
     }
 }
 
 // The point count of a chunk's record, 0 where there is none.
 fn points_in(o: Opened, file: &[u8], index: usize) -> u32
-    ensures { λ r. ⌜ r ≡ countAt o (now (file .entry)) index ⌝ }
+    ensures { λ r. ⌜ r ≡ chunkCount o (now (file .entry)) index ⌝ }
 {
     let a = reader_records::chunk_at(o, file, index);
     match a {
@@ -103,7 +98,7 @@ fn decode_opened(o: Opened, file: &[u8], chunk: u32, out: &mut [i32]) -> Count
     ensures { λ r. ⌜ countTold r ≡ howMany (decodeIn o (now (file .entry)) chunk (now (out .entry))) ⌝ }
     ensures memory { λ r. ⌜ now (out .exit) ≡ filled (now (out .entry)) (decodeIn o (now (file .entry)) chunk (now (out .entry))) ⌝ }
 {
-    let index = reader_head::wide(chunk);
+    let index = fields::wide(chunk);
     let a = reader_chunks::decode_chunk_points(o, file, index, out);
     match a {
         Checked::Refused(k) => Count::Refused(k),
@@ -137,7 +132,7 @@ pub fn lookup(record: &[u8], file: &[u8], lng: f64, lat: f64) -> Found
 // All zones that a position lies in, in the order of their names, into the first places of `zones`: how many there are. A refusal leaves the lent places as they were, and those behind the zones are never touched.
 pub fn lookup_into(record: &[u8], file: &[u8], lng: f64, lat: f64, zones: &mut [u32]) -> Listing
     ensures { λ r. ⌜ listingTold r ≡ howMany (listAsked (now («record» .entry)) (now (file .entry)) lng lat (length (now (zones .entry)))) ⌝ }
-    ensures memory { λ r. ⌜ now (zones .exit) ≡ placesAfter (now (zones .entry)) (listAsked (now («record» .entry)) (now (file .entry)) lng lat (length (now (zones .entry)))) ⌝ }
+    ensures memory { λ r. ⌜ now (zones .exit) ≡ left (now (zones .entry)) (listAsked (now («record» .entry)) (now (file .entry)) lng lat (length (now (zones .entry)))) ⌝ }
 {
     let a = tzb_record::read_record(record);
     match a {

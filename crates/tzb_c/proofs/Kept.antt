@@ -7,12 +7,12 @@ use mathlib.Core.List.{List}
 use lib.ListN.{length, take, getD}
 use lib.Ieee.{Float}
 use Rattle.answer.specs.declared.Refusal.{Refusal}
-use Rattle.answer.specs.CheckLaws.{fine-claim, at-le}
-use Rattle.answer.specs.Answers.{Answer, ok, refused, _then_, _before_, then-ok, then-inv, Check, fine}
-use Rattle.reader_opened.specs.declared.Opened.{Opened}
+use Rattle.answer.proofs.CheckLaws.{fine-claim, at-le}
+use Rattle.answer.specs.Answers.{Answer, ok, refused, _then_, _before_, Check, fine}
+use Rattle.opened.specs.declared.Opened.{Opened}
 use Rattle.reader_names.specs.Asked as N
 use Rattle.reader_names.proofs.Places.{bounds-good}
-use Rattle.reader_lookup.specs.Asking.{inZone, lookupOf}
+use Rattle.reader_lookup.specs.Asking.{lookupOf}
 use Rattle.tzb_record.specs.Layout.{recordOf, roomFor, Held}
 use Rattle.tzb_record.proofs.RoundTrip.{written-back}
 use Rattle.tzb_record.proofs.Widths.{opened-held}
@@ -20,7 +20,10 @@ use Rattle.tzb.specs.Opening.{openOf}
 use Rattle.tzb.proofs.Given.{opened-is, zones-few}
 use Rattle.tzb_asked.specs.Asked.{nameAsked, lookupAsked}
 use Rattle.tzb_asked.proofs.Zones.{found-below}
-use Rattle.tzb_c.specs.Opens.{openInto, keptIn, lookupOnce, kept-is}
+use Rattle.tzb_c.specs.Opens.{openInto, keptIn, lookupOnce}
+use Rattle.replies.specs.Replies.{inZone}
+use Rattle.answer.proofs.AnswersLaws.{then-ok, then-inv}
+use Rattle.tzb_c.proofs.OpensLaws.{kept-is}
 
 never : {A : Type 0} {B : Type 0} (a : A) (k : Refusal) → ok a ≡ refused k → B
 never a k e = let no : _≡_ {A = ℕ} 0 1 = cc in absurd (omega arith)

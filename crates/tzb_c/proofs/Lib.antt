@@ -1,3 +1,5 @@
 -- What follows from the exports' promises.
+pub mod OpensLaws
+pub mod ExportsLaws
 pub mod Kept
 pub mod Determined

@@ -1,13 +1,8 @@
 -- What the exports tell beside tzb_codes: counts, zones and places. And those for comparison runs.
 -- Assumes nothing.
 use Prim.Native.Nat.{ℕ, _-_}
-use mathlib.Core.Path.{_≡_}
 use lib.IntN.{ℤ, pos}
-use lib.Ieee.{Float}
-use Rattle.answer.specs.declared.Refusal.{Refusal}
 use Rattle.answer.specs.Answers.{Answer, ok, refused}
-use Rattle.plane.specs.declared.Point.{Point}
-use Rattle.plane.specs.declared.I32Point.{I32Point}
 use Rattle.boxes.specs.declared.BBox.{BBox}
 use Rattle.tzb_codes.specs.Codes.{refusalCode}
 
@@ -39,27 +34,3 @@ lengthFrom p (refused r) = refusalCode r
 
 abbrev pub boxOf : ℤ → ℤ → ℤ → ℤ → BBox
 boxOf minx miny maxx maxy = record { minx = minx; miny = miny; maxx = maxx; maxy = maxy }
-
-abbrev pub pointOf : Float → Float → Point
-pointOf x y = record { x = x; y = y }
-
-abbrev pub placeOf : ℤ → ℤ → I32Point
-placeOf x y = record { x = x; y = y }
-
--- ---- laws
-module _ (x : Answer (ℤ × ℕ)) where
-  pub number-no : (r : Refusal) → refused r ≡ x → pos 0 ≡ numberOf x
-  unfolding numberOf
-  number-no r e = rw (← e)
-
-  pub number-is : (z : ℤ) (q : ℕ) → ok (z, q) ≡ x → z ≡ numberOf x
-  unfolding numberOf
-  number-is z q e = rw (← e)
-
-  pub length-no : (p : ℕ) (r : Refusal) → refused r ≡ x → refusalCode r ≡ lengthFrom p x
-  unfolding lengthFrom
-  length-no p r e = rw (← e)
-
-  pub length-is : (p : ℕ) (z : ℤ) (q : ℕ) → ok (z, q) ≡ x → pos (q - p) ≡ lengthFrom p x
-  unfolding lengthFrom
-  length-is p z q e = rw (← e)

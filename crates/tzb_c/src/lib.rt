@@ -8,23 +8,25 @@ ghost use lib.ListN.{length};
 ghost use Rattle.boxes.specs.Box.{contains, relevant};
 ghost use Rattle.tzb_core.specs.Ray.{rayOf, parityOf};
 ghost use Rattle.tzb_core.specs.Varint.{numberAt};
-ghost use Rattle.tzb_core.specs.Points.{point};
 ghost use Rattle.tzb_core.specs.Decode.{filled};
 ghost use Rattle.tzb.specs.FullCheck.{fullCheckOf};
-ghost use Rattle.tzb_asked.specs.Asked.{foundTold, zonesAsked, nameAsked, endsAsked, endsAfter, choiceAsked, candidateAsked, containsAsked, decodeAsked, lookupAsked, listAsked, placesAfter, howMany};
+ghost use Rattle.tzb_asked.specs.Asked.{zonesAsked, nameAsked, endsAsked, endsAfter, choiceAsked, candidateAsked, containsAsked, decodeAsked, lookupAsked, listAsked};
 ghost use Rattle.tzb_codes.specs.Codes.{bitOf, doneCode, kindCode, listedOf, insideCode, zoneCode, checkCode, ruleOf, seenCode};
 ghost use Rattle.tzb_c.specs.Opens.{openInto, keptIn, lookupOnce};
-ghost use Rattle.tzb_c.specs.Exports.{numberCode, startCode, endCode, numberOf, lengthFrom, boxOf, pointOf, placeOf};
+ghost use Rattle.tzb_c.specs.Exports.{numberCode, startCode, endCode, numberOf, lengthFrom, boxOf};
+ghost use Rattle.plane.specs.Places.{point, position};
+ghost use Rattle.replies.specs.Replies.{foundTold};
+ghost use Rattle.answer.specs.Answers.{left, howMany};
 use answer::Checked;
 use boxes::BBox;
 use plane::I32Point;
 use plane::Point;
-use reader_grid::Candidate;
-use reader_lookup::Found;
-use reader_lookup::Listing;
-use reader_names::Bounds;
-use tzb::Opening;
-use tzb_asked::Count;
+use replies::Bounds;
+use replies::Candidate;
+use replies::Count;
+use replies::Found;
+use replies::Listing;
+use replies::Opening;
 use tzb_core::varint::Place;
 use tzb_core::varint::Read;
 use tzb_record::RecordRead;
@@ -183,7 +185,7 @@ pub extern "C" fn tzb_ask_all(
     zones: &mut [u32],
 ) -> i64
     ensures { λ r. ⌜ r ≡ numberCode (howMany (listAsked (now («record» .entry)) (now (file .entry)) lng lat (length (now (zones .entry))))) ⌝ }
-    ensures memory { λ r. ⌜ now (zones .exit) ≡ placesAfter (now (zones .entry)) (listAsked (now («record» .entry)) (now (file .entry)) lng lat (length (now (zones .entry)))) ⌝ }
+    ensures memory { λ r. ⌜ now (zones .exit) ≡ left (now (zones .entry)) (listAsked (now («record» .entry)) (now (file .entry)) lng lat (length (now (zones .entry)))) ⌝ }
 {
     let a = tzb_asked::lookup_into(record, file, lng, lat, zones);
     match a {
@@ -246,7 +248,7 @@ pub extern "C" fn tzb_box_contains(
     x: f64,
     y: f64,
 ) -> u32
-    ensures { λ r. ⌜ r ≡ bitOf (contains (boxOf minx miny maxx maxy) (pointOf x y)) ⌝ }
+    ensures { λ r. ⌜ r ≡ bitOf (contains (boxOf minx miny maxx maxy) (position x y)) ⌝ }
 {
     let b = BBox {
         minx,
@@ -267,7 +269,7 @@ pub extern "C" fn tzb_box_relevant(
     x: f64,
     y: f64,
 ) -> u32
-    ensures { λ r. ⌜ r ≡ bitOf (relevant (boxOf minx miny maxx maxy) (pointOf x y)) ⌝ }
+    ensures { λ r. ⌜ r ≡ bitOf (relevant (boxOf minx miny maxx maxy) (position x y)) ⌝ }
 {
     let b = BBox {
         minx,
@@ -297,7 +299,7 @@ pub extern "C" fn tzb_utf8(bytes: &[u8]) -> u32
 // What the point sees of the segment from a to b: 2 it is on it, 1 the segment counts, 0 neither.
 #[no_mangle]
 pub extern "C" fn tzb_ray(ax: i32, ay: i32, bx: i32, by: i32, x: f64, y: f64) -> i32
-    ensures { λ r. ⌜ r ≡ seenCode (rayOf (placeOf ax ay) (placeOf bx by) (pointOf x y)) ⌝ }
+    ensures { λ r. ⌜ r ≡ seenCode (rayOf (point ax ay) (point bx by) (position x y)) ⌝ }
 {
     let a = I32Point { x: ax, y: ay };
     let b = I32Point { x: bx, y: by };
@@ -307,7 +309,7 @@ pub extern "C" fn tzb_ray(ax: i32, ay: i32, bx: i32, by: i32, x: f64, y: f64) ->
 // 1 where one end alone is above the point, 0 where not.
 #[no_mangle]
 pub extern "C" fn tzb_parity(ax: i32, ay: i32, bx: i32, by: i32, x: f64, y: f64) -> u32
-    ensures { λ r. ⌜ r ≡ bitOf (parityOf (pointOf x y) (placeOf ax ay) (placeOf bx by)) ⌝ }
+    ensures { λ r. ⌜ r ≡ bitOf (parityOf (position x y) (point ax ay) (point bx by)) ⌝ }
 {
     let a = I32Point { x: ax, y: ay };
     let b = I32Point { x: bx, y: by };

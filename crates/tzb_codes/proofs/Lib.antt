@@ -1,2 +1,3 @@
 -- What follows from the promises.
+pub mod CodesLaws
 pub mod Determined

@@ -1,17 +1,12 @@
 -- Answers as single numbers, for the exports. Document 01, "Port order": -1000 - n for refusal n.
 -- Assumes nothing.
-use Prim.Native.Nat.{ℕ, _+_, _*_, _≤_, _<_, min}
-use native.Mathlib.Omega.{arith}
-use mathlib.Core.Path.{_≡_, refl, ap}
+use Prim.Native.Nat.{ℕ, _+_, _*_, min}
 use mathlib.Core.Bool.{Bool, true, false}
 use lib.IntN.{ℤ, pos, negsuc}
 use Rattle.answer.specs.declared.Refusal.{Refusal}
 use Rattle.answer.specs.Answers.{Answer, ok, refused}
 use Rattle.plane.specs.Sight.{Sight, On, Off}
-use Rattle.tzb_core.specs.Decode.{outcome}
-use Rattle.reader_grid.specs.Asked.{Chosen, none, all, listed}
-use Rattle.reader_lookup.specs.Asking.{Sought, nowhere, inZone}
-use Rattle.reader_check.specs.FullCheck.{Outcome, accepted, refusedBy, brokenAt}
+use Rattle.replies.specs.Replies.{Chosen, none, all, listed, Sought, nowhere, inZone, Outcome, accepted, refusedBy, brokenAt}
 
 -- yes is 1, no is 0
 abbrev pub bitOf : Bool → ℕ
@@ -71,18 +66,3 @@ abbrev pub seenCode : Sight → ℤ
 seenCode On = pos 2
 seenCode (Off true) = pos 1
 seenCode (Off false) = pos 0
-
--- ---- laws
-module _ (r : Refusal) where
-  pub code-small : r .number < 1000 → negsuc (999 + r .number) ≡ refusalCode r
-  unfolding refusalCode
-  code-small h = ap negsuc (omega arith)
-
-  pub code-held : 1000 ≤ r .number → negsuc 1998 ≡ refusalCode r
-  unfolding refusalCode
-  code-held h = ap negsuc (omega arith)
-
--- whether an answer was given is told as the answer is
-pub done-outcome : {A : Type 0} (x : Answer A) → doneCode (outcome x) ≡ doneCode x
-done-outcome (ok a) = refl
-done-outcome (refused k) = refl

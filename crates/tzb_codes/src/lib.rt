@@ -2,16 +2,15 @@
 ghost use mathlib.Core.Path.{_≡_};
 ghost use Rattle.answer.specs.Answers.{checkedTold};
 ghost use Rattle.plane.specs.Sight.{seenTold};
-ghost use Rattle.tzb.specs.FullCheck.{checkTold};
-ghost use Rattle.tzb_asked.specs.Asked.{choiceTold, verdictTold, foundTold};
 ghost use Rattle.tzb_codes.specs.Codes.{bitOf, refusalCode, doneCode, kindCode, listedOf, insideCode, zoneCode, checkCode, ruleOf, seenCode};
+ghost use Rattle.replies.specs.Replies.{checkTold, choiceTold, verdictTold, foundTold};
 use answer::Checked;
 use answer::Refusal;
 use plane::Seen;
-use reader_grid::Choice;
-use reader_lookup::Found;
-use reader_rings::Verdict;
-use tzb::FullCheck;
+use replies::Choice;
+use replies::Found;
+use replies::FullCheck;
+use replies::Verdict;
 
 // 1 yes, 0 no.
 pub fn bit(b: bool) -> u32

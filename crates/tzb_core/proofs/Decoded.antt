@@ -1,29 +1,20 @@
 -- Points read, checked and written: one point more, and the whole. What is written is what the definition says.
 -- Assumes nothing.
-use Prim.Native.Nat.{ℕ, zero, suc, _+_, _-_, _*_, _≤_, _<_}
+use Prim.Native.Nat.{ℕ, zero, suc, _+_, _-_, _*_, _≤_}
 use native.Mathlib.Omega.{arith}
 use mathlib.Core.Path.{_≡_, refl, sym, ap, _∙_}
-use mathlib.Core.Bool.{Bool, true, false}
 use mathlib.Core.List.{List, [], _∷_, _++_, append-assoc}
 use lib.ListN.{length, length-append, set, take, drop}
 use lib.Seq.{set-at, take-append-seam}
 use lib.IntN.{ℤ}
 use Rattle.answer.specs.declared.Refusal.{Refusal}
-use Rattle.answer.specs.Checks.{claim}
-use Rattle.answer.specs.Answers.{Answer, ok, refused, _then_, need, zero-one, then-inv, need-inv, ok-inv, fine}
+use Rattle.answer.specs.Answers.{Answer, ok, refused, _then_, fine, outcome}
 use Rattle.plane.specs.declared.I32Point.{I32Point}
 use Rattle.tzb_core.specs.Varint.{atEnd}
 use Rattle.tzb_core.specs.Points.{nextAt}
-use Rattle.tzb_core.specs.Decode.{led, pointsFrom, outcome, flat, filled, readFrom, put, points-last, points-next}
-
--- ---- what an outcome was made of
-pub outcome-fine : {A : Type 0} (x : Answer A) → fine ≡ outcome x → (a : A) × (ok a ≡ x)
-outcome-fine (ok a) e = (a, refl)
-outcome-fine (refused r) e = let z : _≡_ {A = ℕ} 0 1 = cc in absurd (zero-one z)
-
-pub outcome-no : {A : Type 0} (x : Answer A) (r : Refusal) → refused r ≡ outcome x → refused r ≡ x
-outcome-no (ok a) r e = let z : _≡_ {A = ℕ} 0 1 = cc in absurd (zero-one z)
-outcome-no (refused k) r e = let z : r ≡ k = cc in ap refused z
+use Rattle.tzb_core.specs.Decode.{led, pointsFrom, flat, filled, readFrom, put}
+use Rattle.answer.proofs.AnswersLaws.{then-inv, need-inv, ok-inv, outcome-fine, outcome-no}
+use Rattle.tzb_core.proofs.DecodeLaws.{points-last, points-next}
 
 -- what leads changes no outcome
 pub led-same : (q : I32Point) (x : Answer (List I32Point)) → outcome x ≡ outcome (led q x)

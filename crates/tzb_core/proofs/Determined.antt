@@ -6,7 +6,6 @@ use lib.IntN.{ℤ}
 use Rattle.basics.specs.Determined.{Determined}
 use Rattle.answer.specs.Answers.{Answer, ok}
 use Rattle.tzb_core.specs.Delta.{summed}
-use Rattle.tzb_core.specs.Varint.{told}
 use Rattle.tzb_core.specs.declared.delta.Sum.{Sum}
 use Rattle.tzb_core.specs.declared.delta.Sum.the-variants as S
 use Rattle.tzb_core.specs.declared.varint.Place.{Place}
@@ -16,6 +15,7 @@ use Rattle.tzb_core.proofs.delta.add_delta.Reads as add-delta-reads
 use Rattle.tzb_core.proofs.varint.unzigzag.Reads as unzigzag-reads
 use Rattle.tzb_core.proofs.varint.Place.at_end.Reads as at-end-reads
 use Rattle.tzb_core.proofs.varint.Place.varint.Reads as varint-reads
+use Rattle.tzb_core.specs.Varint.{readTold}
 
 one-sum : (a b : Sum) (x : Answer ℤ) → summed a ≡ x → summed b ≡ x → a ≡ b
 one-sum (S.Of p) (S.Of q) x e f = cc
@@ -29,7 +29,7 @@ one-number x y p q e =
     let t : _≡_ {A = ℤ × ℕ} (x, p .at) (y, q .at) = cc in
     ap₂ (λ (z : ℤ) (n : ℕ). R.Number z (record { at = n })) (ap (λ (u : ℤ × ℕ). u .0) t) (ap (λ (u : ℤ × ℕ). u .1) t)
 
-one-read : (a b : Read) (x : Answer (ℤ × ℕ)) → told a ≡ x → told b ≡ x → a ≡ b
+one-read : (a b : Read) (x : Answer (ℤ × ℕ)) → readTold a ≡ x → readTold b ≡ x → a ≡ b
 one-read (R.Number x p) (R.Number y q) z e f = one-number x y p q (e ∙ sym f)
 one-read (R.Number x p) (R.Refused k) z e f = cc
 one-read (R.Refused k) (R.Number x p) z e f = cc

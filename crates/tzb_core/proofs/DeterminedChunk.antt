@@ -4,7 +4,7 @@ use mathlib.Core.Path.{_≡_, sym, ap, ap₂, _∙_}
 use mathlib.Core.Bool.{Bool}
 use Prim.Native.Nat.{ℕ}
 use Rattle.basics.specs.Determined.{Determined, DeterminedMemory}
-use Rattle.answer.specs.Answers.{Answer, ok, checked-one}
+use Rattle.answer.specs.Answers.{Answer, ok}
 use Rattle.answer.specs.Walks.{Walk}
 use Rattle.plane.specs.declared.I32Point.{I32Point}
 use Rattle.tzb_core.specs.Points.{spotted}
@@ -22,6 +22,7 @@ use Rattle.tzb_core.proofs.chunk.next_point.Reads as next-point-reads
 use Rattle.tzb_core.proofs.chunk.scan_chunk.Reads as scan-chunk-reads
 use Rattle.tzb_core.proofs.chunk.trace_chunk.Reads as trace-chunk-reads
 use Rattle.tzb_core.proofs.chunk.decode_points.Reads as decode-points-reads
+use Rattle.answer.proofs.AnswersLaws.{checked-one}
 
 -- a point and the place after it
 one-point : (x y : I32Point) (p q : Place) → _≡_ {A = Answer (I32Point × ℕ)} (ok (x, p .at)) (ok (y, q .at)) → S.At x p ≡ S.At y q

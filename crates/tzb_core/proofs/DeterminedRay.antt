@@ -2,11 +2,11 @@
 -- Assumes nothing.
 use mathlib.Core.Path.{sym, _∙_}
 use Rattle.basics.specs.Determined.{Determined}
-use Rattle.plane.specs.Sight.{one-seen}
 use Rattle.tzb_core.proofs.raycast.next_up.Reads as next-up-reads
 use Rattle.tzb_core.proofs.raycast.raycast_seg.Reads as raycast-seg-reads
 use Rattle.tzb_core.proofs.raycast.endpoint_parity.Reads as endpoint-parity-reads
 use Rattle.tzb_core.proofs.raycast.to_point.Reads as to-point-reads
+use Rattle.plane.proofs.SightLaws.{one-seen}
 
 pub next-up : Determined next-up-reads.Learnt
 next-up κ a r r' e e' p q = p ∙ sym q

@@ -12,11 +12,13 @@ use Rattle.rounding.specs.Ints.{dist}
 use Rattle.plane.specs.declared.I32Point.{I32Point}
 use Rattle.plane.specs.Sight.{On, Off}
 use Rattle.plane.specs.Segment.{seg}
-use Rattle.plane.specs.Domain.{inDomain, domain-x, domain-y}
-use Rattle.tzb_core.specs.Ray.{rayAt, rayOf, pointOf}
+use Rattle.plane.specs.Domain.{inDomain}
+use Rattle.tzb_core.specs.Ray.{rayAt, rayOf}
 use Rattle.tzb_core.proofs.Floats.{at, ray-naturals}
 use Rattle.tzb_core.proofs.Order.{nat, nat-in, nat-at}
 use Rattle.tzb_core.proofs.Whole.{Near, on-nat, counts-nat}
+use Rattle.plane.specs.Places.{pointOf}
+use Rattle.plane.proofs.DomainLaws.{domain-x, domain-y}
 
 -- the nudge wants a y that is not too large
 low : (z : ℤ) → natAbs z ≤ 9_000_000 → dist (nat z) 18_000_000 ≤ 0x100_0000

@@ -1,5 +1,12 @@
 -- What is proved of the lower crate's definitions, and what its functions' proofs share.
 -- numbers and deltas
+pub mod VarintLaws
+pub mod TraceLaws
+pub mod ScanLaws
+pub mod PointsLaws
+pub mod DeltaLaws
+pub mod DecodeLaws
+pub mod AlongLaws
 pub mod Sums
 pub mod Digits
 pub mod Shortest

@@ -10,7 +10,7 @@ use lib.Dec.{ltb}
 use borrow.Author.Tests.{ltb-true}
 use Rattle.basics.specs.Truth.{and-i}
 use Rattle.answer.specs.declared.Refusal.{Refusal}
-use Rattle.answer.specs.Answers.{Answer, ok, refused, _then_, need, then-inv, need-inv, ok-inv}
+use Rattle.answer.specs.Answers.{Answer, ok, refused, _then_, need}
 use Rattle.answer.specs.Walks.{Walk, add, _go_}
 use Rattle.plane.specs.declared.Point.{Point}
 use Rattle.plane.specs.declared.I32Point.{I32Point}
@@ -22,16 +22,18 @@ use Rattle.boxes.specs.declared.BBox.{BBox}
 use Rattle.boxes.specs.Box.{inBox}
 use Rattle.tzb_core.specs.Ray.{rayOf}
 use Rattle.tzb_core.specs.Varint.{atEnd}
-use Rattle.tzb_core.specs.Points.{numbersAt, movedBy, inside, firstOf, nextAt}
+use Rattle.tzb_core.specs.Points.{numbersAt, movedBy, firstOf, nextAt, mustLie}
 use Rattle.tzb_core.specs.Along.{Walker, follow, reach, along, walkOf, overFrom}
 use Rattle.tzb_core.specs.Scan.{past, scanner, scanOf}
-use Rattle.tzb_core.specs.Decode.{led, pointsFrom, pointsOf, points-last, points-next, points-are}
+use Rattle.tzb_core.specs.Decode.{led, pointsFrom, pointsOf}
 use Rattle.tzb_core.specs.Trace.{also, tracer, traceOf, traced}
 use Rattle.tzb_core.proofs.Decoded.{read-all}
+use Rattle.answer.proofs.AnswersLaws.{then-inv, need-inv, ok-inv}
+use Rattle.tzb_core.proofs.DecodeLaws.{points-last, points-next, points-are}
 
 -- ---- a point that was read lies in the domain
-inside-in : (q : I32Point) (p : ℕ) (t : I32Point × ℕ) → ok t ≡ inside q p → inDomain (t .0) ≡ true
-unfolding inside
+inside-in : (q : I32Point) (p : ℕ) (t : I32Point × ℕ) → ok t ≡ mustLie q p → inDomain (t .0) ≡ true
+unfolding mustLie
 inside-in q p t e =
     let h = need-inv 42 (inDomain q) (ok (q, p)) t e in
     ap (λ (u : I32Point × ℕ). inDomain (u .0)) (ok-inv t (q, p) (h .1)) ∙ h .0
@@ -39,14 +41,14 @@ inside-in q p t e =
 pub first-in : (s : List ℕ) (t : I32Point × ℕ) → ok t ≡ firstOf s → inDomain (t .0) ≡ true
 unfolding firstOf
 first-in s t e =
-    let h = then-inv (numbersAt s 0) (λ u. inside (u .0) (u .1)) t e in
+    let h = then-inv (numbersAt s 0) (λ u. mustLie (u .0) (u .1)) t e in
     inside-in (h .0 .0) (h .0 .1) t (h .2)
 
 pub next-in : (s : List ℕ) (q : I32Point) (k : ℕ) (t : I32Point × ℕ) → ok t ≡ nextAt s q k → inDomain (t .0) ≡ true
 unfolding nextAt
 next-in s q k t e =
-    let h = then-inv (numbersAt s k) (λ d. movedBy q (d .0) then λ u. inside u (d .1)) t e in
-    let g = then-inv (movedBy q (h .0 .0)) (λ u. inside u (h .0 .1)) t (h .2) in
+    let h = then-inv (numbersAt s k) (λ d. movedBy q (d .0) then λ u. mustLie u (d .1)) t e in
+    let g = then-inv (movedBy q (h .0 .0)) (λ u. mustLie u (h .0 .1)) t (h .2) in
     inside-in (g .0) (h .0 .1) t (g .2)
 
 -- ---- from a point on

@@ -13,9 +13,11 @@ use Rattle.basics.specs.Whole.{is-sub, is-unique, shift, shift-is, lt-test, le-
 use Rattle.rounding.specs.Ints.{diff}
 use Rattle.plane.specs.declared.I32Point.{I32Point}
 use Rattle.plane.specs.Segment.{above}
-use Rattle.plane.specs.Domain.{inDomain, domain-y}
-use Rattle.tzb_core.specs.Ray.{pointOf, aboveOf}
+use Rattle.plane.specs.Domain.{inDomain}
+use Rattle.tzb_core.specs.Ray.{aboveOf}
 use Rattle.tzb_core.proofs.Floats.{at, In, lt-at, le-at}
+use Rattle.plane.specs.Places.{pointOf}
+use Rattle.plane.proofs.DomainLaws.{domain-y}
 
 -- each number by its natural
 abbrev pub nat : ℤ → ℕ

@@ -1,14 +1,14 @@
 -- A sum of two i32 is an i64, and an i64 that passed both tests of 32 bits is an i32.
 -- Assumes nothing.
-use Prim.Native.Nat.{ℕ, suc, _+_, _≤_, _<_, _^_}
+use Prim.Native.Nat.{_+_}
 use native.Mathlib.Omega.{arith}
 use mathlib.Core.Path.{_≡_}
 use mathlib.Core.Bool.{true}
 use borrow.Author.Tests.{leb-true}
-use lib.IntN.{ℤ, pos, negsuc, natAbs, _+ℤ_}
-use lib.Signed.{mag, leZ, natAbs-le}
+use lib.IntN.{ℤ, pos, negsuc, _+ℤ_}
+use lib.Signed.{leZ, natAbs-le}
 use mir.Syntax.{w32, w64}
-use mir.Val.{SFits, toZ, ofZ, hbits}
+use mir.Val.{SFits, toZ, ofZ}
 use mir.ValLaws.{toZ-ofZ}
 use Rattle.basics.specs.Truth.{and-l, and-r}
 use Rattle.basics.specs.Signed.{sum-abs, mag-le}

@@ -8,7 +8,7 @@ use mathlib.Core.List.{List, [], _∷_}
 use lib.IntN.{ℤ}
 use Rattle.answer.specs.declared.Refusal.{Refusal}
 use Rattle.answer.specs.Checks.{claim}
-use Rattle.answer.specs.Answers.{Answer, ok, refused, _then_, need, then-inv, need-inv, ok-inv}
+use Rattle.answer.specs.Answers.{Answer, ok, refused, _then_, need, outcome}
 use Rattle.answer.specs.Walks.{on, add}
 use Rattle.plane.specs.declared.Point.{Point}
 use Rattle.plane.specs.declared.I32Point.{I32Point}
@@ -16,11 +16,15 @@ use Rattle.plane.specs.Sight.{On, Off}
 use Rattle.plane.specs.Domain.{inDomain}
 use Rattle.tzb_core.specs.Ray.{rayOf}
 use Rattle.tzb_core.specs.Varint.{numberAt, atEnd}
-use Rattle.tzb_core.specs.Points.{point, movedBy, nextAt, arrive, placed, next-arrives, numbers-first, numbers-second, numbers-both, next-no}
+use Rattle.tzb_core.specs.Points.{movedBy, nextAt, arrive, placed, next-arrives, next-no}
 use Rattle.tzb_core.specs.Along.{follow, along, alongBy, by-no, by-to}
-use Rattle.tzb_core.specs.Scan.{scanner, segment-on, segment-off}
-use Rattle.tzb_core.specs.Decode.{decoder, outcome, readFrom}
+use Rattle.tzb_core.specs.Scan.{scanner}
+use Rattle.tzb_core.specs.Decode.{decoder, readFrom}
 use Rattle.tzb_core.proofs.Decoded.{led-same}
+use Rattle.plane.specs.Places.{point}
+use Rattle.answer.proofs.AnswersLaws.{then-inv, need-inv, ok-inv}
+use Rattle.tzb_core.proofs.PointsLaws.{numbers-first, numbers-second, numbers-both}
+use Rattle.tzb_core.proofs.ScanLaws.{segment-on, segment-off}
 
 -- the point after q, of whose delta x is read; the bytes of y stand at k
 unfoldable pub nextAfter : List ℕ → I32Point → ℤ → ℕ → Answer (I32Point × ℕ)

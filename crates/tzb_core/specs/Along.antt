@@ -7,7 +7,6 @@ use mathlib.Core.Path.{_≡_, refl, sym, ap, _∙_}
 use mathlib.Core.Bool.{true, false}
 use mathlib.Core.List.{List, [], _∷_}
 use lib.Dec.{ltb}
-use borrow.Author.Tests.{lt-ltb}
 use Rattle.answer.specs.declared.Refusal.{Refusal}
 use Rattle.answer.specs.Refusals.{refusal}
 use Rattle.answer.specs.Answers.{Answer, ok, refused, need}
@@ -44,21 +43,6 @@ walkOf w s n = follow w (need 32 (ltb 0 n) (firstOf s)) (λ t. w .point (t .0) (
 unfoldable pub overFrom : {R : Type 0} → Walker R → I32Point → List I32Point → R
 overFrom w q [] = w .last q
 overFrom w q (t ∷ l) = reach w q t (overFrom w t l)
-
--- ---- laws: the cases of the code
-module _ {R : Type 0} (w : Walker R) (s : List ℕ) (n : ℕ) where
-  pub walk-none : n ≡ 0 → w .stop (refusal 32) ≡ walkOf w s n
-  unfolding walkOf
-  walk-none z = rw z
-
-  module _ (h : 0 < n) where
-    pub walk-no : (r : Refusal) → refused r ≡ firstOf s → w .stop r ≡ walkOf w s n
-    unfolding walkOf
-    walk-no r e = rw (lt-ltb 0 n h, ← e)
-
-    pub walk-from : (q : I32Point) (k : ℕ) → ok (q, k) ≡ firstOf s → w .point q (along w s (n - 1) q k) ≡ walkOf w s n
-    unfolding walkOf
-    walk-from q k e = rw (lt-ltb 0 n h, ← e)
 
 -- ---- what the code's steps answer
 -- from q on, where the answer to what comes next is a

@@ -1,10 +1,9 @@
 -- Document 01's delta sum ("Chunk bytes"): a delta added to the coordinate before it.
 -- Assumes nothing.
-use mathlib.Core.Path.{_≡_}
-use mathlib.Core.Bool.{Bool, true, false, _&&_}
+use mathlib.Core.Bool.{Bool, _&&_}
 use lib.IntN.{ℤ, pos, negsuc, _+ℤ_}
 use lib.Signed.{leZ}
-use Rattle.answer.specs.Answers.{Answer, ok, refused, no, need}
+use Rattle.answer.specs.Answers.{Answer, ok, refused, need}
 use Rattle.tzb_core.specs.declared.delta.Sum.{Sum}
 use Rattle.tzb_core.specs.declared.delta.Sum.the-variants.{Of, Refused}
 
@@ -20,12 +19,3 @@ addDelta before delta = need 41 (fits32 (before +ℤ delta)) (ok (before +ℤ de
 abbrev pub summed : Sum → Answer ℤ
 summed (Of z) = ok z
 summed (Refused r) = refused r
-
--- ---- laws
-pub sum-fits : (before delta z : ℤ) → z ≡ before +ℤ delta → fits32 z ≡ true → ok z ≡ addDelta before delta
-unfolding addDelta
-sum-fits before delta z e h = rw (← e, h)
-
-pub sum-over : (before delta : ℤ) → fits32 (before +ℤ delta) ≡ false → no 41 ≡ addDelta before delta
-unfolding addDelta
-sum-over before delta h = rw h

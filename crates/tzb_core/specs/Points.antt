@@ -15,9 +15,7 @@ use Rattle.tzb_core.specs.declared.chunk.Spotted.{Spotted}
 use Rattle.tzb_core.specs.declared.chunk.Spotted.the-variants as S
 use Rattle.tzb_core.specs.declared.chunk.Moved.{Moved}
 use Rattle.tzb_core.specs.declared.chunk.Moved.the-variants as M
-
-abbrev pub point : ℤ → ℤ → I32Point
-point x y = record { x = x; y = y }
+use Rattle.plane.specs.Places.{point}
 
 -- two numbers, x and y, and the place after them: both are read before anything else is asked
 unfoldable pub numbersAt : List ℕ → ℕ → Answer (I32Point × ℕ)
@@ -34,19 +32,19 @@ movedBy q d =
     ok (point x y)
 
 -- a point outside the domain is 42
-unfoldable pub inside : I32Point → ℕ → Answer (I32Point × ℕ)
-inside q p = need 42 (inDomain q) (ok (q, p))
+unfoldable pub mustLie : I32Point → ℕ → Answer (I32Point × ℕ)
+mustLie q p = need 42 (inDomain q) (ok (q, p))
 
 -- the first point, and the place after it
 unfoldable pub firstOf : List ℕ → Answer (I32Point × ℕ)
-firstOf s = numbersAt s 0 then λ t. inside (t .0) (t .1)
+firstOf s = numbersAt s 0 then λ t. mustLie (t .0) (t .1)
 
 -- the point after q, whose bytes stand at p, and the place after it
 unfoldable pub nextAt : List ℕ → I32Point → ℕ → Answer (I32Point × ℕ)
 nextAt s q p =
     numbersAt s p then λ d.
     movedBy q (d .0) then λ t.
-    inside t (d .1)
+    mustLie t (d .1)
 
 -- what the enums of the code say
 abbrev pub spotted : Spotted → Answer (I32Point × ℕ)
@@ -56,34 +54,6 @@ spotted (S.Refused r) = refused r
 abbrev pub moved : Moved → Answer I32Point
 moved (M.To q) = ok q
 moved (M.Refused r) = refused r
-
--- ---- laws: the cases of the code
-module _ (s : List ℕ) (p : ℕ) where
-  pub numbers-first : (r : Refusal) → refused r ≡ numberAt s p → refused r ≡ numbersAt s p
-  unfolding numbersAt
-  numbers-first r e = rw (← e)
-
-  pub numbers-second : (x : ℤ) (n : ℕ) (r : Refusal) → ok (x, n) ≡ numberAt s p → refused r ≡ numberAt s n → refused r ≡ numbersAt s p
-  unfolding numbersAt
-  numbers-second x n r e f = rw (← e, ← f)
-
-  pub numbers-both : (x y : ℤ) (n m : ℕ) → ok (x, n) ≡ numberAt s p → ok (y, m) ≡ numberAt s n → ok (point x y, m) ≡ numbersAt s p
-  unfolding numbersAt
-  numbers-both x y n m e f = rw (← e, ← f)
-
-module _ (s : List ℕ) where
-  pub first-no : (r : Refusal) → refused r ≡ numbersAt s 0 → refused r ≡ firstOf s
-  unfolding firstOf
-  first-no r e = rw (← e)
-
-  module _ (q : I32Point) (p : ℕ) (e : ok (q, p) ≡ numbersAt s 0) where
-    pub first-out : inDomain q ≡ false → no 42 ≡ firstOf s
-    unfolding firstOf inside
-    first-out h = rw (← e, h)
-
-    pub first-in : inDomain q ≡ true → ok (q, p) ≡ firstOf s
-    unfolding firstOf inside
-    first-in h = rw (← e, h)
 
 -- ---- what the code's steps answer
 -- the point that a delta d leads to from q, in the domain
@@ -115,7 +85,7 @@ placed n t = ok (t, n)
 
 -- the point after q, the numbers of whose delta are d
 pub next-arrives : (s : List ℕ) (q d : I32Point) (p m : ℕ) → ok (d, m) ≡ numbersAt s p → (arrive q d then placed m) ≡ nextAt s q p
-unfolding nextAt arrive inside
+unfolding nextAt arrive mustLie
 next-arrives s q d p m e = rw (← e) (arrived (movedBy q d))
   where
     in-domain : (b : Bool) (t : I32Point) → (need 42 b (ok t) then placed m) ≡ need 42 b (placed m t)

@@ -73,11 +73,6 @@ rayAt ax ay bx by x y =
     (cond (touches ax ay bx by x y) On
     (Off (crosses ax ay bx by x (nudged ay by y)))))
 
--- ---- for ends of whole numbers
--- both numbers made floats
-abbrev pub pointOf : I32Point → Point
-pointOf q = record { x = ofInt binary64 (q .x); y = ofInt binary64 (q .y) }
-
 -- what p sees of the segment from a to b: it is on it, or else whether the segment counts
 unfoldable pub rayOf : I32Point → I32Point → Point → Sight
 rayOf a b p = rayAt (ofInt binary64 (a .x)) (ofInt binary64 (a .y)) (ofInt binary64 (b .x)) (ofInt binary64 (b .y)) (p .x) (p .y)

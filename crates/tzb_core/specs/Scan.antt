@@ -1,23 +1,19 @@
 -- Document 01, "Asking": a chunk's segments are tested in stored order as points are read, an on-edge hit ends the walk, leftover bytes are tested last. A chunk scanned whole with count 0 is 32.
 -- Assumes nothing.
-use Prim.Native.Nat.{ℕ, _-_, _≤_, _<_}
+use Prim.Native.Nat.{ℕ, _≤_}
 use mathlib.Core.Path.{_≡_}
 use mathlib.Core.Bool.{Bool, true, _&&_, _||_}
 use mathlib.Core.List.{List}
 use lib.IntN.{ℤ, natAbs}
 use lib.Signed.{ltZ}
 use lib.Ieee.{Float, lt}
-use Rattle.answer.specs.declared.Refusal.{Refusal}
-use Rattle.answer.specs.Refusals.{refusal}
-use Rattle.answer.specs.Answers.{ok, refused}
-use Rattle.answer.specs.Walks.{Walk, broken, on, off, add, _go_, done}
+use Rattle.answer.specs.Walks.{Walk, broken, on, off, _go_, done}
 use Rattle.plane.specs.declared.Point.{Point}
 use Rattle.plane.specs.declared.I32Point.{I32Point}
 use Rattle.plane.specs.Sight.{Sight, On, Off}
 use Rattle.boxes.specs.Box.{float}
 use Rattle.tzb_core.specs.Ray.{rayOf}
-use Rattle.tzb_core.specs.Points.{firstOf}
-use Rattle.tzb_core.specs.Along.{Walker, reach, along, walkOf, walk-none, walk-no, walk-from}
+use Rattle.tzb_core.specs.Along.{Walker, along, walkOf}
 use Rattle.tzb_core.specs.declared.chunk.Band.{Band}
 use Rattle.tzb_core.specs.declared.chunk.Scan.{Scan}
 use Rattle.tzb_core.specs.declared.chunk.Scan.the-variants as S
@@ -49,28 +45,6 @@ abbrev pub scanned : Scan → Walk I32Point
 scanned (S.Refused r) = broken r
 scanned S.On = on
 scanned (S.Off b q) = off b q
-
--- ---- laws: the cases of the code
-module _ (s : List ℕ) (n : ℕ) (p : Point) where
-  pub scan-none : n ≡ 0 → broken (refusal 32) ≡ scanOf s n p
-  unfolding scanOf
-  scan-none z = walk-none (scanner p) s n z
-
-  pub scan-no : 0 < n → (r : Refusal) → refused r ≡ firstOf s → broken r ≡ scanOf s n p
-  unfolding scanOf
-  scan-no h r e = walk-no (scanner p) s n h r e
-
-  pub scan-from : 0 < n → (q : I32Point) (k : ℕ) → ok (q, k) ≡ firstOf s → onward s p (n - 1) q k ≡ scanOf s n p
-  unfolding scanOf onward
-  scan-from h q k e = walk-from (scanner p) s n h q k e
-
--- past a segment, by what is seen of it
-module _ (p : Point) (q t : I32Point) (x : Walk I32Point) where
-  pub segment-on : On ≡ rayOf q t p → on ≡ reach (scanner p) q t x
-  segment-on e = rw (← e)
-
-  pub segment-off : (b : Bool) → Off b ≡ rayOf q t p → add b x ≡ reach (scanner p) q t x
-  segment-off b e = rw (← e)
 
 -- ---- what the code's steps answer
 -- of the heights of the domain, one below `lo` is below y, and one above `hi` is above it

@@ -1,13 +1,11 @@
 -- Document 01, "Chunk bytes": Protocol Buffers' sint32 ("Encoding", base 128 varints and zigzag), in one to five bytes, read from place p of the bytes s.
 -- Assumes nothing.
 use Prim.Native.Nat.{ℕ, zero, suc, _+_, _-_, _*_, _/_, _%_}
-use mathlib.Core.Path.{_≡_, ap}
 use mathlib.Core.List.{List, [], _∷_}
 use mathlib.Core.Bool.{Bool, true, false, _||_, not, cond}
 use lib.ListN.{length, getD}
 use lib.Dec.{ltb, leb, eqb}
 use lib.IntN.{ℤ, pos, negsuc}
-use Rattle.answer.specs.declared.Refusal.{Refusal}
 use Rattle.answer.specs.Answers.{Answer, ok, refused, _then_, need}
 use Rattle.tzb_core.specs.declared.varint.Read.{Read}
 use Rattle.tzb_core.specs.declared.varint.Read.the-variants as R
@@ -51,9 +49,9 @@ unfoldable pub numberAt : List ℕ → ℕ → Answer (ℤ × ℕ)
 numberAt s p = signed (digits 4 true s p)
 
 -- what the enum of the code says
-abbrev pub told : Read → Answer (ℤ × ℕ)
-told (R.Number z q) = ok (z, q .at)
-told (R.Refused r) = refused r
+abbrev pub readTold : Read → Answer (ℤ × ℕ)
+readTold (R.Number z q) = ok (z, q .at)
+readTold (R.Refused r) = refused r
 
 -- no byte is left over: the place is the one after the last byte
 abbrev pub atEnd : List ℕ → ℕ → Bool
@@ -67,16 +65,6 @@ shortestDigits (suc k) n = cond (ltb n 128) (n ∷ []) ((n % 128 + 128) ∷ shor
 -- the shortest encoding of z
 unfoldable pub encode : ℤ → List ℕ
 encode z = shortestDigits 4 (zig z)
-
--- ---- laws: the digits decide the number
-module _ (s : List ℕ) (p : ℕ) where
-  pub number-ok : (z : ℤ) (n q : ℕ) → z ≡ unzig n → ok (n, q) ≡ digits 4 true s p → ok (z, q) ≡ numberAt s p
-  unfolding numberAt
-  number-ok z n q h e = rw h (ap signed e)
-
-  pub number-no : (r : Refusal) → refused r ≡ digits 4 true s p → refused r ≡ numberAt s p
-  unfolding numberAt
-  number-no r e = ap signed e
 
 -- ---- what the code's steps answer
 abbrev pub digitsTold : Digits → Answer (ℕ × ℕ)

@@ -3,7 +3,7 @@ ghost use mathlib.Core.Path.{_≡_};
 ghost use mathlib.Core.Bool.{true};
 ghost use Prim.Native.Nat.{_<_};
 ghost use Rattle.answer.specs.Answers.{ok, no};
-ghost use Rattle.tzb_core.specs.Varint.{unzig, digits, numberAt, told, digitsTold, atEnd, rest};
+ghost use Rattle.tzb_core.specs.Varint.{unzig, digits, numberAt, digitsTold, atEnd, rest, readTold};
 use answer::Refusal;
 
 // Where the next number starts.
@@ -116,7 +116,7 @@ impl Place {
     }
 
     pub fn varint(self, s: &[u8]) -> Read
-        ensures { λ r. ⌜ told r ≡ numberAt (now (s .entry)) (self .at) ⌝ }
+        ensures { λ r. ⌜ readTold r ≡ numberAt (now (s .entry)) (self .at) ⌝ }
     {
         let d = varint_digits(s, self.at);
         match d {

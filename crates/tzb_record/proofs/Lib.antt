@@ -1,5 +1,5 @@
 -- What follows from the layout, and laws for the code.
-pub mod Signs
+pub mod LayoutLaws
 pub mod RoundTrip
 pub mod Widths
 pub mod Determined

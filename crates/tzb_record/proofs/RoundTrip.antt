@@ -5,7 +5,7 @@ use native.Mathlib.Omega.{arith}
 use mathlib.Core.Path.{_≡_, refl, sym, ap, ap₂, _∙_}
 use mathlib.Core.List.{List, [], _∷_, _++_, append-assoc}
 use mathlib.Core.Bool.{Bool, cond}
-use lib.ListN.{length, take, drop, getD, length-append}
+use lib.ListN.{length, take, drop, length-append}
 use lib.Seq.{getD-append-add, take-at}
 use mir.Syntax.{w16}
 use mir.Val.{toZ, ofZ}
@@ -14,13 +14,14 @@ use Rattle.fields.specs.Le.{le}
 use Rattle.fields.proofs.Join.{unit}
 use Rattle.fields.proofs.Digits as D
 use Rattle.answer.specs.Answers.{ok}
-use Rattle.answer.specs.CheckLaws.{le-at}
-use Rattle.reader_table.specs.declared.Section.{Section}
-use Rattle.reader_opened.specs.declared.Directory.{Directory}
-use Rattle.reader_opened.specs.declared.Grid.{Grid}
-use Rattle.reader_opened.specs.declared.Opened.{Opened}
-use Rattle.tzb_record.specs.Stores.{toLe}
-use Rattle.tzb_record.specs.Layout.{pairBytes, sectionBytes, directoryBytes, gridBytes, bytesOf, sectionIn, directoryIn, gridIn, openedIn, recordOf, written, HeldPair, HeldGrid, Held, section-is, directory-is, grid-is, opened-is, record-is}
+use Rattle.answer.proofs.CheckLaws.{le-at}
+use Rattle.opened.specs.declared.Section.{Section}
+use Rattle.opened.specs.declared.Directory.{Directory}
+use Rattle.opened.specs.declared.Grid.{Grid}
+use Rattle.opened.specs.declared.Opened.{Opened}
+use Rattle.fields.specs.Stores.{toLe}
+use Rattle.tzb_record.specs.Layout.{sectionBytes, directoryBytes, gridBytes, bytesOf, sectionIn, directoryIn, gridIn, openedIn, recordOf, written, HeldPair, HeldGrid, Held}
+use Rattle.tzb_record.proofs.LayoutLaws.{section-is, directory-is, grid-is, opened-is, record-is}
 
 pub record-long : (o : Opened) → length (bytesOf o) ≡ 84
 unfolding bytesOf

@@ -5,7 +5,6 @@ use native.Mathlib.Nat.{div-le-self}
 use native.Mathlib.Omega.{arith}
 use mathlib.Core.Bool.{Bool, true, false, cond}
 use mathlib.Core.List.{List}
-use lib.IntN.{pos}
 use lib.ListN.{getD}
 use mir.Syntax.{w16}
 use mir.Val.{toZ, SFits}
@@ -13,10 +12,9 @@ use mir.ValLaws.{toZ-fits}
 use Rattle.fields.specs.Le.{le}
 use Rattle.fields.proofs.Join.{fits}
 use Rattle.answer.specs.Checks.{atMost, seek}
-use Rattle.reader_table.specs.declared.Section.{Section}
+use Rattle.opened.specs.declared.Section.{Section}
 use Rattle.reader_table.specs.Table.{has, isType, sections, sectionOf, entryAt, pickSection}
-use Rattle.reader_opened.specs.declared.Directory.{Directory}
-use Rattle.reader_opened.specs.declared.Grid.{Grid}
+use Rattle.opened.specs.declared.Grid.{Grid}
 use Rattle.reader_opened.specs.Opened.{sectionsOf, noGrid, gridOf, directoryOf, openedOf}
 use Rattle.tzb_record.specs.Layout.{gridIn, openedIn, HeldPair, HeldGrid, Held}
 

@@ -1,3 +1,2 @@
 -- The opened record as bytes.
-pub mod Stores
 pub mod Layout

@@ -5,14 +5,14 @@ ghost use lib.ListN.{length};
 ghost use mir.Syntax.{w16};
 ghost use mir.Val.{ofZ};
 ghost use Rattle.answer.specs.Answers.{checkedTold};
-ghost use Rattle.tzb_record.specs.Stores.{toLe, Laid};
-ghost use Rattle.tzb_record.specs.Layout.{pairBytes, directoriesBytes, gridBytes, bytesOf, sectionIn, directoryIn, gridIn, openedIn, recordOf, roomFor, written, told};
+ghost use Rattle.fields.specs.Stores.{toLe, Laid};
+ghost use Rattle.tzb_record.specs.Layout.{pairBytes, directoriesBytes, gridBytes, bytesOf, sectionIn, directoryIn, gridIn, openedIn, recordOf, roomFor, written, recordTold};
 use answer::Checked;
 use answer::Refusal;
-use reader_opened::Directory;
-use reader_opened::Grid;
-use reader_opened::Opened;
-use reader_table::Section;
+use opened::Directory;
+use opened::Grid;
+use opened::Opened;
+use opened::Section;
 
 // What bytes are, read as a record.
 pub enum RecordRead {
@@ -86,7 +86,7 @@ fn opened_in(s: &[u8]) -> Opened
 
 // The record that stands in the bytes, or 44 where they are not 84.
 pub fn read_record(bytes: &[u8]) -> RecordRead
-    ensures { λ r. ⌜ told r ≡ recordOf (now (bytes .entry)) ⌝ }
+    ensures { λ r. ⌜ recordTold r ≡ recordOf (now (bytes .entry)) ⌝ }
 {
     if bytes.len() != 84 {
         return RecordRead::Refused(answer::refuse(44));
@@ -96,51 +96,25 @@ pub fn read_record(bytes: &[u8]) -> RecordRead
 
 // ---- to bytes
 
-// The bytes of a number of any width, least significant first, from that place on.
-fn store(out: &mut [u8], at: usize, width: usize, number: u64)
-    requires { ⌜ at + width ≤ length (now out) ⌝ }
-    ensures { λ _. ⌜ Laid (now (out .entry)) at (toLe width number) (now (out .exit)) ⌝ }
-{
-    let mut rest = number;
-    let mut i = 0;
-    while i < width {
-        out[at + i] = (rest % 256) as u8;
-        rest = rest / 256;
-        i += 1;
-    }
-}
-
 fn put32(out: &mut [u8], at: usize, x: u32)
     requires { ⌜ at + 4 ≤ length (now out) ⌝ }
     ensures { λ _. ⌜ Laid (now (out .entry)) at (toLe 4 x) (now (out .exit)) ⌝ }
 {
-    store(out, at, 4, x as u64);
+    fields::store(out, at, 4, x as u64);
 }
 
 fn put16(out: &mut [u8], at: usize, x: u16)
     requires { ⌜ at + 2 ≤ length (now out) ⌝ }
     ensures { λ _. ⌜ Laid (now (out .entry)) at (toLe 2 x) (now (out .exit)) ⌝ }
 {
-    store(out, at, 2, x as u64);
-}
-
-// The bits of a signed number.
-fn bits16(z: i16) -> u16
-    ensures { λ r. ⌜ r ≡ ofZ w16 z ⌝ }
-{
-    // !z is -1 - z
-    if z < 0 {
-        0xffff - ((!z) as u16)
-    } else {
-        z as u16
-    }
+    fields::store(out, at, 2, x as u64);
 }
 
 fn put_i16(out: &mut [u8], at: usize, z: i16)
     requires { ⌜ at + 2 ≤ length (now out) ⌝ }
     ensures { λ _. ⌜ Laid (now (out .entry)) at (toLe 2 (ofZ w16 z)) (now (out .exit)) ⌝ }
 {
-    put16(out, at, bits16(z));
+    put16(out, at, fields::bits16(z));
 }
 
 // Two numbers of 32 bits, as a section or a directory has them.

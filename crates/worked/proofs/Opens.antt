@@ -27,9 +27,11 @@ use Rattle.tzb_core.specs.Delta as Deltas
 use Rattle.plane.specs.Domain as A
 use Rattle.tzb.proofs.Given.{Answered, answered}
 use Rattle.worked.specs.File.{file, opened}
+use Rattle.basics.specs.Total.{total}
+use Rattle.replies.specs.Replies as Told
 
 pub opens : ok opened ≡ P.openOf file
-unfolding file opened E.le R.step R.steps R.bytes R.crc32 K.claim K.deny K.andThen K.first K.each K.seek K.atMost K.below K.same K.both K.either M.sameFrom M.startsWith H.startCheck H.isCount H.fieldsCheck H.isZero H.notZero H.versionEnd H.versionCheck H.boundsCheck H.headCheck T.isType T.has T.repeats T.banned T.apart T.apartAt T.placedCheck T.typedCheck T.entryCheck T.entriesCheck T.entryAt T.sectionOf O.presentAt O.presentCheck O.bit O.flagCheck O.zonesCheck O.lengthsCheck O.countsCheck O.sectionsOf O.gridOf O.directoryOf O.openedOf N.shapeCheck N.offsetRule N.prior N.offsetCheck N.textCheck N.textAt N.namesCheck W.rangeCheck G.dimensions G.candidateCheck G.cellCheck G.gridCheck S.recordAt S.ruled S.boxIn S.pointIn S.within S.listIn S.listRule S.listAt S.ringIn S.ringRule S.ringAt S.countRule S.opRule S.opAt S.groupIn S.groupRule S.groupAt S.chunkIn S.chunkRule S.chunkAt D.chunkCheck D.leastOff D.chunkCheckAt D.chunksCheck D.total D.countAt D.groupCheck D.groupCheckAt D.groupsCheck P.tableCheck P.sizesCheck P.namesIn P.gridIn P.contentsCheck P.openOf B.contains B.relevant B.right B.ordered B.boxInDomain Deltas.fits32 Deltas.addDelta A.inDomain
+unfolding file opened E.le R.step R.steps R.bytes R.crc32 K.claim K.deny K.andThen K.first K.each K.seek K.atMost K.below K.same K.both K.either M.sameFrom M.startsWith H.startCheck H.isCount H.fieldsCheck H.isZero H.notZero H.versionEnd H.versionCheck H.boundsCheck H.headCheck T.isType T.has T.repeats T.banned T.apart T.apartAt T.placedCheck T.typedCheck T.entryCheck T.entriesCheck T.entryAt T.sectionOf O.presentAt O.presentCheck O.bit O.flagCheck O.zonesCheck O.lengthsCheck O.countsCheck O.sectionsOf O.gridOf O.directoryOf O.openedOf N.shapeCheck N.offsetRule N.prior N.offsetCheck N.textCheck N.textAt N.namesCheck W.rangeCheck G.dimensions G.candidateCheck G.cellCheck G.gridCheck S.recordAt S.ruled S.boxIn S.pointIn S.fitsBelow S.listIn S.listRule S.listAt S.ringIn S.ringRule S.ringAt S.countRule S.opRule S.opAt S.groupIn S.groupRule S.groupAt S.chunkIn S.chunkRule S.chunkAt D.chunkCheck D.leastOff D.chunkCheckAt D.chunksCheck total D.countAt D.groupCheck D.groupCheckAt D.groupsCheck P.tableCheck P.sizesCheck P.namesIn P.gridIn P.contentsCheck P.openOf B.contains B.relevant B.right B.ordered B.boxInDomain Deltas.fits32 Deltas.addDelta A.inDomain
 opens = refl
 
 pub vouched : Answered file opened
@@ -41,15 +43,15 @@ unfolding file opened E.le K.below K.atMost Q.boundsAt Q.nameAt
 name = refl
 
 -- 0.5 and 0.5: the two candidates of the first cell; 1.5 and 0.5: the one of the second; 2.5 and 0.5: outside the grid
-pub first-cell : C.candidatesOf opened file (ofBits binary64 0x3fe0_0000_0000_0000) (ofBits binary64 0x3fe0_0000_0000_0000) ≡ ok (C.listed 2 0)
+pub first-cell : C.candidatesOf opened file (ofBits binary64 0x3fe0_0000_0000_0000) (ofBits binary64 0x3fe0_0000_0000_0000) ≡ ok (Told.listed 2 0)
 unfolding file opened I.ofBits I.ofInt I.le I.lt I.eq E.le L.inside L.loadAt K.same F.floorOf C.onEarth C.inGrid C.cellOf C.cellCandidates C.candidatesOf
 first-cell = refl
 
-pub second-cell : C.candidatesOf opened file (ofBits binary64 0x3ff8_0000_0000_0000) (ofBits binary64 0x3fe0_0000_0000_0000) ≡ ok (C.listed 1 2)
+pub second-cell : C.candidatesOf opened file (ofBits binary64 0x3ff8_0000_0000_0000) (ofBits binary64 0x3fe0_0000_0000_0000) ≡ ok (Told.listed 1 2)
 unfolding file opened I.ofBits I.ofInt I.le I.lt I.eq E.le L.inside L.loadAt K.same F.floorOf C.onEarth C.inGrid C.cellOf C.cellCandidates C.candidatesOf
 second-cell = refl
 
-pub no-cell : C.candidatesOf opened file (ofBits binary64 0x4004_0000_0000_0000) (ofBits binary64 0x3fe0_0000_0000_0000) ≡ ok C.none
+pub no-cell : C.candidatesOf opened file (ofBits binary64 0x4004_0000_0000_0000) (ofBits binary64 0x3fe0_0000_0000_0000) ≡ ok Told.none
 unfolding file opened I.ofBits I.ofInt I.le I.lt I.eq E.le L.inside L.loadAt K.same F.floorOf C.onEarth C.inGrid C.cellOf C.cellCandidates C.candidatesOf
 no-cell = refl
 

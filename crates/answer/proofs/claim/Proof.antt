@@ -2,7 +2,7 @@
 -- Assumes nothing.
 use mathlib.Core.Path.{sym, _∙_}
 use borrow.Author.Needs.{needs}
-use Rattle.answer.specs.CheckLaws.{yes, nay}
+use Rattle.answer.proofs.CheckLaws.{yes, nay}
 use Rattle.answer.proofs.claim.Statement.{statement}
 use Rattle.answer.proofs.claim.Tie as tie
 

@@ -1,7 +1,7 @@
 -- Twice as many entries: before each turn those below p + j are right.
 -- Assumes nothing.
 use mathlib.Core.Path.{_≡_, refl, ap, _∙_, subst}
-use Prim.Native.Nat.{ℕ, _+_, _-_, _*_, _≤_}
+use Prim.Native.Nat.{_+_, _-_, _*_, _≤_}
 use lib.Bits.{bitXor}
 use lib.ListN.{length, getD, length-set}
 use Rattle.crc.specs.Crc32.{steps, First}

@@ -1,7 +1,7 @@
 -- The first table: before each turn the entries below p are right, p a power of two.
 -- Assumes nothing.
-use mathlib.Core.Path.{_≡_, refl, ap, _∙_, subst}
-use Prim.Native.Nat.{ℕ, _+_, _-_, _*_, _≤_}
+use mathlib.Core.Path.{_≡_, refl, _∙_, subst}
+use Prim.Native.Nat.{_-_}
 use lib.ListN.{length, length-set}
 use Rattle.crc.specs.Crc32.{First, Power}
 use Rattle.crc.proofs.Front.{begun, power-first, power-next, power-least, power-most}

@@ -4,9 +4,9 @@ use mathlib.Core.Path.{_∙_}
 use mir.Syntax.{w32}
 use mir.ValLaws.{toZ-ofZ}
 use borrow.Author.Needs.{needs}
-use Rattle.fields.specs.Loads.{room, signed-past, signed-in}
 use Rattle.fields.proofs.i32_le.Statement.{statement}
 use Rattle.fields.proofs.i32_le.Tie as tie
+use Rattle.fields.proofs.LoadsLaws.{room, signed-past, signed-in}
 
 inside-requires : tie.Need-inside-requires
 inside-requires c κs = search needs

@@ -2,9 +2,9 @@
 -- Assumes nothing.
 use native.Mathlib.Omega.{arith}
 use borrow.Author.Needs.{needs}
-use Rattle.fields.specs.Loads.{too-few, inside-by}
 use Rattle.fields.proofs.inside.Statement.{statement}
 use Rattle.fields.proofs.inside.Tie as tie
+use Rattle.fields.proofs.LoadsLaws.{too-few, inside-by}
 
 returns : tie.Need-returns
 returns c = too-few _ _ _ (omega arith)

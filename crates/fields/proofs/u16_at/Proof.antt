@@ -6,20 +6,20 @@ use borrow.Author.Needs.{needs}
 use Rattle.fields.proofs.u16_at.Statement.{statement}
 use Rattle.fields.proofs.u16_at.Tie as tie
 
-shared-slice-read-wide16 : tie.Need-shared-slice-read-wide16
-shared-slice-read-wide16 c = search needs
+shared-slice-read-byte16 : tie.Need-shared-slice-read-byte16
+shared-slice-read-byte16 c = search needs
 
-wide16-requires : tie.Need-wide16-requires
-wide16-requires c κs = search needs
+byte16-requires : tie.Need-byte16-requires
+byte16-requires c κs = search needs
 
-add-wide16 : tie.Need-add-wide16
-add-wide16 c = search needs
+add-byte16 : tie.Need-add-byte16
+add-byte16 c = search needs
 
-shared-slice-read-wide16-2 : tie.Need-shared-slice-read-wide16-2
-shared-slice-read-wide16-2 c = search needs
+shared-slice-read-byte16-2 : tie.Need-shared-slice-read-byte16-2
+shared-slice-read-byte16-2 c = search needs
 
-wide16-requires-2 : tie.Need-wide16-requires-2
-wide16-requires-2 c κs = search needs
+byte16-requires-2 : tie.Need-byte16-requires-2
+byte16-requires-2 c κs = search needs
 
 mul-result : tie.Need-mul-result
 mul-result c = search needs
@@ -36,11 +36,11 @@ pub u16-at-spec : {M : Type 1} → statement M
 u16-at-spec =
     tie.close
     (tie.spec
-    shared-slice-read-wide16
-    wide16-requires
-    add-wide16
-    shared-slice-read-wide16-2
-    wide16-requires-2
+    shared-slice-read-byte16
+    byte16-requires
+    add-byte16
+    shared-slice-read-byte16-2
+    byte16-requires-2
     mul-result
     add-result
     returns)

@@ -9,8 +9,8 @@ use Rattle.fields.proofs.u32_at.Tie as tie
 u16-at-requires : tie.Need-u16-at-requires
 u16-at-requires c κs = search needs
 
-wide32-requires : tie.Need-wide32-requires
-wide32-requires c κs = search needs
+half32-requires : tie.Need-half32-requires
+half32-requires c κs = search needs
 
 add-u16-at : tie.Need-add-u16-at
 add-u16-at c = search needs
@@ -18,8 +18,8 @@ add-u16-at c = search needs
 u16-at-requires-2 : tie.Need-u16-at-requires-2
 u16-at-requires-2 c κs = search needs
 
-wide32-requires-2 : tie.Need-wide32-requires-2
-wide32-requires-2 c κs = search needs
+half32-requires-2 : tie.Need-half32-requires-2
+half32-requires-2 c κs = search needs
 
 mul-result : tie.Need-mul-result
 mul-result c = search needs
@@ -37,10 +37,10 @@ u32-at-spec =
     tie.close
     (tie.spec
     u16-at-requires
-    wide32-requires
+    half32-requires
     add-u16-at
     u16-at-requires-2
-    wide32-requires-2
+    half32-requires-2
     mul-result
     add-result
     returns)

@@ -9,8 +9,8 @@ use Rattle.fields.proofs.u64_at.Tie as tie
 u32-at-requires : tie.Need-u32-at-requires
 u32-at-requires c κs = search needs
 
-wide64-requires : tie.Need-wide64-requires
-wide64-requires c κs = search needs
+word64-requires : tie.Need-word64-requires
+word64-requires c κs = search needs
 
 add-u32-at : tie.Need-add-u32-at
 add-u32-at c = search needs
@@ -18,8 +18,8 @@ add-u32-at c = search needs
 u32-at-requires-2 : tie.Need-u32-at-requires-2
 u32-at-requires-2 c κs = search needs
 
-wide64-requires-2 : tie.Need-wide64-requires-2
-wide64-requires-2 c κs = search needs
+word64-requires-2 : tie.Need-word64-requires-2
+word64-requires-2 c κs = search needs
 
 mul-result : tie.Need-mul-result
 mul-result c = search needs
@@ -37,10 +37,10 @@ u64-at-spec =
     tie.close
     (tie.spec
     u32-at-requires
-    wide64-requires
+    word64-requires
     add-u32-at
     u32-at-requires-2
-    wide64-requires-2
+    word64-requires-2
     mul-result
     add-result
     returns)

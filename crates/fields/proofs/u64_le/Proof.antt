@@ -1,9 +1,9 @@
 -- `fields::u64_le` meets its contract, by the two laws of `loadAt`.
 -- Assumes nothing.
 use borrow.Author.Needs.{needs}
-use Rattle.fields.specs.Loads.{room, load-past, load-in}
 use Rattle.fields.proofs.u64_le.Statement.{statement}
 use Rattle.fields.proofs.u64_le.Tie as tie
+use Rattle.fields.proofs.LoadsLaws.{room, load-past, load-in}
 
 inside-requires : tie.Need-inside-requires
 inside-requires c κs = search needs

@@ -2,10 +2,10 @@
 -- Assumes nothing.
 use mathlib.Core.Path.{sym, ap, _∙_}
 use Rattle.reader_records.specs.Records.{toldGroup}
-use Rattle.reader_cover.specs.Holds.{holds-no, holds-ok}
 use borrow.Author.Needs.{needs}
 use Rattle.reader_check.proofs.group_joined.Statement.{statement}
 use Rattle.reader_check.proofs.group_joined.Tie as tie
+use Rattle.answer.proofs.AnswersLaws.{holds-no, holds-ok}
 
 group-at-requires : tie.Need-group-at-requires
 group-at-requires c κs = search needs

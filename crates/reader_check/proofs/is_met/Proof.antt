@@ -4,7 +4,7 @@ use Prim.Native.Nat.{ℕ}
 use mathlib.Core.Path.{_≡_, sym, ap, _∙_}
 use mathlib.Core.Bool.{Bool}
 use mathlib.Core.List.{List}
-use Rattle.reader_opened.specs.declared.Opened.{Opened}
+use Rattle.opened.specs.declared.Opened.{Opened}
 use Rattle.reader_check.specs.declared.Demand.{Demand}
 use Rattle.reader_check.specs.FullCheck.{asked}
 use borrow.Author.Needs.{needs}

@@ -3,12 +3,14 @@
 use Prim.Native.Nat.{_-_, _≤_, _<_}
 use native.Mathlib.Omega.{arith}
 use mathlib.Core.Path.{_≡_, refl, sym}
-use Rattle.answer.specs.CheckLaws.{told-yes, told-no}
-use Rattle.reader_cover.specs.Holds.{all, all-start, all-yes, all-no, all-end}
-use Rattle.reader_check.specs.FullCheck.{asked, rule-broken, rule-met, found-one, found-none}
+use Rattle.answer.proofs.CheckLaws.{told-yes, told-no}
+use Rattle.reader_check.specs.FullCheck.{asked}
 use borrow.Author.Needs.{needs}
 use Rattle.reader_check.proofs.judge.Statement.{statement}
 use Rattle.reader_check.proofs.judge.Tie as tie
+use Rattle.reader_cover.specs.All.{all}
+use Rattle.reader_check.proofs.FullCheckLaws.{rule-broken, rule-met, found-one, found-none}
+use Rattle.reader_cover.proofs.AllLaws.{all-start, all-yes, all-no, all-end}
 
 abbrev Inv-loop : tie.InvT-loop
 Inv-loop o s broken number demand count n i₀ i = (i ≤ n) × (n < 0x1_0000_0000) × (all (asked o s demand .test) (n - i) i ≡ all (asked o s demand .test) count 0)

@@ -2,10 +2,10 @@
 -- Assumes nothing.
 use mathlib.Core.Path.{sym, ap, _∙_}
 use Rattle.reader_records.specs.Records.{toldOp}
-use Rattle.reader_cover.specs.Holds.{answered-no, answered-ok}
 use borrow.Author.Needs.{needs}
 use Rattle.reader_check.proofs.op_there.Statement.{statement}
 use Rattle.reader_check.proofs.op_there.Tie as tie
+use Rattle.answer.proofs.AnswersLaws.{answered-no, answered-ok}
 
 op-at-requires : tie.Need-op-at-requires
 op-at-requires c κs = search needs

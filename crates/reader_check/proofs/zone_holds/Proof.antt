@@ -2,11 +2,11 @@
 -- Assumes nothing.
 use mathlib.Core.Path.{sym, ap, _∙_}
 use Rattle.reader_records.specs.Records.{toldList}
-use Rattle.reader_cover.specs.Holds.{holds-no, holds-ok}
 use Rattle.reader_cover.specs.Cover.{zoneCovers}
 use borrow.Author.Needs.{needs}
 use Rattle.reader_check.proofs.zone_holds.Statement.{statement}
 use Rattle.reader_check.proofs.zone_holds.Tie as tie
+use Rattle.answer.proofs.AnswersLaws.{holds-no, holds-ok}
 
 tz-at-requires : tie.Need-tz-at-requires
 tz-at-requires c κs = search needs

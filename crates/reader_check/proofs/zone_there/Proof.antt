@@ -2,10 +2,10 @@
 -- Assumes nothing.
 use mathlib.Core.Path.{sym, ap, _∙_}
 use Rattle.reader_records.specs.Records.{toldList}
-use Rattle.reader_cover.specs.Holds.{answered-no, answered-ok}
 use borrow.Author.Needs.{needs}
 use Rattle.reader_check.proofs.zone_there.Statement.{statement}
 use Rattle.reader_check.proofs.zone_there.Tie as tie
+use Rattle.answer.proofs.AnswersLaws.{answered-no, answered-ok}
 
 tz-at-requires : tie.Need-tz-at-requires
 tz-at-requires c κs = search needs

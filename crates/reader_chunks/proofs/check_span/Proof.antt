@@ -1,11 +1,11 @@
 -- `reader_chunks::check_span` meets its contract: the range, then the bytes.
 -- Assumes nothing.
 use mathlib.Core.Path.{ap, _∙_}
-use Rattle.tzb_core.specs.Decode.{outcome}
-use Rattle.reader_chunks.specs.Chunks.{span-none, span-short, span-is}
 use borrow.Author.Needs.{needs}
 use Rattle.reader_chunks.proofs.check_span.Statement.{statement}
 use Rattle.reader_chunks.proofs.check_span.Tie as tie
+use Rattle.answer.specs.Answers.{outcome}
+use Rattle.reader_chunks.proofs.ChunksLaws.{span-none, span-short, span-is}
 
 fail-requires : tie.Need-fail-requires
 fail-requires c κs = search needs

@@ -1,12 +1,13 @@
 -- `reader_chunks::decode_chunk_points` meets its contract: the record, then the rest.
 -- Assumes nothing.
 use mathlib.Core.Path.{sym, ap, _∙_}
-use Rattle.tzb_core.specs.Decode.{outcome, filled}
+use Rattle.tzb_core.specs.Decode.{filled}
 use Rattle.reader_records.specs.Records.{toldChunk}
-use Rattle.reader_chunks.specs.Chunks.{in-no, in-is}
 use borrow.Author.Needs.{needs}
 use Rattle.reader_chunks.proofs.decode_chunk_points.Statement.{statement}
 use Rattle.reader_chunks.proofs.decode_chunk_points.Tie as tie
+use Rattle.answer.specs.Answers.{outcome}
+use Rattle.reader_chunks.proofs.ChunksLaws.{in-no, in-is}
 
 chunk-at-requires : tie.Need-chunk-at-requires
 chunk-at-requires c κs = search needs

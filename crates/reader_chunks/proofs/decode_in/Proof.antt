@@ -1,15 +1,15 @@
 -- `reader_chunks::decode_in` meets its contract: the range, then the points.
 -- Assumes nothing.
 use mathlib.Core.Path.{sym, ap, _∙_}
-use Rattle.answer.specs.Answers.{checkedTold}
-use Rattle.tzb_core.specs.Decode.{outcome, filled}
+use Rattle.answer.specs.Answers.{checkedTold, outcome}
+use Rattle.tzb_core.specs.Decode.{filled}
 use Rattle.reader_chunks.proofs.Ranges.{span-fine}
-use Rattle.tzb_core.proofs.Decoded.{outcome-no}
-use Rattle.reader_chunks.specs.Chunks.{span-is, points-no, points-is, into-room}
 use native.Mathlib.Omega.{arith}
 use borrow.Author.Needs.{needs}
 use Rattle.reader_chunks.proofs.decode_in.Statement.{statement}
 use Rattle.reader_chunks.proofs.decode_in.Tie as tie
+use Rattle.answer.proofs.AnswersLaws.{outcome-no}
+use Rattle.reader_chunks.proofs.ChunksLaws.{span-is, points-no, points-is, into-room}
 
 check-span-requires : tie.Need-check-span-requires
 check-span-requires c κs = search needs

@@ -1,12 +1,14 @@
 -- `reader_chunks::decode_record` meets its contract: the count, the room, the end, then the points.
 -- Assumes nothing.
 use mathlib.Core.Path.{sym, ap, _∙_}
-use Rattle.tzb_core.specs.Decode.{outcome, filled}
-use Rattle.reader_chunks.specs.Chunks.{toldOffset, by-none, by-short, by-far, by-is}
+use Rattle.tzb_core.specs.Decode.{filled}
+use Rattle.reader_chunks.specs.Chunks.{toldOffset}
 use native.Mathlib.Omega.{arith}
 use borrow.Author.Needs.{needs}
 use Rattle.reader_chunks.proofs.decode_record.Statement.{statement}
 use Rattle.reader_chunks.proofs.decode_record.Tie as tie
+use Rattle.answer.specs.Answers.{outcome}
+use Rattle.reader_chunks.proofs.ChunksLaws.{by-none, by-short, by-far, by-is}
 
 fail-requires : tie.Need-fail-requires
 fail-requires c κs = search needs

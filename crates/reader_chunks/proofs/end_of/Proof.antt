@@ -3,11 +3,11 @@
 use mathlib.Core.Path.{sym, ap, _∙_}
 use Rattle.answer.specs.Answers.{ok}
 use Rattle.reader_records.specs.Records.{toldChunk}
-use Rattle.reader_chunks.specs.Chunks.{end-no, end-is, end-last}
 use native.Mathlib.Omega.{arith}
 use borrow.Author.Needs.{needs}
 use Rattle.reader_chunks.proofs.end_of.Statement.{statement}
 use Rattle.reader_chunks.proofs.end_of.Tie as tie
+use Rattle.reader_chunks.proofs.ChunksLaws.{end-no, end-is, end-last}
 
 wide-requires : tie.Need-wide-requires
 wide-requires c κs = search needs

@@ -2,10 +2,11 @@
 -- Assumes nothing.
 use mathlib.Core.Path.{sym, ap, _∙_}
 use Rattle.reader_records.specs.Records.{toldChunk}
-use Rattle.reader_chunks.specs.Chunks.{toldOffset, at-no, at-far, at-is}
+use Rattle.reader_chunks.specs.Chunks.{toldOffset}
 use borrow.Author.Needs.{needs}
 use Rattle.reader_chunks.proofs.first_at.Statement.{statement}
 use Rattle.reader_chunks.proofs.first_at.Tie as tie
+use Rattle.reader_chunks.proofs.ChunksLaws.{at-no, at-far, at-is}
 
 chunk-at-requires : tie.Need-chunk-at-requires
 chunk-at-requires c κs = search needs

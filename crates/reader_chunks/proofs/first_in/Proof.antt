@@ -4,12 +4,12 @@ use mathlib.Core.Path.{sym, ap, _∙_}
 use Rattle.answer.specs.Answers.{checkedTold}
 use Rattle.tzb_core.specs.Points.{spotted}
 use Rattle.reader_chunks.proofs.Ranges.{span-fine}
-use Rattle.tzb_core.proofs.Decoded.{outcome-no}
-use Rattle.reader_chunks.specs.Chunks.{span-is, first-no, first-bad, first-is}
 use native.Mathlib.Omega.{arith}
 use borrow.Author.Needs.{needs}
 use Rattle.reader_chunks.proofs.first_in.Statement.{statement}
 use Rattle.reader_chunks.proofs.first_in.Tie as tie
+use Rattle.answer.proofs.AnswersLaws.{outcome-no}
+use Rattle.reader_chunks.proofs.ChunksLaws.{span-is, first-no, first-bad, first-is}
 
 check-span-requires : tie.Need-check-span-requires
 check-span-requires c κs = search needs

@@ -2,11 +2,11 @@
 -- Assumes nothing.
 use mathlib.Core.Path.{ap₂, _∙_}
 use Prim.Native.Nat.{_+_}
-use Rattle.reader_chunks.specs.Chunks.{start-is}
 use native.Mathlib.Omega.{arith}
 use borrow.Author.Needs.{needs}
 use Rattle.reader_chunks.proofs.start_of.Statement.{statement}
 use Rattle.reader_chunks.proofs.start_of.Tie as tie
+use Rattle.reader_chunks.proofs.ChunksLaws.{start-is}
 
 wide-requires : tie.Need-wide-requires
 wide-requires c κs = search needs

@@ -2,10 +2,11 @@
 -- Assumes nothing.
 use mathlib.Core.Path.{sym, ap, _∙_}
 use Rattle.reader_records.specs.Records.{toldChunk}
-use Rattle.reader_chunks.specs.Chunks.{toldOffset, trace-at-no, trace-at-far, trace-at-is}
+use Rattle.reader_chunks.specs.Chunks.{toldOffset}
 use borrow.Author.Needs.{needs}
 use Rattle.reader_chunks.proofs.trace_at.Statement.{statement}
 use Rattle.reader_chunks.proofs.trace_at.Tie as tie
+use Rattle.reader_chunks.proofs.ChunksLaws.{trace-at-no, trace-at-far, trace-at-is}
 
 chunk-at-requires : tie.Need-chunk-at-requires
 chunk-at-requires c κs = search needs

@@ -3,12 +3,12 @@
 use mathlib.Core.Path.{sym, _∙_, ap}
 use Rattle.answer.specs.Answers.{checkedTold}
 use Rattle.reader_chunks.proofs.Ranges.{span-fine}
-use Rattle.tzb_core.proofs.Decoded.{outcome-no}
-use Rattle.reader_chunks.specs.Chunks.{span-is, trace-no, trace-is}
 use native.Mathlib.Omega.{arith}
 use borrow.Author.Needs.{needs}
 use Rattle.reader_chunks.proofs.trace_in.Statement.{statement}
 use Rattle.reader_chunks.proofs.trace_in.Tie as tie
+use Rattle.answer.proofs.AnswersLaws.{outcome-no}
+use Rattle.reader_chunks.proofs.ChunksLaws.{span-is, trace-no, trace-is}
 
 check-span-requires : tie.Need-check-span-requires
 check-span-requires c κs = search needs

@@ -2,11 +2,11 @@
 -- Assumes nothing.
 use mathlib.Core.Path.{sym, ap, _∙_}
 use Rattle.reader_records.specs.Records.{toldChunk}
-use Rattle.reader_cover.specs.Holds.{holds-no, holds-ok}
 use Rattle.reader_cover.specs.Cover.{chunkUnder}
 use borrow.Author.Needs.{needs}
 use Rattle.reader_cover.proofs.chunk_under.Statement.{statement}
 use Rattle.reader_cover.proofs.chunk_under.Tie as tie
+use Rattle.answer.proofs.AnswersLaws.{holds-no, holds-ok}
 
 chunk-at-requires : tie.Need-chunk-at-requires
 chunk-at-requires c κs = search needs

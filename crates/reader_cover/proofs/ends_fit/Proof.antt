@@ -1,10 +1,10 @@
 -- `reader_cover::ends_fit` meets its contract: the entry and the exit.
 -- Assumes nothing.
 use native.Mathlib.Omega.{arith}
-use Rattle.reader_cover.specs.Cover.{ends-are}
 use borrow.Author.Needs.{needs}
 use Rattle.reader_cover.proofs.ends_fit.Statement.{statement}
 use Rattle.reader_cover.proofs.ends_fit.Tie as tie
+use Rattle.reader_cover.proofs.CoverLaws.{ends-are}
 
 wide-requires : tie.Need-wide-requires
 wide-requires c κs = search needs

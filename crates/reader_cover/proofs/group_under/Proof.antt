@@ -2,11 +2,11 @@
 -- Assumes nothing.
 use mathlib.Core.Path.{sym, ap, _∙_}
 use Rattle.reader_records.specs.Records.{toldGroup}
-use Rattle.reader_cover.specs.Holds.{holds-no, holds-ok}
 use Rattle.reader_cover.specs.Cover.{groupUnder}
 use borrow.Author.Needs.{needs}
 use Rattle.reader_cover.proofs.group_under.Statement.{statement}
 use Rattle.reader_cover.proofs.group_under.Tie as tie
+use Rattle.answer.proofs.AnswersLaws.{holds-no, holds-ok}
 
 op-group-requires : tie.Need-op-group-requires
 op-group-requires c κs = search needs

@@ -2,11 +2,11 @@
 -- Assumes nothing.
 use Prim.Native.Nat.{ℕ}
 use mathlib.Core.Path.{ap, _∙_}
-use Rattle.reader_cover.specs.Holds.{all}
 use Rattle.reader_cover.specs.Cover.{jointCovers, jointsCover}
 use borrow.Author.Needs.{needs}
 use Rattle.reader_cover.proofs.joints_cover.Statement.{statement}
 use Rattle.reader_cover.proofs.joints_cover.Tie as tie
+use Rattle.reader_cover.specs.All.{all}
 
 less-one-requires : tie.Need-less-one-requires
 less-one-requires c κs = search needs

@@ -2,10 +2,10 @@
 -- Assumes nothing.
 use mathlib.Core.Path.{sym, ap, _∙_}
 use Rattle.reader_chunks.specs.Chunks.{toldPoint}
-use Rattle.reader_cover.specs.Holds.{holds-no, holds-ok}
 use borrow.Author.Needs.{needs}
 use Rattle.reader_cover.proofs.next_in_box.Statement.{statement}
 use Rattle.reader_cover.proofs.next_in_box.Tie as tie
+use Rattle.answer.proofs.AnswersLaws.{holds-no, holds-ok}
 
 first-at-requires : tie.Need-first-at-requires
 first-at-requires c κs = search needs

@@ -2,10 +2,10 @@
 -- Assumes nothing.
 use mathlib.Core.Path.{sym, ap, _∙_}
 use Rattle.reader_records.specs.Records.{toldOp}
-use Rattle.reader_cover.specs.Cover.{op-group-no, op-group-is}
 use borrow.Author.Needs.{needs}
 use Rattle.reader_cover.proofs.op_group.Statement.{statement}
 use Rattle.reader_cover.proofs.op_group.Tie as tie
+use Rattle.reader_cover.proofs.CoverLaws.{op-group-no, op-group-is}
 
 op-at-requires : tie.Need-op-at-requires
 op-at-requires c κs = search needs

@@ -2,11 +2,11 @@
 -- Assumes nothing.
 use mathlib.Core.Path.{sym, ap, _∙_}
 use Rattle.reader_records.specs.Records.{toldList}
-use Rattle.reader_cover.specs.Holds.{holds-no, holds-ok}
 use Rattle.reader_cover.specs.Cover.{polyUnder}
 use borrow.Author.Needs.{needs}
 use Rattle.reader_cover.proofs.poly_under.Statement.{statement}
 use Rattle.reader_cover.proofs.poly_under.Tie as tie
+use Rattle.answer.proofs.AnswersLaws.{holds-no, holds-ok}
 
 poly-at-requires : tie.Need-poly-at-requires
 poly-at-requires c κs = search needs

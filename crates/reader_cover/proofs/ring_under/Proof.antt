@@ -2,11 +2,11 @@
 -- Assumes nothing.
 use mathlib.Core.Path.{sym, ap, _∙_}
 use Rattle.reader_records.specs.Records.{toldRing}
-use Rattle.reader_cover.specs.Holds.{holds-no, holds-ok}
 use Rattle.reader_cover.specs.Cover.{ringUnder}
 use borrow.Author.Needs.{needs}
 use Rattle.reader_cover.proofs.ring_under.Statement.{statement}
 use Rattle.reader_cover.proofs.ring_under.Tie as tie
+use Rattle.answer.proofs.AnswersLaws.{holds-no, holds-ok}
 
 ring-at-requires : tie.Need-ring-at-requires
 ring-at-requires c κs = search needs

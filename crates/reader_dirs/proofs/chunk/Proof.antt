@@ -2,7 +2,7 @@
 -- Assumes nothing.
 use native.Mathlib.Omega.{arith}
 use mathlib.Core.Path.{_∙_}
-use Rattle.answer.specs.CheckLaws.{met, unmet, end, le-at, gt-at, lt-below, ge-below, told-yes, told-no}
+use Rattle.answer.proofs.CheckLaws.{met, unmet, end, le-at, gt-at, lt-below, ge-below, told-yes, told-no}
 use Rattle.reader_dirs.specs.Dirs.{chunkCheck}
 use borrow.Author.Needs.{needs}
 use Rattle.reader_dirs.proofs.chunk.Statement.{statement}

@@ -2,13 +2,13 @@
 -- Assumes nothing.
 use native.Mathlib.Omega.{arith}
 use mathlib.Core.Path.{refl, sym, _∙_}
-use Rattle.answer.specs.CheckLaws.{met, unmet, end, eq-same, ne-same, told-yes, told-no}
-use Rattle.reader_records.specs.Records.{group-within, within-fits}
+use Rattle.answer.proofs.CheckLaws.{met, unmet, end, eq-same, ne-same, told-yes, told-no}
 use Rattle.reader_dirs.specs.Dirs.{groupCheck}
 use Rattle.reader_dirs.proofs.Loops.{total-is}
 use borrow.Author.Needs.{needs}
 use Rattle.reader_dirs.proofs.group.Statement.{statement}
 use Rattle.reader_dirs.proofs.group.Tie as tie
+use Rattle.reader_records.proofs.RecordsLaws.{group-within, within-fits}
 
 group-rule-requires : tie.Need-group-rule-requires
 group-rule-requires c κs = search needs

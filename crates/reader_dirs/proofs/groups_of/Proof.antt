@@ -5,7 +5,7 @@ use native.Mathlib.Omega.{arith}
 use mathlib.Core.Path.{_≡_, _∙_, ap}
 use Rattle.answer.specs.Answers.{checkedTold}
 use Rattle.answer.specs.Checks.{each}
-use Rattle.answer.specs.CheckLaws.{each-from, each-stop, each-fine, each-end}
+use Rattle.answer.proofs.CheckLaws.{each-from, each-stop, each-fine, each-end}
 use Rattle.reader_dirs.specs.Dirs.{Lies, groupCheckAt}
 use Rattle.reader_dirs.proofs.Loops.{group-checked}
 use borrow.Author.Needs.{needs}

@@ -3,11 +3,12 @@
 use Prim.Native.Nat.{_+_, _-_, _*_, _≤_, _<_}
 use native.Mathlib.Omega.{arith}
 use mathlib.Core.Path.{_≡_}
-use Rattle.reader_dirs.specs.Dirs.{Lies, total, countAt}
+use Rattle.reader_dirs.specs.Dirs.{Lies, countAt}
 use Rattle.reader_dirs.proofs.Loops.{total-start, total-next, total-end}
 use borrow.Author.Needs.{needs}
 use Rattle.reader_dirs.proofs.points_of.Statement.{statement}
 use Rattle.reader_dirs.proofs.points_of.Tie as tie
+use Rattle.basics.specs.Total.{total}
 
 abbrev Inv-loop : tie.InvT-loop
 Inv-loop s d from to sum₀ j₀ sum j = (from ≤ j) × (j ≤ to) × (to < from + 0x1_0000) × Lies s d 24 × (to ≤ d .count) × (sum ≤ 65_535 * (j - from)) × (sum + total (countAt s d) (to - j) j ≡ total (countAt s d) (to - from) from)

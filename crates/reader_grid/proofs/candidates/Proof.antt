@@ -3,7 +3,7 @@
 use mathlib.Core.Path.{ap, _∙_}
 use lib.IntN.{ℤ, _-ℤ_}
 use mir.Syntax.{w16, w64}
-use Rattle.answer.specs.CheckLaws.{told-yes, told-no}
+use Rattle.answer.proofs.CheckLaws.{told-yes, told-no}
 use Rattle.reader_grid.proofs.Asking.{off-earth, no-grid, by-grid}
 use Rattle.reader_grid.specs.Floor.{floorOf}
 use Rattle.basics.specs.Signed.{back}

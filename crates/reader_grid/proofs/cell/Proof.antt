@@ -1,7 +1,7 @@
 -- `cell` meets its contract: the range of the word, then its candidates.
 -- Assumes nothing.
 use mathlib.Core.Path.{_≡_, _∙_, sym, ap}
-use Rattle.answer.specs.CheckLaws.{met-by, unmet-by}
+use Rattle.answer.proofs.CheckLaws.{met-by, unmet-by}
 use Rattle.reader_grid.specs.Grid.{cellCheck, candidateCheck}
 use Rattle.reader_grid.specs.Word.{rangeCheck, wordOffset, wordCount}
 use Rattle.reader_grid.proofs.Checking.{ranged, only}

@@ -5,7 +5,7 @@ use mathlib.Core.Path.{_≡_, refl, sym, ap, ap₂, _∙_}
 use lib.IntN.{ℤ}
 use mir.Syntax.{w64}
 use mir.ValLaws.{toZ-ofZ}
-use Rattle.answer.specs.CheckLaws.{told-yes, told-no}
+use Rattle.answer.proofs.CheckLaws.{told-yes, told-no}
 use Rattle.fields.specs.Loads.{told32}
 use Rattle.reader_grid.specs.Asked.{inGrid, cellOf}
 use Rattle.reader_grid.proofs.Asking.{cell-outside, cell-broken, cell-read}

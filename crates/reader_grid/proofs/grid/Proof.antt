@@ -2,7 +2,7 @@
 -- Assumes nothing.
 use native.Mathlib.Omega.{arith}
 use mathlib.Core.Path.{_∙_}
-use Rattle.answer.specs.CheckLaws.{met, unmet, le-at, gt-at, eq-same, ne-same, told-yes, told-no}
+use Rattle.answer.proofs.CheckLaws.{met, unmet, le-at, gt-at, eq-same, ne-same, told-yes, told-no}
 use Rattle.reader_grid.specs.Grid.{gridCheck}
 use Rattle.reader_grid.proofs.Checking.{only, cells-are}
 use borrow.Author.Needs.{needs}

@@ -2,7 +2,7 @@
 -- Assumes nothing.
 use mathlib.Core.Path.{ap, _∙_}
 use Rattle.answer.specs.Checks.{claim}
-use Rattle.answer.specs.CheckLaws.{below-is}
+use Rattle.answer.proofs.CheckLaws.{below-is}
 use Rattle.reader_grid.specs.Grid.{candidateCheck}
 use borrow.Author.Needs.{needs}
 use Rattle.reader_grid.proofs.zone_listed.Statement.{statement}

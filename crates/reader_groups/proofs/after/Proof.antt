@@ -1,11 +1,11 @@
 -- `reader_groups::after` meets its contract: a walk after a stretch.
 -- Assumes nothing.
 use mathlib.Core.Path.{sym, ap}
-use Rattle.answer.specs.Walks.{add-broken, add-on, add-off}
 use Rattle.reader_groups.specs.Groups.{went}
 use borrow.Author.Needs.{needs}
 use Rattle.reader_groups.proofs.after.Statement.{statement}
 use Rattle.reader_groups.proofs.after.Tie as tie
+use Rattle.answer.proofs.WalksLaws.{add-broken, add-on, add-off}
 
 enum-known-w : tie.Need-enum-known-w
 enum-known-w c = search needs

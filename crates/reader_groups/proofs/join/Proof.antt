@@ -2,11 +2,11 @@
 -- Assumes nothing.
 use mathlib.Core.Path.{refl, sym, ap, _∙_}
 use Rattle.plane.specs.Sight.{Sight, seenTold}
-use Rattle.answer.specs.Walks.{add-on, add-off}
 use Rattle.tzb_core.specs.Scan.{past}
 use borrow.Author.Needs.{needs}
 use Rattle.reader_groups.proofs.join.Statement.{statement}
 use Rattle.reader_groups.proofs.join.Tie as tie
+use Rattle.answer.proofs.WalksLaws.{add-on, add-off}
 
 raycast-seg-requires : tie.Need-raycast-seg-requires
 raycast-seg-requires c κs = search needs

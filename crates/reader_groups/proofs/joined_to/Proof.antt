@@ -1,10 +1,10 @@
 -- `reader_groups::joined_to` meets its contract: by its ends, through its segments, or not at all.
 -- Assumes nothing.
 use mathlib.Core.Path.{sym, _∙_}
-use Rattle.reader_groups.specs.Groups.{joined-skip, joined-scan, joined-none}
 use borrow.Author.Needs.{needs}
 use Rattle.reader_groups.proofs.joined_to.Statement.{statement}
 use Rattle.reader_groups.proofs.joined_to.Tie as tie
+use Rattle.reader_groups.proofs.GroupsLaws.{joined-skip, joined-scan, joined-none}
 
 relevant-requires : tie.Need-relevant-requires
 relevant-requires c κs = search needs

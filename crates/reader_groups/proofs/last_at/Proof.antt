@@ -3,10 +3,10 @@
 use mathlib.Core.Path.{sym, ap, _∙_}
 use Rattle.reader_chunks.specs.Chunks.{toldOffset}
 use Rattle.reader_groups.proofs.Remembering.{kept-at, own-is}
-use Rattle.reader_groups.specs.Groups.{last-no, last-is, last-none}
 use borrow.Author.Needs.{needs}
 use Rattle.reader_groups.proofs.last_at.Statement.{statement}
 use Rattle.reader_groups.proofs.last_at.Tie as tie
+use Rattle.reader_groups.proofs.GroupsLaws.{last-no, last-is, last-none}
 
 relevant-requires : tie.Need-relevant-requires
 relevant-requires c κs = search needs

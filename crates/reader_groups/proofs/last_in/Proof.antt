@@ -3,10 +3,10 @@
 use mathlib.Core.Path.{sym, ap, _∙_}
 use Rattle.tzb_core.specs.Scan.{scanned}
 use Rattle.reader_chunks.specs.Chunks.{toldPoint}
-use Rattle.reader_groups.specs.Groups.{last-first-no, last-first, last-scan-no, last-scan-on, last-scan}
 use borrow.Author.Needs.{needs}
 use Rattle.reader_groups.proofs.last_in.Statement.{statement}
 use Rattle.reader_groups.proofs.last_in.Tie as tie
+use Rattle.reader_groups.proofs.GroupsLaws.{last-first-no, last-first, last-scan-no, last-scan-on, last-scan}
 
 right-requires : tie.Need-right-requires
 right-requires c κs = search needs

@@ -2,10 +2,10 @@
 -- Assumes nothing.
 use mathlib.Core.Path.{sym, ap, _∙_}
 use Rattle.reader_chunks.specs.Chunks.{toldOffset}
-use Rattle.reader_groups.specs.Groups.{next-no, next-is}
 use borrow.Author.Needs.{needs}
 use Rattle.reader_groups.proofs.next_first.Statement.{statement}
 use Rattle.reader_groups.proofs.next_first.Tie as tie
+use Rattle.reader_groups.proofs.GroupsLaws.{next-no, next-is}
 
 add-end-of : tie.Need-add-end-of
 add-end-of c = search needs

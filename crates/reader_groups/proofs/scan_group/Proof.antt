@@ -2,10 +2,10 @@
 -- Assumes nothing.
 use mathlib.Core.Path.{sym, ap, _∙_}
 use Rattle.reader_records.specs.Records.{toldChunk}
-use Rattle.reader_groups.specs.Groups.{group-no, group-is}
 use borrow.Author.Needs.{needs}
 use Rattle.reader_groups.proofs.scan_group.Statement.{statement}
 use Rattle.reader_groups.proofs.scan_group.Tie as tie
+use Rattle.reader_groups.proofs.GroupsLaws.{group-no, group-is}
 
 wide-requires : tie.Need-wide-requires
 wide-requires c κs = search needs

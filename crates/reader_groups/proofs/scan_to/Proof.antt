@@ -4,10 +4,10 @@ use mathlib.Core.Path.{refl, sym, ap, _∙_}
 use Rattle.tzb_core.specs.Scan.{scanned}
 use Rattle.reader_chunks.specs.Chunks.{toldPoint}
 use Rattle.reader_groups.proofs.Remembering.{leaves-at}
-use Rattle.reader_groups.specs.Groups.{scan-to-no, scan-to-on, scan-to-far, scan-to-is}
 use borrow.Author.Needs.{needs}
 use Rattle.reader_groups.proofs.scan_to.Statement.{statement}
 use Rattle.reader_groups.proofs.scan_to.Tie as tie
+use Rattle.reader_groups.proofs.GroupsLaws.{scan-to-no, scan-to-on, scan-to-far, scan-to-is}
 
 start-of-requires : tie.Need-start-of-requires
 start-of-requires c κs = search needs

@@ -4,10 +4,10 @@ use mathlib.Core.Path.{sym, ap, _∙_}
 use Prim.Native.Nat.{ℕ}
 use Rattle.reader_chunks.specs.Chunks.{toldPoint, startOf, firstIn}
 use Rattle.reader_groups.proofs.Remembering.{kept-at}
-use Rattle.reader_groups.specs.Groups.{skip-no, skip-far, skip-is}
 use borrow.Author.Needs.{needs}
 use Rattle.reader_groups.proofs.skip_to.Statement.{statement}
 use Rattle.reader_groups.proofs.skip_to.Tie as tie
+use Rattle.reader_groups.proofs.GroupsLaws.{skip-no, skip-far, skip-is}
 
 start-of-requires : tie.Need-start-of-requires
 start-of-requires c κs = search needs

@@ -1,7 +1,7 @@
 -- `reader_head::bounds` meets its contract.
 -- Assumes nothing.
 use mathlib.Core.Path.{_∙_, sym, _≡_}
-use Rattle.answer.specs.CheckLaws.{met, unmet, end, le-at, gt-at, eq-same, ne-same}
+use Rattle.answer.proofs.CheckLaws.{met, unmet, end, le-at, gt-at, eq-same, ne-same}
 use Rattle.reader_head.specs.Head.{boundsCheck}
 use lib.Seq.{length-take-le}
 use native.Mathlib.Omega.{arith}

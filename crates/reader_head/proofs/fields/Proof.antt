@@ -2,7 +2,7 @@
 -- Assumes nothing.
 use mathlib.Core.Path.{ap, _∙_}
 use Rattle.answer.specs.Checks.{claim}
-use Rattle.answer.specs.CheckLaws.{met, unmet, clear, barred, none-left, told-yes, told-no}
+use Rattle.answer.proofs.CheckLaws.{met, unmet, clear, barred, none-left, told-yes, told-no}
 use Rattle.reader_head.specs.Head.{isCount, fieldsCheck}
 use borrow.Author.Needs.{needs}
 use Rattle.reader_head.proofs.fields.Statement.{statement}

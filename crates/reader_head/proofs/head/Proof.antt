@@ -2,11 +2,12 @@
 -- Assumes nothing.
 use mathlib.Core.Path.{_∙_, sym, ap}
 use Rattle.answer.specs.Answers.{checkedTold}
-use Rattle.answer.specs.CheckLaws.{met-by, unmet-by, none-left}
-use Rattle.reader_head.specs.Head.{headCheck, started}
+use Rattle.answer.proofs.CheckLaws.{met-by, unmet-by, none-left}
+use Rattle.reader_head.specs.Head.{headCheck}
 use borrow.Author.Needs.{needs}
 use Rattle.reader_head.proofs.head.Statement.{statement}
 use Rattle.reader_head.proofs.head.Tie as tie
+use Rattle.reader_head.proofs.HeadLaws.{started}
 
 start-requires : tie.Need-start-requires
 start-requires c κs = search needs

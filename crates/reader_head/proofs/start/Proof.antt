@@ -4,10 +4,11 @@ use native.Mathlib.Omega.{arith}
 use mathlib.Core.Path.{_∙_}
 use lib.ListN.{length}
 use borrow.Author.Needs.{needs}
-use Rattle.answer.specs.CheckLaws.{met, unmet, clear, barred, none-left, eq-same, ne-same, told-yes, told-no}
-use Rattle.reader_head.specs.Head.{startCheck, size-in}
+use Rattle.answer.proofs.CheckLaws.{met, unmet, clear, barred, none-left, eq-same, ne-same, told-yes, told-no}
+use Rattle.reader_head.specs.Head.{startCheck}
 use Rattle.reader_head.proofs.start.Statement.{statement}
 use Rattle.reader_head.proofs.start.Tie as tie
+use Rattle.reader_head.proofs.HeadLaws.{size-in}
 
 fail-requires : tie.Need-fail-requires
 fail-requires c κs = search needs

@@ -5,9 +5,10 @@ use mathlib.Core.Path.{_≡_, sym, _∙_}
 use borrow.Author.Needs.{needs}
 use native.Mathlib.Omega.{arith}
 use lib.ListN.{length}
-use Rattle.reader_head.specs.Magic.{sameFrom, start-short, start-long, from-start, from-end, from-yes, from-no}
+use Rattle.reader_head.specs.Magic.{sameFrom}
 use Rattle.reader_head.proofs.starts_with.Statement.{statement}
 use Rattle.reader_head.proofs.starts_with.Tie as tie
+use Rattle.reader_head.proofs.MagicLaws.{start-short, start-long, from-start, from-end, from-yes, from-no}
 
 abbrev Inv-loop : tie.InvT-loop
 Inv-loop s t i₀ i = (i ≤ length t) × (length t ≤ length s) × (sameFrom (length t - i) s t i ≡ sameFrom (length t) s t 0)

@@ -1,7 +1,7 @@
 -- `reader_head::version` meets its contract.
 -- Assumes nothing.
 use mathlib.Core.Path.{_∙_, _≡_, ap}
-use Rattle.answer.specs.CheckLaws.{met, unmet, end, told-yes, told-no, told-eq, told-ne}
+use Rattle.answer.proofs.CheckLaws.{met, unmet, end, told-yes, told-no, told-eq, told-ne}
 use Rattle.reader_head.specs.Head.{versionCheck, versionEnd, isZero, notZero}
 use Prim.Native.Nat.{ℕ, _-_}
 use mathlib.Core.Bool.{Bool}

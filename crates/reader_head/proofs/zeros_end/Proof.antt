@@ -4,7 +4,7 @@ use Prim.Native.Nat.{_≤_, _-_}
 use mathlib.Core.Path.{_≡_, refl}
 use lib.ListN.{length}
 use Rattle.answer.specs.Checks.{seek}
-use Rattle.answer.specs.CheckLaws.{seek-yes, seek-no, seek-end, not-yes, not-no, eq-same, ne-same}
+use Rattle.answer.proofs.CheckLaws.{seek-yes, seek-no, seek-end, not-yes, not-no, eq-same, ne-same}
 use Rattle.reader_head.specs.Head.{notZero}
 use native.Mathlib.Omega.{arith}
 use borrow.Author.Needs.{needs}

@@ -1,10 +1,10 @@
 -- `candidate` meets its contract: with GRID, without.
 -- Assumes nothing.
 use mathlib.Core.Path.{_∙_}
-use Rattle.reader_lookup.specs.Asking.{candidate-listed, candidate-zone}
 use borrow.Author.Needs.{needs}
 use Rattle.reader_lookup.proofs.candidate.Statement.{statement}
 use Rattle.reader_lookup.proofs.candidate.Tie as tie
+use Rattle.reader_lookup.proofs.AskingLaws.{candidate-listed, candidate-zone}
 
 candidate-at-requires : tie.Need-candidate-at-requires
 candidate-at-requires c κs = search needs

@@ -2,11 +2,13 @@
 -- Assumes nothing.
 use Prim.Native.Nat.{_+_, _<_}
 use mathlib.Core.Path.{_≡_, refl, sym, ap, _∙_}
-use Rattle.reader_lookup.specs.Asking.{found, hitAt, firstHit, first-end, first-no, first-yes, first-on}
+use Rattle.reader_lookup.specs.Asking.{hitAt, firstHit}
 use native.Mathlib.Omega.{arith}
 use borrow.Author.Needs.{needs}
 use Rattle.reader_lookup.proofs.first_in.Statement.{statement}
 use Rattle.reader_lookup.proofs.first_in.Tie as tie
+use Rattle.replies.specs.Replies.{foundTold}
+use Rattle.reader_lookup.proofs.AskingLaws.{first-end, first-no, first-yes, first-on}
 
 abbrev Inv-loop : tie.InvT-loop
 Inv-loop o s p grid n from place₀ left₀ place left = (place + left < 0x1_0000_0000) × (firstHit (hitAt o s p grid) left place ≡ firstHit (hitAt o s p grid) n from)
@@ -30,7 +32,7 @@ returns : tie.Need-returns Inv-loop μ-loop
 returns c =
     let h = c .before .before .before in
     let l = h .before .before .loop in
-    first-yes _ _ _ (h .before .loop-test .taken) _ (sym (ap found (c .before .h .given .1)) ∙ h .hit-at .ensures) ∙ l .inv .1
+    first-yes _ _ _ (h .before .loop-test .taken) _ (sym (ap foundTold (c .before .h .given .1)) ∙ h .hit-at .ensures) ∙ l .inv .1
 
 enum-known-h-2 : tie.Need-enum-known-h-2 Inv-loop μ-loop
 enum-known-h-2 c = search needs
@@ -39,7 +41,7 @@ returns-2 : tie.Need-returns-2 Inv-loop μ-loop
 returns-2 c =
     let h = c .before .before .before in
     let l = h .before .before .loop in
-    first-no _ _ _ (h .before .loop-test .taken) _ (sym (ap found (c .before .h2 .given .1)) ∙ h .hit-at .ensures) ∙ l .inv .1
+    first-no _ _ _ (h .before .loop-test .taken) _ (sym (ap foundTold (c .before .h2 .given .1)) ∙ h .hit-at .ensures) ∙ l .inv .1
 
 add-place : tie.Need-add-place Inv-loop μ-loop
 add-place c = search needs
@@ -54,7 +56,7 @@ loop-again : tie.Need-loop-again Inv-loop μ-loop
 loop-again c =
     let h = c .before .before in
     let l = h .before .before .loop in
-    (omega arith, first-on _ _ _ (h .before .loop-test .taken) (sym (ap found (c .enum-told .given .1)) ∙ h .hit-at .ensures) ∙ l .inv .1)
+    (omega arith, first-on _ _ _ (h .before .loop-test .taken) (sym (ap foundTold (c .enum-told .given .1)) ∙ h .hit-at .ensures) ∙ l .inv .1)
 
 returns-3 : tie.Need-returns-3 Inv-loop μ-loop
 returns-3 c = first-end _ _ _ (c .loop-test .left) ∙ c .before .loop .inv .1

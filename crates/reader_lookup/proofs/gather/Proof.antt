@@ -1,12 +1,13 @@
--- `gather` meets its contract. The loop's invariant: what is left, behind what was found, gives the count and the zones of all.
+-- `gather` meets its contract. The loop's invariant: what is left, behind what was foundTold, gives the count and the zones of all.
 -- Assumes nothing.
 use mathlib.Core.Path.{sym, ap, _∙_}
 use Rattle.answer.specs.Answers.{checkedTold}
-use Rattle.reader_lookup.specs.Asking.{found, hitAt}
+use Rattle.reader_lookup.specs.Asking.{hitAt}
 use Rattle.reader_lookup.proofs.Gathered.{Gathering, gather-start, gather-no, gather-miss, gather-hit, gather-end, gather-bad}
 use borrow.Author.Needs.{needs}
 use Rattle.reader_lookup.proofs.gather.Statement.{statement}
 use Rattle.reader_lookup.proofs.gather.Tie as tie
+use Rattle.replies.specs.Replies.{foundTold}
 
 abbrev Inv-loop : tie.InvT-loop
 Inv-loop o s p grid n from held₀ names₀ k₀ place₀ rest₀ held names k place rest = Gathering o s (hitAt o s p grid) n from held₀ held (checkedTold names) k place rest
@@ -35,7 +36,7 @@ loop-less c = search needs
 loop-again : tie.Need-loop-again Inv-loop μ-loop
 loop-again c =
     let h = c .before .before in
-    gather-miss _ _ _ _ _ _ _ _ _ _ _ (h .before .before .loop .inv) (h .before .loop-test .taken) (sym (ap found (c .enum-told .given .1)) ∙ h .hit-at .ensures)
+    gather-miss _ _ _ _ _ _ _ _ _ _ _ (h .before .before .loop .inv) (h .before .loop-test .taken) (sym (ap foundTold (c .enum-told .given .1)) ∙ h .hit-at .ensures)
 
 enum-known-h : tie.Need-enum-known-h Inv-loop μ-loop
 enum-known-h c = search needs
@@ -57,7 +58,7 @@ loop-again-2 c =
     let e = c .before .before in
     let m = e .before .before .before .before in
     let h = m .before .before in
-    gather-hit _ _ _ _ _ _ _ _ _ _ _ (h .before .before .loop .inv) (h .before .loop-test .taken) _ _ _ (sym (ap found (m .h .given .1)) ∙ h .hit-at .ensures) (e .before .before .name-after .ensures) (e .keep .ensures)
+    gather-hit _ _ _ _ _ _ _ _ _ _ _ (h .before .before .loop .inv) (h .before .loop-test .taken) _ _ _ (sym (ap foundTold (m .h .given .1)) ∙ h .hit-at .ensures) (e .before .before .name-after .ensures) (e .keep .ensures)
 
 enum-known-h-2 : tie.Need-enum-known-h-2 Inv-loop μ-loop
 enum-known-h-2 c = search needs
@@ -68,7 +69,7 @@ same-length c = c .before .before .before .before .before .loop .inv .same
 returns : tie.Need-returns Inv-loop μ-loop
 returns c =
     let h = c .before .before .before in
-    gather-no _ _ _ _ _ _ _ _ _ _ _ (h .before .before .loop .inv) (h .before .loop-test .taken) _ (sym (ap found (c .before .h2 .given .1)) ∙ h .hit-at .ensures)
+    gather-no _ _ _ _ _ _ _ _ _ _ _ (h .before .before .loop .inv) (h .before .loop-test .taken) _ (sym (ap foundTold (c .before .h2 .given .1)) ∙ h .hit-at .ensures)
 
 enum-told-2 : tie.Need-enum-told-2 Inv-loop μ-loop
 enum-told-2 c = search needs

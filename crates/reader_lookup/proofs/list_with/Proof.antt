@@ -1,11 +1,12 @@
 -- `list_with` meets its contract: what is refused before the first zone is written, and the list.
 -- Assumes nothing.
 use mathlib.Core.Path.{sym, ap, _∙_}
-use Rattle.reader_lookup.specs.Asking.{counted, howMany, filled}
 use Rattle.reader_lookup.proofs.Placed.{list-no, list-is, list-kept}
 use borrow.Author.Needs.{needs}
 use Rattle.reader_lookup.proofs.list_with.Statement.{statement}
 use Rattle.reader_lookup.proofs.list_with.Tie as tie
+use Rattle.replies.specs.Replies.{listingTold}
+use Rattle.answer.specs.Answers.{howMany, left}
 
 gather-requires : tie.Need-gather-requires
 gather-requires c κs = c .before .before .before .before .pre
@@ -18,7 +19,7 @@ place-hits-requires c κs =
     let t = c .before .before .before in
     let g = t .before .before .before .before in
     let start = g .before .before .before .before .before in
-    (start .pre, list-kept _ _ _ _ _ _ (sym (ap counted (t .t .given .1)) ∙ g .gather .ensures .0) _ _ (g .gather .ensures .1))
+    (start .pre, list-kept _ _ _ _ _ _ (sym (ap listingTold (t .t .given .1)) ∙ g .gather .ensures .0) _ _ (g .gather .ensures .1))
 
 enum-known-t-2 : tie.Need-enum-known-t-2
 enum-known-t-2 c = search needs
@@ -35,8 +36,8 @@ returns c =
     let t = w .before .before .before .before in
     let g = t .before .before .before .before in
     let start = g .before .before .before .before .before in
-    let e = list-is _ _ _ _ _ _ (sym (ap counted (t .t .given .1)) ∙ g .gather .ensures .0) _ in
-    (w .place-hits .ensures .0 ∙ ap howMany e, w .place-hits .ensures .1 ∙ ap (filled (start .args .out .now)) e)
+    let e = list-is _ _ _ _ _ _ (sym (ap listingTold (t .t .given .1)) ∙ g .gather .ensures .0) _ in
+    (w .place-hits .ensures .0 ∙ ap howMany e, w .place-hits .ensures .1 ∙ ap (left (start .args .out .now)) e)
 
 same-length-3 : tie.Need-same-length-3
 same-length-3 c = search needs
@@ -45,8 +46,8 @@ returns-2 : tie.Need-returns-2
 returns-2 c =
     let g = c .before .before .before .before .before in
     let start = g .before .before .before .before .before in
-    let e = list-no _ _ _ _ _ _ _ (sym (ap counted (c .before .t2 .given .1)) ∙ g .gather .ensures .0) in
-    (ap howMany e, ap (filled (start .args .out .now)) e)
+    let e = list-no _ _ _ _ _ _ _ (sym (ap listingTold (c .before .t2 .given .1)) ∙ g .gather .ensures .0) in
+    (ap howMany e, ap (left (start .args .out .now)) e)
 
 pub list-with-spec : {M : Type 1} → statement M
 list-with-spec =

@@ -2,13 +2,14 @@
 -- Assumes nothing.
 use mathlib.Core.Path.{sym, ap, _∙_}
 use lib.ListN.{length}
-use Rattle.reader_grid.specs.Asked.{told}
-use Rattle.reader_lookup.specs.Asking.{howMany, filled, into-no, into-none, into-all, into-listed}
 use Rattle.reader_lookup.proofs.Listed.{listed-small}
 use native.Mathlib.Omega.{arith}
 use borrow.Author.Needs.{needs}
 use Rattle.reader_lookup.proofs.lookup_into.Statement.{statement}
 use Rattle.reader_lookup.proofs.lookup_into.Tie as tie
+use Rattle.replies.specs.Replies.{choiceTold}
+use Rattle.answer.specs.Answers.{howMany, left}
+use Rattle.reader_lookup.proofs.AskingLaws.{into-no, into-none, into-all, into-listed}
 
 candidates-requires : tie.Need-candidates-requires
 candidates-requires c κs = search needs
@@ -35,7 +36,7 @@ list-in-requires-2 : tie.Need-list-in-requires-2
 list-in-requires-2 c κs =
     let m = c .before .before .before in
     let q = m .before .before in
-    let small = listed-small _ _ _ (λ i. q .before .before .shared-slice-known .given i .fits) _ _ _ (sym (ap told (m .c2 .given .1)) ∙ q .candidates .ensures) in
+    let small = listed-small _ _ _ (λ i. q .before .before .shared-slice-known .given i .fits) _ _ _ (sym (ap choiceTold (m .c2 .given .1)) ∙ q .candidates .ensures) in
     omega (arith, small)
 
 enum-known-c-3 : tie.Need-enum-known-c-3
@@ -44,8 +45,8 @@ enum-known-c-3 c = search needs
 returns : tie.Need-returns
 returns c =
     let start = c .before .before .before .before .before in
-    let e = into-none (start .args .o) (start .args .s .now) (start .args .lng) (start .args .lat) (length (start .args .out .now)) (sym (ap told (c .enum-told .given .1)) ∙ c .before .before .candidates .ensures) in
-    (ap howMany e, ap (filled (start .args .out .now)) e)
+    let e = into-none (start .args .o) (start .args .s .now) (start .args .lng) (start .args .lat) (length (start .args .out .now)) (sym (ap choiceTold (c .enum-told .given .1)) ∙ c .before .before .candidates .ensures) in
+    (ap howMany e, ap (left (start .args .out .now)) e)
 
 same-length : tie.Need-same-length
 same-length c = search needs
@@ -55,8 +56,8 @@ returns-2 c =
     let l = c .before .before in
     let m = l .before .before .before .before in
     let start = m .before .before .before .before .before in
-    let e = into-all (start .args .o) (start .args .s .now) (start .args .lng) (start .args .lat) (length (start .args .out .now)) _ (l .before .before .scaled-at .ensures) _ (sym (ap told (m .c .given .1)) ∙ m .before .before .candidates .ensures) in
-    (l .list-in .ensures .0 ∙ ap howMany e, l .list-in .ensures .1 ∙ ap (filled (start .args .out .now)) e)
+    let e = into-all (start .args .o) (start .args .s .now) (start .args .lng) (start .args .lat) (length (start .args .out .now)) _ (l .before .before .scaled-at .ensures) _ (sym (ap choiceTold (m .c .given .1)) ∙ m .before .before .candidates .ensures) in
+    (l .list-in .ensures .0 ∙ ap howMany e, l .list-in .ensures .1 ∙ ap (left (start .args .out .now)) e)
 
 same-length-2 : tie.Need-same-length-2
 same-length-2 c = search needs
@@ -66,14 +67,14 @@ returns-3 c =
     let l = c .before .before in
     let m = l .before .before .before .before in
     let start = m .before .before .before .before .before in
-    let e = into-listed (start .args .o) (start .args .s .now) (start .args .lng) (start .args .lat) (length (start .args .out .now)) _ (l .before .before .scaled-at2 .ensures) _ _ (sym (ap told (m .c2 .given .1)) ∙ m .before .before .candidates .ensures) in
-    (l .list-in2 .ensures .0 ∙ ap howMany e, l .list-in2 .ensures .1 ∙ ap (filled (start .args .out .now)) e)
+    let e = into-listed (start .args .o) (start .args .s .now) (start .args .lng) (start .args .lat) (length (start .args .out .now)) _ (l .before .before .scaled-at2 .ensures) _ _ (sym (ap choiceTold (m .c2 .given .1)) ∙ m .before .before .candidates .ensures) in
+    (l .list-in2 .ensures .0 ∙ ap howMany e, l .list-in2 .ensures .1 ∙ ap (left (start .args .out .now)) e)
 
 returns-4 : tie.Need-returns-4
 returns-4 c =
     let start = c .before .before .before .before .before .before in
-    let e = into-no (start .args .o) (start .args .s .now) (start .args .lng) (start .args .lat) (length (start .args .out .now)) _ (sym (ap told (c .before .c3 .given .1)) ∙ c .before .before .before .candidates .ensures) in
-    (ap howMany e, ap (filled (start .args .out .now)) e)
+    let e = into-no (start .args .o) (start .args .s .now) (start .args .lng) (start .args .lat) (length (start .args .out .now)) _ (sym (ap choiceTold (c .before .c3 .given .1)) ∙ c .before .before .before .candidates .ensures) in
+    (ap howMany e, ap (left (start .args .out .now)) e)
 
 pub lookup-into-spec : {M : Type 1} → statement M
 lookup-into-spec =

@@ -1,10 +1,10 @@
 -- `lookup_listed` meets its contract: unlooked-at, or the first that contains the point.
 -- Assumes nothing.
 use mathlib.Core.Path.{sym, _∙_}
-use Rattle.reader_lookup.specs.Asking.{among-unlooked, among-listed}
 use borrow.Author.Needs.{needs}
 use Rattle.reader_lookup.proofs.lookup_listed.Statement.{statement}
 use Rattle.reader_lookup.proofs.lookup_listed.Tie as tie
+use Rattle.reader_lookup.proofs.AskingLaws.{among-unlooked, among-listed}
 
 is-unlooked-requires : tie.Need-is-unlooked-requires
 is-unlooked-requires c κs = search needs

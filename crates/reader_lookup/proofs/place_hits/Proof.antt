@@ -2,8 +2,7 @@
 -- Assumes nothing.
 use mathlib.Core.Path.{sym, ap, _∙_}
 use lib.Seq.{length-take-le}
-use Rattle.answer.specs.Answers.{refused}
-use Rattle.reader_lookup.specs.Asking.{howMany, filled}
+use Rattle.answer.specs.Answers.{refused, howMany, left}
 use Rattle.reader_lookup.proofs.Placed.{kept-by, place-short, place-count, place-memory}
 use native.Mathlib.Omega.{arith}
 use borrow.Author.Needs.{needs}
@@ -20,7 +19,7 @@ returns : tie.Need-returns
 returns c =
     let start = c .before .before .before .before .before .before in
     let e = place-short _ _ _ (start .pre .1) (start .args .out .now) _ _ _ (c .before .before .wide .ensures .0) (c .before .if1 .taken) in
-    (ap refused (c .refuse .ensures) ∙ ap howMany e, ap (filled (start .args .out .now)) e)
+    (ap refused (c .refuse .ensures) ∙ ap howMany e, ap (left (start .args .out .now)) e)
 
 write-hits-requires : tie.Need-write-hits-requires
 write-hits-requires c κs =

@@ -2,7 +2,7 @@
 -- Assumes nothing.
 use mathlib.Core.Path.{sym, _∙_, ap}
 use Rattle.answer.specs.Answers.{checkedTold}
-use Rattle.answer.specs.CheckLaws.{met-by, unmet-by, none-left}
+use Rattle.answer.proofs.CheckLaws.{met-by, unmet-by, none-left}
 use Rattle.reader_names.specs.Names.{namesCheck}
 use Rattle.reader_names.proofs.Rises.{shaped, ordered}
 use borrow.Author.Needs.{needs}

@@ -1,7 +1,7 @@
 -- 23 and 24 of one offset: each test of the code is that of the rule.
 -- Assumes nothing.
 use mathlib.Core.Path.{_∙_}
-use Rattle.answer.specs.CheckLaws.{clear, barred, end}
+use Rattle.answer.proofs.CheckLaws.{clear, barred, end}
 use Rattle.reader_names.specs.Names.{offsetRule}
 use borrow.Author.Needs.{needs}
 use Rattle.reader_names.proofs.offset_ok.Statement.{statement}

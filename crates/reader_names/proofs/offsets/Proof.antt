@@ -4,7 +4,7 @@ use Prim.Native.Nat.{_≤_, _-_, _+_}
 use mathlib.Core.Path.{_≡_, sym, ap, _∙_}
 use Rattle.answer.specs.Answers.{checkedTold}
 use Rattle.answer.specs.Checks.{each}
-use Rattle.answer.specs.CheckLaws.{each-start, each-stop, each-fine, each-end}
+use Rattle.answer.proofs.CheckLaws.{each-start, each-stop, each-fine, each-end}
 use Rattle.reader_names.specs.Names.{offsetCheck, prior}
 use Rattle.reader_names.proofs.Rises.{prior-first, prior-next, offset-on}
 use native.Mathlib.Omega.{arith}

@@ -1,7 +1,7 @@
 -- 21 and 22.
 -- Assumes nothing.
 use mathlib.Core.Path.{_∙_}
-use Rattle.answer.specs.CheckLaws.{met, unmet, end, le-at, gt-at, eq-same, ne-same}
+use Rattle.answer.proofs.CheckLaws.{met, unmet, end, le-at, gt-at, eq-same, ne-same}
 use Rattle.reader_names.specs.Names.{shapeCheck}
 use native.Mathlib.Omega.{arith}
 use borrow.Author.Needs.{needs}

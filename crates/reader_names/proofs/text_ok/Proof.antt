@@ -1,7 +1,7 @@
 -- 25 and 26 of a name.
 -- Assumes nothing.
 use mathlib.Core.Path.{sym, _∙_}
-use Rattle.answer.specs.CheckLaws.{met, unmet, end, eq-same, ne-same, told-yes, told-no, seek-start}
+use Rattle.answer.proofs.CheckLaws.{met, unmet, end, eq-same, ne-same, told-yes, told-no, seek-start}
 use Rattle.reader_names.specs.Names.{textCheck}
 use borrow.Author.Needs.{needs}
 use Rattle.reader_names.proofs.text_ok.Statement.{statement}

@@ -4,7 +4,7 @@ use Prim.Native.Nat.{_≤_, _-_}
 use mathlib.Core.Path.{_≡_, sym, _∙_, ap}
 use Rattle.answer.specs.Answers.{checkedTold}
 use Rattle.answer.specs.Checks.{each}
-use Rattle.answer.specs.CheckLaws.{each-start, each-stop, each-fine, each-end}
+use Rattle.answer.proofs.CheckLaws.{each-start, each-stop, each-fine, each-end}
 use Rattle.reader_names.specs.Names.{textAt}
 use native.Mathlib.Omega.{arith}
 use borrow.Author.Needs.{needs}

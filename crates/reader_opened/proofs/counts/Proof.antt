@@ -1,7 +1,7 @@
 -- `reader_opened::counts` meets its contract.
 -- Assumes nothing.
 use mathlib.Core.Path.{_∙_}
-use Rattle.answer.specs.CheckLaws.{met, unmet, end, le-at, gt-at}
+use Rattle.answer.proofs.CheckLaws.{met, unmet, end, le-at, gt-at}
 use Rattle.reader_opened.specs.Opened.{countsCheck}
 use native.Mathlib.Omega.{arith}
 use borrow.Author.Needs.{needs}

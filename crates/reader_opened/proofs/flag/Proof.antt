@@ -1,7 +1,7 @@
 -- `reader_opened::flag` meets its contract.
 -- Assumes nothing.
 use mathlib.Core.Path.{_∙_, _≡_, sym, ap}
-use Rattle.answer.specs.CheckLaws.{met, unmet, end, eq-same, ne-same}
+use Rattle.answer.proofs.CheckLaws.{met, unmet, end, eq-same, ne-same}
 use Rattle.reader_opened.specs.Opened.{flagCheck, bit}
 use Prim.Native.Nat.{ℕ, _%_}
 use mathlib.Core.Bool.{Bool}

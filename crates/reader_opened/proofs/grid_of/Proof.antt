@@ -3,12 +3,12 @@
 use mathlib.Core.Path.{_∙_}
 use mir.Syntax.{w16}
 use mir.ValLaws.{toZ-ofZ}
-use Rattle.reader_opened.specs.Opened.{grid-none, grid-is}
 use native.Mathlib.Omega.{arith}
 use native.Mathlib.Omega.{arith}
 use borrow.Author.Needs.{needs}
 use Rattle.reader_opened.proofs.grid_of.Statement.{statement}
 use Rattle.reader_opened.proofs.grid_of.Tie as tie
+use Rattle.reader_opened.proofs.OpenedLaws.{grid-none, grid-is}
 
 returns : tie.Need-returns
 returns c = grid-none _ _ (c .if1 .taken)

@@ -4,7 +4,7 @@ use Prim.Native.Nat.{_≤_, _-_}
 use mathlib.Core.Path.{_≡_, refl, _∙_, sym, ap}
 use Rattle.answer.specs.Answers.{checkedTold}
 use Rattle.answer.specs.Checks.{each}
-use Rattle.answer.specs.CheckLaws.{each-stop, each-fine, each-end}
+use Rattle.answer.proofs.CheckLaws.{each-stop, each-fine, each-end}
 use Rattle.reader_head.specs.Head.{Headed}
 use Rattle.reader_opened.specs.Opened.{presentAt}
 use native.Mathlib.Omega.{arith}

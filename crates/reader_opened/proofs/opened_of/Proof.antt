@@ -1,9 +1,9 @@
 -- `reader_opened::opened_of` meets its contract.
 -- Assumes nothing.
-use Rattle.reader_opened.specs.Opened.{opened-is}
 use borrow.Author.Needs.{needs}
 use Rattle.reader_opened.proofs.opened_of.Statement.{statement}
 use Rattle.reader_opened.proofs.opened_of.Tie as tie
+use Rattle.reader_opened.proofs.OpenedLaws.{opened-is}
 
 records-of-requires : tie.Need-records-of-requires
 records-of-requires c κs = search needs

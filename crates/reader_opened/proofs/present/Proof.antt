@@ -2,7 +2,7 @@
 -- Assumes nothing.
 use mathlib.Core.Path.{_∙_, sym, ap}
 use Rattle.answer.specs.Answers.{checkedTold}
-use Rattle.answer.specs.CheckLaws.{met-by, unmet-by, none-left}
+use Rattle.answer.proofs.CheckLaws.{met-by, unmet-by, none-left}
 use Rattle.reader_opened.specs.Opened.{presentCheck}
 use borrow.Author.Needs.{needs}
 use Rattle.reader_opened.proofs.present.Statement.{statement}

@@ -1,9 +1,9 @@
 -- `reader_opened::read_sections` meets its contract.
 -- Assumes nothing.
-use Rattle.reader_opened.specs.Opened.{sections-are}
 use borrow.Author.Needs.{needs}
 use Rattle.reader_opened.proofs.read_sections.Statement.{statement}
 use Rattle.reader_opened.proofs.read_sections.Tie as tie
+use Rattle.reader_opened.proofs.OpenedLaws.{sections-are}
 
 u32-at-requires : tie.Need-u32-at-requires
 u32-at-requires c κs = search needs

@@ -1,7 +1,7 @@
 -- `reader_opened::zone_length` meets its contract.
 -- Assumes nothing.
 use mathlib.Core.Path.{_∙_}
-use Rattle.answer.specs.CheckLaws.{met, unmet, end, eq-same, ne-same}
+use Rattle.answer.proofs.CheckLaws.{met, unmet, end, eq-same, ne-same}
 use Rattle.reader_opened.specs.Opened.{zonesCheck}
 use native.Mathlib.Omega.{arith}
 use borrow.Author.Needs.{needs}

@@ -1,10 +1,10 @@
 -- `before_zone` meets its contract: the two names are compared.
 -- Assumes nothing.
 use mathlib.Core.Path.{ap, _∙_}
-use Rattle.reader_order.specs.Order.{comesBefore}
 use borrow.Author.Needs.{needs}
 use Rattle.reader_order.proofs.before_zone.Statement.{statement}
 use Rattle.reader_order.proofs.before_zone.Tie as tie
+use Rattle.texts.specs.Spelled.{comesBefore}
 
 name-requires : tie.Need-name-requires
 name-requires c κs = search needs

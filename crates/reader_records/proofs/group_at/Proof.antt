@@ -2,10 +2,11 @@
 -- Assumes nothing.
 use mathlib.Core.Path.{sym, ap, _∙_}
 use Rattle.answer.specs.Answers.{ok}
-use Rattle.reader_records.specs.Records.{toldPlace, place-none, place-group, place-room}
+use Rattle.reader_records.specs.Records.{toldPlace}
 use borrow.Author.Needs.{needs}
 use Rattle.reader_records.proofs.group_at.Statement.{statement}
 use Rattle.reader_records.proofs.group_at.Tie as tie
+use Rattle.reader_records.proofs.RecordsLaws.{place-none, place-group, place-room}
 
 group-place-requires : tie.Need-group-place-requires
 group-place-requires c κs = search needs

@@ -2,10 +2,11 @@
 -- Assumes nothing.
 use mathlib.Core.Path.{refl, sym, ap, _∙_}
 use Rattle.answer.specs.Answers.{refused}
-use Rattle.reader_records.specs.Records.{toldPlace, groupRule, groupPlace, record-room, ruled-no, ruled-bad, ruled-ok}
+use Rattle.reader_records.specs.Records.{toldPlace, groupRule, groupPlace}
 use borrow.Author.Needs.{needs}
 use Rattle.reader_records.proofs.group_place.Statement.{statement}
 use Rattle.reader_records.proofs.group_place.Tie as tie
+use Rattle.reader_records.proofs.RecordsLaws.{record-room, ruled-no, ruled-bad, ruled-ok}
 
 record-at-requires : tie.Need-record-at-requires
 record-at-requires c κs = search needs

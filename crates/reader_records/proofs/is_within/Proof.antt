@@ -1,9 +1,9 @@
 -- `reader_records::is_within` meets its contract: the sum does not wrap.
 -- Assumes nothing.
-use Rattle.reader_records.specs.Records.{within}
 use borrow.Author.Needs.{needs}
 use Rattle.reader_records.proofs.is_within.Statement.{statement}
 use Rattle.reader_records.proofs.is_within.Tie as tie
+use Rattle.reader_records.specs.Records.{fitsBelow}
 
 wide-requires : tie.Need-wide-requires
 wide-requires c κs = search needs
@@ -18,7 +18,7 @@ wide-requires-2 : tie.Need-wide-requires-2
 wide-requires-2 c κs = search needs
 
 returns : tie.Need-returns
-unfolding within
+unfolding fitsBelow
 returns c = rw (c .before .before .wide .ensures .0, c .before .wide16 .ensures .0, c .wide2 .ensures .0) (search needs)
 
 pub is-within-spec : {M : Type 1} → statement M

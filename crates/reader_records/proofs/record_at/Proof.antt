@@ -4,11 +4,11 @@ use Prim.Native.Nat.{ℕ, _+_, _*_}
 use native.Mathlib.Omega.{arith}
 use mathlib.Core.Path.{ap, _∙_}
 use Rattle.answer.specs.Answers.{refused, ok}
-use Rattle.reader_records.specs.Records.{record-out, record-short, record-at}
 use Rattle.reader_records.proofs.Parts.{scale}
 use borrow.Author.Needs.{needs}
 use Rattle.reader_records.proofs.record_at.Statement.{statement}
 use Rattle.reader_records.proofs.record_at.Tie as tie
+use Rattle.reader_records.proofs.RecordsLaws.{record-out, record-short, record-at}
 
 wide-requires : tie.Need-wide-requires
 wide-requires c κs = search needs

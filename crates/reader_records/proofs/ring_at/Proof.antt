@@ -2,10 +2,11 @@
 -- Assumes nothing.
 use mathlib.Core.Path.{sym, ap, _∙_}
 use Rattle.answer.specs.Answers.{refused}
-use Rattle.reader_records.specs.Records.{toldPlace, ringAt, record-room, ruled-no, ruled-bad, ruled-ok}
+use Rattle.reader_records.specs.Records.{toldPlace, ringAt}
 use borrow.Author.Needs.{needs}
 use Rattle.reader_records.proofs.ring_at.Statement.{statement}
 use Rattle.reader_records.proofs.ring_at.Tie as tie
+use Rattle.reader_records.proofs.RecordsLaws.{record-room, ruled-no, ruled-bad, ruled-ok}
 
 record-at-requires : tie.Need-record-at-requires
 record-at-requires c κs = search needs

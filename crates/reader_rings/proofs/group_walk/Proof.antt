@@ -1,10 +1,10 @@
 -- `reader_rings::group_walk` meets its contract: nothing, by its ends, or through its chunks.
 -- Assumes nothing.
 use mathlib.Core.Path.{sym, _∙_}
-use Rattle.reader_rings.specs.Rings.{walk-skip, walk-scan, walk-none}
 use borrow.Author.Needs.{needs}
 use Rattle.reader_rings.proofs.group_walk.Statement.{statement}
 use Rattle.reader_rings.proofs.group_walk.Tie as tie
+use Rattle.reader_rings.proofs.RingsLaws.{walk-skip, walk-scan, walk-none}
 
 relevant-requires : tie.Need-relevant-requires
 relevant-requires c κs = search needs

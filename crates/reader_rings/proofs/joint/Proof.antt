@@ -3,10 +3,10 @@
 use mathlib.Core.Path.{sym, ap, _∙_}
 use Rattle.plane.specs.Sight.{Sight, seenTold}
 use Rattle.tzb_core.specs.Scan.{past}
-use Rattle.reader_rings.specs.Rings.{joint-none, joint-seg}
 use borrow.Author.Needs.{needs}
 use Rattle.reader_rings.proofs.joint.Statement.{statement}
 use Rattle.reader_rings.proofs.joint.Tie as tie
+use Rattle.reader_rings.proofs.RingsLaws.{joint-none, joint-seg}
 
 same-point-requires : tie.Need-same-point-requires
 same-point-requires c κs = search needs

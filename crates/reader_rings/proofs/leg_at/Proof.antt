@@ -1,11 +1,12 @@
 -- `reader_rings::leg_at` meets its contract: the op, then its group's place.
 -- Assumes nothing.
 use mathlib.Core.Path.{refl, sym, ap, _∙_}
-use Rattle.reader_rings.specs.Rings.{turned-no, turned-bad, turned-is}
-use Rattle.reader_records.specs.Records.{toldOp, toldPlace, place-none, place-group, place-room}
+use Rattle.reader_records.specs.Records.{toldOp, toldPlace}
 use borrow.Author.Needs.{needs}
 use Rattle.reader_rings.proofs.leg_at.Statement.{statement}
 use Rattle.reader_rings.proofs.leg_at.Tie as tie
+use Rattle.reader_rings.proofs.RingsLaws.{turned-no, turned-bad, turned-is}
+use Rattle.reader_records.proofs.RecordsLaws.{place-none, place-group, place-room}
 
 op-at-requires : tie.Need-op-at-requires
 op-at-requires c κs = search needs

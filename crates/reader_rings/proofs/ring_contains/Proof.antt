@@ -1,11 +1,11 @@
 -- `reader_rings::ring_contains` meets its contract: the record, the box, then the walk.
 -- Assumes nothing.
 use mathlib.Core.Path.{sym, ap, _∙_}
-use Rattle.reader_rings.specs.Rings.{contains-no, contains-is, contains-out}
 use Rattle.reader_records.specs.Records.{toldRing}
 use borrow.Author.Needs.{needs}
 use Rattle.reader_rings.proofs.ring_contains.Statement.{statement}
 use Rattle.reader_rings.proofs.ring_contains.Tie as tie
+use Rattle.reader_rings.proofs.RingsLaws.{contains-no, contains-is, contains-out}
 
 ring-at-requires : tie.Need-ring-at-requires
 ring-at-requires c κs = search needs

@@ -1,11 +1,11 @@
 -- `reader_rings::ring_end` meets its contract: the count, then the way back.
 -- Assumes nothing.
 use mathlib.Core.Path.{sym, ap, _∙_}
-use Rattle.reader_rings.specs.Rings.{end-is, end-bad}
 use Rattle.answer.specs.Walks.{broken}
 use borrow.Author.Needs.{needs}
 use Rattle.reader_rings.proofs.ring_end.Statement.{statement}
 use Rattle.reader_rings.proofs.ring_end.Tie as tie
+use Rattle.reader_rings.proofs.RingsLaws.{end-is, end-bad}
 
 count-rule-requires : tie.Need-count-rule-requires
 count-rule-requires c κs = search needs

@@ -1,11 +1,11 @@
 -- `reader_rings::turn_walk` meets its contract: the joint, then the group.
 -- Assumes nothing.
 use mathlib.Core.Path.{sym, ap, _∙_}
-use Rattle.reader_rings.specs.Rings.{turn-no, turn-on, turn-is}
 use Rattle.reader_groups.specs.Groups.{went}
 use borrow.Author.Needs.{needs}
 use Rattle.reader_rings.proofs.turn_walk.Statement.{statement}
 use Rattle.reader_rings.proofs.turn_walk.Tie as tie
+use Rattle.reader_rings.proofs.RingsLaws.{turn-no, turn-on, turn-is}
 
 joint-requires : tie.Need-joint-requires
 joint-requires c κs = search needs

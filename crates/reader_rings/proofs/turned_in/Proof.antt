@@ -1,10 +1,11 @@
 -- `reader_rings::turned_in` meets its contract: the record, then its ends as the word has them.
 -- Assumes nothing.
 use mathlib.Core.Path.{ap, _∙_}
-use Rattle.reader_rings.specs.Rings.{turnOf, turn-as, turn-round}
+use Rattle.reader_rings.specs.Rings.{turnOf}
 use borrow.Author.Needs.{needs}
 use Rattle.reader_rings.proofs.turned_in.Statement.{statement}
 use Rattle.reader_rings.proofs.turned_in.Tie as tie
+use Rattle.reader_rings.proofs.RingsLaws.{turn-as, turn-round}
 
 group-in-requires : tie.Need-group-in-requires
 group-in-requires c κs = search needs

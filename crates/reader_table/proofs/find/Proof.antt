@@ -4,7 +4,7 @@ use Prim.Native.Nat.{_≤_, _-_}
 use mathlib.Core.Path.{_≡_}
 use Rattle.reader_head.specs.Head.{Headed}
 use Rattle.answer.specs.Checks.{seek}
-use Rattle.answer.specs.CheckLaws.{seek-start, seek-yes, seek-no, seek-end, told-eq, told-ne}
+use Rattle.answer.proofs.CheckLaws.{seek-start, seek-yes, seek-no, seek-end, told-eq, told-ne}
 use Rattle.reader_table.specs.Table.{isType, sections}
 use native.Mathlib.Omega.{arith}
 use borrow.Author.Needs.{needs}

@@ -1,6 +1,6 @@
 -- `reader_table::is_apart` meets its contract.
 -- Assumes nothing.
-use Rattle.answer.specs.CheckLaws.{truths}
+use Rattle.answer.proofs.CheckLaws.{truths}
 use Rattle.reader_table.specs.Table.{apart}
 use borrow.Author.Needs.{needs}
 use Rattle.reader_table.proofs.is_apart.Statement.{statement}

@@ -1,6 +1,6 @@
 -- `reader_table::is_banned` meets its contract.
 -- Assumes nothing.
-use Rattle.answer.specs.CheckLaws.{truths}
+use Rattle.answer.proofs.CheckLaws.{truths}
 use Rattle.reader_table.specs.Table.{banned}
 use Rattle.reader_table.proofs.is_banned.Statement.{statement}
 use Rattle.reader_table.proofs.is_banned.Tie as tie

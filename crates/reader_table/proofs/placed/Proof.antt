@@ -1,7 +1,7 @@
 -- `reader_table::placed` meets its contract.
 -- Assumes nothing.
 use mathlib.Core.Path.{_∙_, ap}
-use Rattle.answer.specs.CheckLaws.{met, unmet, end, le-at, gt-at, eq-same, ne-same}
+use Rattle.answer.proofs.CheckLaws.{met, unmet, end, le-at, gt-at, eq-same, ne-same}
 use Rattle.reader_table.specs.Table.{placedCheck}
 use Prim.Native.Nat.{_%_}
 use native.Mathlib.Omega.{arith}

@@ -1,7 +1,7 @@
 -- `reader_table::repeated` meets its contract.
 -- Assumes nothing.
 use mathlib.Core.Path.{refl, _∙_}
-use Rattle.answer.specs.CheckLaws.{truths, both-yes, le-at}
+use Rattle.answer.proofs.CheckLaws.{truths, both-yes, le-at}
 use Rattle.reader_table.specs.Table.{repeats}
 use native.Mathlib.Omega.{arith}
 use borrow.Author.Needs.{needs}

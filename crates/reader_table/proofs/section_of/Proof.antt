@@ -1,10 +1,10 @@
 -- `reader_table::section_of` meets its contract.
 -- Assumes nothing.
-use Rattle.reader_table.specs.Table.{section-none, section-some}
 use native.Mathlib.Omega.{arith}
 use borrow.Author.Needs.{needs}
 use Rattle.reader_table.proofs.section_of.Statement.{statement}
 use Rattle.reader_table.proofs.section_of.Tie as tie
+use Rattle.reader_table.proofs.TableLaws.{section-none, section-some}
 
 count-requires : tie.Need-count-requires
 count-requires c κs = search needs

@@ -1,6 +1,6 @@
 -- `reader_table::seen` meets its contract.
 -- Assumes nothing.
-use Rattle.answer.specs.CheckLaws.{below-is}
+use Rattle.answer.proofs.CheckLaws.{below-is}
 use Rattle.reader_table.specs.Table.{has}
 use borrow.Author.Needs.{needs}
 use Rattle.reader_table.proofs.seen.Statement.{statement}

@@ -4,7 +4,7 @@ use Prim.Native.Nat.{ℕ}
 use mathlib.Core.Bool.{Bool}
 use mathlib.Core.List.{List}
 use mathlib.Core.Path.{_≡_, _∙_, sym, ap}
-use Rattle.answer.specs.CheckLaws.{clear, barred, end}
+use Rattle.answer.proofs.CheckLaws.{clear, barred, end}
 use Rattle.reader_table.specs.Table.{typedCheck, repeats, banned}
 use borrow.Author.Needs.{needs}
 use Rattle.reader_table.proofs.typed.Statement.{statement}

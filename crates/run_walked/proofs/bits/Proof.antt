@@ -2,7 +2,7 @@
 -- Assumes nothing.
 use native.Mathlib.Omega.{arith}
 use mir.Syntax.{w32}
-use Rattle.tzb_record.proofs.Signs.{below, above}
+use Rattle.fields.proofs.Signs.{below, above}
 use Rattle.run_walked.proofs.bits.Statement.{statement}
 use Rattle.run_walked.proofs.bits.Tie as tie
 

@@ -2,11 +2,12 @@
 -- Assumes nothing.
 use mathlib.Core.Path.{sym, _∙_, ap}
 use Rattle.answer.specs.Answers.{checkedTold}
-use Rattle.answer.specs.CheckLaws.{met-by, unmet-by, none-left}
-use Rattle.tzb.specs.Opening.{contentsCheck, room}
+use Rattle.answer.proofs.CheckLaws.{met-by, unmet-by, none-left}
+use Rattle.tzb.specs.Opening.{contentsCheck}
 use borrow.Author.Needs.{needs}
 use Rattle.tzb.proofs.contents.Statement.{statement}
 use Rattle.tzb.proofs.contents.Tie as tie
+use Rattle.tzb.proofs.OpeningLaws.{room}
 
 sizes-requires : tie.Need-sizes-requires
 sizes-requires c κs = search needs

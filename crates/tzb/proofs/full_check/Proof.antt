@@ -2,11 +2,11 @@
 -- Assumes nothing.
 use native.Mathlib.Omega.{arith}
 use mathlib.Core.Path.{sym, ap, _∙_}
-use Rattle.tzb.specs.Opening.{told}
-use Rattle.tzb.specs.FullCheck.{full-refused, full-accepted, full-broken}
 use borrow.Author.Needs.{needs}
 use Rattle.tzb.proofs.full_check.Statement.{statement}
 use Rattle.tzb.proofs.full_check.Tie as tie
+use Rattle.replies.specs.Replies.{openingTold}
+use Rattle.tzb.proofs.FullCheckLaws.{full-refused, full-accepted, full-broken}
 
 open-requires : tie.Need-open-requires
 open-requires c κs = search needs
@@ -23,18 +23,18 @@ broken-rule-requires c κs = search needs
 returns : tie.Need-returns
 returns c =
     let opened = c .before .before .before in
-    full-accepted _ _ (sym (ap told (opened .a2 .given .1)) ∙ opened .before .before .«open» .ensures) _ (c .before .broken-rule .ensures) (c .if1 .taken)
+    full-accepted _ _ (sym (ap openingTold (opened .a2 .given .1)) ∙ opened .before .before .«open» .ensures) _ (c .before .broken-rule .ensures) (c .if1 .taken)
 
 refuse-requires : tie.Need-refuse-requires
 refuse-requires c κs = search needs
 
 returns-2 : tie.Need-returns-2
-returns-2 c = full-refused _ _ (sym (ap told (c .before .a .given .1)) ∙ c .before .before .before .«open» .ensures)
+returns-2 c = full-refused _ _ (sym (ap openingTold (c .before .a .given .1)) ∙ c .before .before .before .«open» .ensures)
 
 returns-3 : tie.Need-returns-3
 returns-3 c =
     let opened = c .before .before .before .before in
-    full-broken _ _ (sym (ap told (opened .a2 .given .1)) ∙ opened .before .before .«open» .ensures) _ (c .before .before .broken-rule .ensures) (omega (arith, c .before .if1 .left)) _ (c .refuse .ensures)
+    full-broken _ _ (sym (ap openingTold (opened .a2 .given .1)) ∙ opened .before .before .«open» .ensures) _ (c .before .before .broken-rule .ensures) (omega (arith, c .before .if1 .left)) _ (c .refuse .ensures)
 
 pub full-check-spec : {M : Type 1} → statement M
 full-check-spec =

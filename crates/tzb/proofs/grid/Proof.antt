@@ -1,9 +1,9 @@
 -- `tzb::grid` meets its contract: GRID is checked where flag bit 0 says that it is there.
 -- Assumes nothing.
-use Rattle.tzb.specs.Opening.{grid-absent, grid-present}
 use borrow.Author.Needs.{needs}
 use Rattle.tzb.proofs.grid.Statement.{statement}
 use Rattle.tzb.proofs.grid.Tie as tie
+use Rattle.tzb.proofs.OpeningLaws.{grid-absent, grid-present}
 
 returns : tie.Need-returns
 returns c = grid-absent _ _ _ (c .if1 .taken)

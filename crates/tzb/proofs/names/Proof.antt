@@ -1,9 +1,9 @@
 -- `tzb::names` meets its contract: the names stand where the table says.
 -- Assumes nothing.
-use Rattle.tzb.specs.Opening.{names-present}
 use borrow.Author.Needs.{needs}
 use Rattle.tzb.proofs.names.Statement.{statement}
 use Rattle.tzb.proofs.names.Tie as tie
+use Rattle.tzb.proofs.OpeningLaws.{names-present}
 
 wide-requires : tie.Need-wide-requires
 wide-requires c κs = search needs

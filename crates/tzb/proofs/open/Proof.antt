@@ -2,10 +2,10 @@
 -- Assumes nothing.
 use mathlib.Core.Path.{sym, _∙_, ap}
 use Rattle.answer.specs.Answers.{checkedTold}
-use Rattle.tzb.specs.Opening.{tabled, placed, open-barred, open-refused, open-done}
 use borrow.Author.Needs.{needs}
 use Rattle.tzb.proofs.open.Statement.{statement}
 use Rattle.tzb.proofs.open.Tie as tie
+use Rattle.tzb.proofs.OpeningLaws.{tabled, placed, open-barred, open-refused, open-done}
 
 table-requires : tie.Need-table-requires
 table-requires c κs = search needs

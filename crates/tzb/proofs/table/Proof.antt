@@ -2,12 +2,12 @@
 -- Assumes nothing.
 use mathlib.Core.Path.{sym, _∙_, ap}
 use Rattle.answer.specs.Answers.{checkedTold}
-use Rattle.answer.specs.CheckLaws.{met-by, unmet-by, none-left}
-use Rattle.reader_head.specs.Head.{headed}
+use Rattle.answer.proofs.CheckLaws.{met-by, unmet-by, none-left}
 use Rattle.tzb.specs.Opening.{tableCheck}
 use borrow.Author.Needs.{needs}
 use Rattle.tzb.proofs.table.Statement.{statement}
 use Rattle.tzb.proofs.table.Tie as tie
+use Rattle.reader_head.proofs.HeadLaws.{headed}
 
 head-requires : tie.Need-head-requires
 head-requires c κs = search needs

@@ -4,13 +4,14 @@ use mathlib.Core.Path.{sym, ap, ap₂, _∙_}
 use lib.IntN.{ℤ}
 use mir.Syntax.{w32}
 use mir.ValLaws.{toZ-ofZ}
-use Rattle.tzb_core.specs.Points.{point}
-use Rattle.reader_rings.specs.Zones.{containsAt}
-use Rattle.tzb_record.specs.Layout.{told}
-use Rattle.tzb_asked.specs.Asked.{containsAsked, barred, asked}
+use Rattle.reader_zones.specs.Zones.{containsAt}
+use Rattle.tzb_asked.specs.Asked.{containsAsked}
 use borrow.Author.Needs.{needs}
 use Rattle.tzb_asked.proofs.contains.Statement.{statement}
 use Rattle.tzb_asked.proofs.contains.Tie as tie
+use Rattle.plane.specs.Places.{point}
+use Rattle.tzb_asked.proofs.AskedLaws.{barred, asked}
+use Rattle.tzb_record.specs.Layout.{recordTold}
 
 read-record-requires : tie.Need-read-record-requires
 read-record-requires c κs = search needs
@@ -26,7 +27,7 @@ contains-requires c κs = search needs
 
 returns : tie.Need-returns
 unfolding containsAsked
-returns c = barred _ _ _ (sym (ap told (c .before .a .given .1)) ∙ c .before .before .before .read-record .ensures)
+returns c = barred _ _ _ (sym (ap recordTold (c .before .a .given .1)) ∙ c .before .before .before .read-record .ensures)
 
 returns-2 : tie.Need-returns-2
 unfolding containsAsked
@@ -36,7 +37,7 @@ returns-2 c =
     let s = r .before .before .before in
     let a = s .args in
     let same = ap₂ (λ (x y : ℤ). containsAt (g .a2 .given .0 .0) (a .file .now) (a .zone) (point x y)) (toZ-ofZ w32 (a .x) (s .fits .x)) (toZ-ofZ w32 (a .y) (s .fits .y)) in
-    asked _ _ _ _ (sym (ap told (g .a2 .given .1)) ∙ r .read-record .ensures) (c .contains .ensures ∙ same)
+    asked _ _ _ _ (sym (ap recordTold (g .a2 .given .1)) ∙ r .read-record .ensures) (c .contains .ensures ∙ same)
 
 pub contains-spec : {M : Type 1} → statement M
 contains-spec = tie.close (tie.spec read-record-requires enum-known-a enum-known-a-2 contains-requires returns returns-2)

@@ -2,11 +2,13 @@
 -- Assumes nothing.
 use mathlib.Core.Path.{sym, ap, _∙_}
 use Rattle.tzb_core.specs.Decode.{filled}
-use Rattle.tzb_record.specs.Layout.{told}
-use Rattle.tzb_asked.specs.Asked.{howMany, many-no, decode-barred, decode-asked}
 use borrow.Author.Needs.{needs}
 use Rattle.tzb_asked.proofs.decode.Statement.{statement}
 use Rattle.tzb_asked.proofs.decode.Tie as tie
+use Rattle.answer.specs.Answers.{howMany}
+use Rattle.tzb_asked.proofs.AskedLaws.{decode-barred, decode-asked}
+use Rattle.answer.proofs.AnswersLaws.{many-no}
+use Rattle.tzb_record.specs.Layout.{recordTold}
 
 read-record-requires : tie.Need-read-record-requires
 read-record-requires c κs = search needs
@@ -24,7 +26,7 @@ returns : tie.Need-returns
 returns c =
     let f = c .before .before .before in
     let a = f .before .before .before .args in
-    let e = decode-barred (a .«record» .now) (a .file .now) (a .chunk) (a .out .now) _ (sym (ap told (c .before .a .given .1)) ∙ f .read-record .ensures) in
+    let e = decode-barred (a .«record» .now) (a .file .now) (a .chunk) (a .out .now) _ (sym (ap recordTold (c .before .a .given .1)) ∙ f .read-record .ensures) in
     (many-no _ _ e, ap (filled (a .out .now)) e)
 
 same-length : tie.Need-same-length
@@ -36,7 +38,7 @@ returns-2 c =
     let g = d .before .before .before in
     let f = g .before .before in
     let a = f .before .before .before .args in
-    let e = decode-asked (a .«record» .now) (a .file .now) (a .chunk) (a .out .now) _ (sym (ap told (g .a2 .given .1)) ∙ f .read-record .ensures) in
+    let e = decode-asked (a .«record» .now) (a .file .now) (a .chunk) (a .out .now) _ (sym (ap recordTold (g .a2 .given .1)) ∙ f .read-record .ensures) in
     (d .decode-opened .ensures .0 ∙ ap howMany e, d .decode-opened .ensures .1 ∙ ap (filled (a .out .now)) e)
 
 pub decode-spec : {M : Type 1} → statement M

@@ -3,13 +3,13 @@
 use Prim.Native.Nat.{ℕ}
 use mathlib.Core.Path.{sym, ap, _∙_}
 use Rattle.answer.specs.Answers.{checkedTold}
-use Rattle.tzb_core.proofs.Decoded.{outcome-no}
 use Rattle.reader_chunks.specs.Chunks.{decodeIn, decodeAt, decodedAt}
-use Rattle.tzb_asked.specs.Asked.{many-no, countAt}
 use Rattle.tzb_asked.proofs.Many.{many-decoded}
 use borrow.Author.Needs.{needs}
 use Rattle.tzb_asked.proofs.decode_opened.Statement.{statement}
 use Rattle.tzb_asked.proofs.decode_opened.Tie as tie
+use Rattle.answer.proofs.AnswersLaws.{outcome-no, many-no}
+use Rattle.tzb_asked.specs.Asked.{chunkCount}
 
 wide-requires : tie.Need-wide-requires
 wide-requires c κs = search needs
@@ -47,7 +47,7 @@ returns-2 c =
     let a = d .before .before .before .before .args in
     let w = d .before .before .wide .ensures .0 in
     let e = sym (ap checkedTold (c .before .enum-told .given .1)) ∙ d .decode-chunk-points .ensures .0 ∙ ap (λ (i : ℕ). decodeAt (a .o) (a .file .now) i (a .out .now)) w in (
-      many-decoded (a .o) (a .file .now) (a .chunk) (a .out .now) e _ (c .points-in .ensures ∙ ap (countAt (a .o) (a .file .now)) w),
+      many-decoded (a .o) (a .file .now) (a .chunk) (a .out .now) e _ (c .points-in .ensures ∙ ap (chunkCount (a .o) (a .file .now)) w),
       d .decode-chunk-points .ensures .1 ∙ ap (λ (i : ℕ). decodedAt (a .o) (a .file .now) i (a .out .now)) w,
     )
 

@@ -2,11 +2,13 @@
 -- Assumes nothing.
 use mathlib.Core.Path.{sym, ap, _∙_}
 use lib.ListN.{length}
-use Rattle.tzb_record.specs.Layout.{told}
-use Rattle.tzb_asked.specs.Asked.{placesAfter, howMany, many-no, many-same, list-barred, list-asked}
 use borrow.Author.Needs.{needs}
 use Rattle.tzb_asked.proofs.lookup_into.Statement.{statement}
 use Rattle.tzb_asked.proofs.lookup_into.Tie as tie
+use Rattle.answer.specs.Answers.{left, howMany}
+use Rattle.tzb_asked.proofs.AskedLaws.{list-barred, list-asked}
+use Rattle.answer.proofs.AnswersLaws.{many-no}
+use Rattle.tzb_record.specs.Layout.{recordTold}
 
 read-record-requires : tie.Need-read-record-requires
 read-record-requires c κs = search needs
@@ -24,8 +26,8 @@ returns : tie.Need-returns
 returns c =
     let f = c .before .before .before in
     let a = f .before .before .before .before .args in
-    let e = list-barred (a .«record» .now) (a .file .now) (a .lng) (a .lat) (length (a .zones .now)) _ (sym (ap told (c .before .a .given .1)) ∙ f .read-record .ensures) in
-    (many-no _ _ e, ap (placesAfter (a .zones .now)) e)
+    let e = list-barred (a .«record» .now) (a .file .now) (a .lng) (a .lat) (length (a .zones .now)) _ (sym (ap recordTold (c .before .a .given .1)) ∙ f .read-record .ensures) in
+    (many-no _ _ e, ap (left (a .zones .now)) e)
 
 same-length : tie.Need-same-length
 same-length c = search needs
@@ -36,8 +38,8 @@ returns-2 c =
     let g = d .before .before .before in
     let f = g .before .before in
     let a = f .before .before .before .before .args in
-    let e = list-asked (a .«record» .now) (a .file .now) (a .lng) (a .lat) (length (a .zones .now)) _ (sym (ap told (g .a2 .given .1)) ∙ f .read-record .ensures) in
-    (d .lookup-into .ensures .0 ∙ many-same _ ∙ ap howMany e, d .lookup-into .ensures .1 ∙ ap (placesAfter (a .zones .now)) e)
+    let e = list-asked (a .«record» .now) (a .file .now) (a .lng) (a .lat) (length (a .zones .now)) _ (sym (ap recordTold (g .a2 .given .1)) ∙ f .read-record .ensures) in
+    (d .lookup-into .ensures .0 ∙ ap howMany e, d .lookup-into .ensures .1 ∙ ap (left (a .zones .now)) e)
 
 pub lookup-into-spec : {M : Type 1} → statement M
 lookup-into-spec =

@@ -1,11 +1,12 @@
 -- `name_bounds` meets its contract: the record first, then the question.
 -- Assumes nothing.
 use mathlib.Core.Path.{sym, ap, _∙_}
-use Rattle.tzb_record.specs.Layout.{told}
-use Rattle.tzb_asked.specs.Asked.{nameAsked, barred, asked}
+use Rattle.tzb_asked.specs.Asked.{nameAsked}
 use borrow.Author.Needs.{needs}
 use Rattle.tzb_asked.proofs.name_bounds.Statement.{statement}
 use Rattle.tzb_asked.proofs.name_bounds.Tie as tie
+use Rattle.tzb_asked.proofs.AskedLaws.{barred, asked}
+use Rattle.tzb_record.specs.Layout.{recordTold}
 
 read-record-requires : tie.Need-read-record-requires
 read-record-requires c κs = search needs
@@ -21,11 +22,11 @@ name-bounds-requires c κs = search needs
 
 returns : tie.Need-returns
 unfolding nameAsked
-returns c = barred _ _ _ (sym (ap told (c .before .a .given .1)) ∙ c .before .before .before .read-record .ensures)
+returns c = barred _ _ _ (sym (ap recordTold (c .before .a .given .1)) ∙ c .before .before .before .read-record .ensures)
 
 returns-2 : tie.Need-returns-2
 unfolding nameAsked
-returns-2 c = asked _ _ _ _ (sym (ap told (c .before .before .a2 .given .1)) ∙ c .before .before .before .before .read-record .ensures) (c .name-bounds .ensures)
+returns-2 c = asked _ _ _ _ (sym (ap recordTold (c .before .before .a2 .given .1)) ∙ c .before .before .before .before .read-record .ensures) (c .name-bounds .ensures)
 
 pub name-bounds-spec : {M : Type 1} → statement M
 name-bounds-spec = tie.close (tie.spec read-record-requires enum-known-a enum-known-a-2 name-bounds-requires returns returns-2)

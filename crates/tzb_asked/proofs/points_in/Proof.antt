@@ -2,10 +2,10 @@
 -- Assumes nothing.
 use mathlib.Core.Path.{sym, ap, _∙_}
 use Rattle.reader_records.specs.Records.{toldChunk}
-use Rattle.tzb_asked.specs.Asked.{count-no, count-is}
 use borrow.Author.Needs.{needs}
 use Rattle.tzb_asked.proofs.points_in.Statement.{statement}
 use Rattle.tzb_asked.proofs.points_in.Tie as tie
+use Rattle.tzb_asked.proofs.AskedLaws.{count-no, count-is}
 
 chunk-at-requires : tie.Need-chunk-at-requires
 chunk-at-requires c κs = search needs

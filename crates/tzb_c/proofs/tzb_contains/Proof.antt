@@ -4,13 +4,13 @@ use mathlib.Core.Path.{ap, ap₂, _∙_}
 use lib.IntN.{ℤ}
 use mir.Syntax.{w32}
 use mir.ValLaws.{toZ-ofZ}
-use Rattle.tzb_core.specs.Points.{point}
 use Rattle.basics.specs.Signed.{back}
 use Rattle.tzb_asked.specs.Asked.{containsAsked}
 use Rattle.tzb_codes.specs.Codes.{insideCode}
 use borrow.Author.Needs.{needs}
 use Rattle.tzb_c.proofs.tzb_contains.Statement.{statement}
 use Rattle.tzb_c.proofs.tzb_contains.Tie as tie
+use Rattle.plane.specs.Places.{point}
 
 contains-requires : tie.Need-contains-requires
 contains-requires c κs = search needs

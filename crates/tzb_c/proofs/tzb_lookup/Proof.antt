@@ -5,12 +5,12 @@ use mathlib.Core.Path.{sym, ap, _∙_}
 use mir.Syntax.{w32}
 use mir.ValLaws.{toZ-pos}
 use Rattle.basics.specs.Signed.{back}
-use Rattle.tzb_asked.specs.Asked.{foundTold}
 use Rattle.tzb_codes.specs.Codes.{zoneCode}
 use Rattle.tzb_c.proofs.Kept.{once-small}
 use borrow.Author.Needs.{needs}
 use Rattle.tzb_c.proofs.tzb_lookup.Statement.{statement}
 use Rattle.tzb_c.proofs.tzb_lookup.Tie as tie
+use Rattle.replies.specs.Replies.{foundTold}
 
 lookup-once-requires : tie.Need-lookup-once-requires
 lookup-once-requires c κs = search needs

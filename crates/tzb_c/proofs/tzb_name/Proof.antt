@@ -4,13 +4,13 @@ use mathlib.Core.Path.{sym, ap, _∙_}
 use lib.ListN.{length}
 use mir.Syntax.{w32}
 use Rattle.answer.specs.Answers.{checkedTold}
-use Rattle.tzb_core.proofs.Decoded.{outcome-no, outcome-fine}
 use Rattle.basics.specs.Signed.{back}
 use Rattle.tzb_asked.specs.Asked.{endsAsked}
 use Rattle.tzb_codes.specs.Codes.{doneCode}
 use borrow.Author.Needs.{needs}
 use Rattle.tzb_c.proofs.tzb_name.Statement.{statement}
 use Rattle.tzb_c.proofs.tzb_name.Tie as tie
+use Rattle.answer.proofs.AnswersLaws.{outcome-no, outcome-fine}
 
 name-ends-requires : tie.Need-name-ends-requires
 name-ends-requires c κs = search needs

@@ -5,12 +5,12 @@ use mathlib.Core.Path.{sym, ap, _∙_}
 use mir.Syntax.{w64}
 use mir.ValLaws.{toZ-pos}
 use Rattle.basics.specs.Signed.{back}
-use Rattle.tzb_asked.specs.Asked.{nameTold}
 use Rattle.tzb_c.specs.Exports.{startCode}
 use Rattle.tzb_c.proofs.Kept.{name-inside}
 use borrow.Author.Needs.{needs}
 use Rattle.tzb_c.proofs.tzb_name_start.Statement.{statement}
 use Rattle.tzb_c.proofs.tzb_name_start.Tie as tie
+use Rattle.replies.specs.Replies.{boundsTold}
 
 name-bounds-requires : tie.Need-name-bounds-requires
 name-bounds-requires c κs = search needs
@@ -26,17 +26,17 @@ enum-known-a-2 c = search needs
 
 cast-result : tie.Need-cast-result
 cast-result c =
-    let h = sym (ap nameTold (c .before .a2 .given .1)) ∙ c .before .before .before .name-bounds .ensures in
+    let h = sym (ap boundsTold (c .before .a2 .given .1)) ∙ c .before .before .before .name-bounds .ensures in
     omega (arith, name-inside _ _ _ _ _ h)
 
 returns : tie.Need-returns
 returns c =
     back w64 _ (c .refusal-code64 .ok) ∙ c .refusal-code64 .ensures
-    ∙ ap startCode (sym (ap nameTold (c .before .before .a .given .1)) ∙ c .before .before .before .before .name-bounds .ensures)
+    ∙ ap startCode (sym (ap boundsTold (c .before .before .a .given .1)) ∙ c .before .before .before .before .name-bounds .ensures)
 
 returns-2 : tie.Need-returns-2
 returns-2 c =
-    let h = sym (ap nameTold (c .before .a2 .given .1)) ∙ c .before .before .before .name-bounds .ensures in
+    let h = sym (ap boundsTold (c .before .a2 .given .1)) ∙ c .before .before .before .name-bounds .ensures in
     toZ-pos w64 _ (omega (arith, name-inside _ _ _ _ _ h)) ∙ ap startCode h
 
 pub tzb-name-start-spec : {M : Type 1} → statement M

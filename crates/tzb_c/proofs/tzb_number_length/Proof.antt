@@ -5,12 +5,12 @@ use native.Mathlib.Omega.{arith}
 use borrow.Author.Needs.{needs}
 use mir.Syntax.{w32}
 use mir.ValLaws.{toZ-pos}
-use Rattle.tzb_core.specs.Varint.{told}
 use Rattle.basics.specs.Signed.{back}
 use Rattle.tzb_core.proofs.Places.{number-place}
-use Rattle.tzb_c.specs.Exports.{length-no, length-is}
 use Rattle.tzb_c.proofs.tzb_number_length.Statement.{statement}
 use Rattle.tzb_c.proofs.tzb_number_length.Tie as tie
+use Rattle.tzb_c.proofs.ExportsLaws.{length-no, length-is}
+use Rattle.tzb_core.specs.Varint.{readTold}
 
 varint-requires : tie.Need-varint-requires
 varint-requires c κs = search needs
@@ -26,22 +26,22 @@ enum-known-read-2 c = search needs
 
 sub-result : tie.Need-sub-result
 sub-result c =
-    let w = number-place _ _ _ _ (sym (ap told (c .before .before .read2 .given .1)) ∙ c .before .before .before .before .varint .ensures) in
+    let w = number-place _ _ _ _ (sym (ap readTold (c .before .before .read2 .given .1)) ∙ c .before .before .before .before .varint .ensures) in
     omega (arith, w .some)
 
 cast-result : tie.Need-cast-result
 cast-result c =
-    let w = number-place _ _ _ _ (sym (ap told (c .before .before .read2 .given .1)) ∙ c .before .before .before .before .varint .ensures) in
+    let w = number-place _ _ _ _ (sym (ap readTold (c .before .before .read2 .given .1)) ∙ c .before .before .before .before .varint .ensures) in
     omega (arith, w .some, w .few)
 
 returns : tie.Need-returns
 returns c =
     back w32 _ (c .refusal-code .ok) ∙ c .refusal-code .ensures
-    ∙ length-no _ _ _ (sym (ap told (c .before .before .read .given .1)) ∙ c .before .before .before .before .varint .ensures)
+    ∙ length-no _ _ _ (sym (ap readTold (c .before .before .read .given .1)) ∙ c .before .before .before .before .varint .ensures)
 
 returns-2 : tie.Need-returns-2
 returns-2 c =
-    let h = sym (ap told (c .before .before .read2 .given .1)) ∙ c .before .before .before .before .varint .ensures in
+    let h = sym (ap readTold (c .before .before .read2 .given .1)) ∙ c .before .before .before .before .varint .ensures in
     let w = number-place _ _ _ _ h in
     toZ-pos w32 _ (omega (arith, w .some, w .few)) ∙ length-is _ _ _ _ h
 

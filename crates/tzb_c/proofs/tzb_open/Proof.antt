@@ -3,12 +3,14 @@
 use mathlib.Core.Path.{sym, ap, _∙_}
 use mir.Syntax.{w32}
 use Rattle.basics.specs.Signed.{back}
-use Rattle.tzb.specs.Opening.{told}
-use Rattle.tzb_codes.specs.Codes.{doneCode, done-outcome}
-use Rattle.tzb_c.specs.Opens.{openInto, open-barred, open-room, kept-no, kept-room}
+use Rattle.tzb_codes.specs.Codes.{doneCode}
+use Rattle.tzb_c.specs.Opens.{openInto}
 use borrow.Author.Needs.{needs}
 use Rattle.tzb_c.proofs.tzb_open.Statement.{statement}
 use Rattle.tzb_c.proofs.tzb_open.Tie as tie
+use Rattle.replies.specs.Replies.{openingTold}
+use Rattle.tzb_codes.proofs.CodesLaws.{done-outcome}
+use Rattle.tzb_c.proofs.OpensLaws.{open-barred, open-room, kept-no, kept-room}
 
 open-requires : tie.Need-open-requires
 open-requires c κs = search needs
@@ -32,7 +34,7 @@ returns : tie.Need-returns
 returns c =
     let o = c .before .before .before .before in
     let a = o .before .before .before .args in
-    let e = open-barred (a .file .now) (a .«record» .now) _ (sym (ap told (c .before .before .a .given .1)) ∙ o .«open» .ensures) in
+    let e = open-barred (a .file .now) (a .«record» .now) _ (sym (ap openingTold (c .before .before .a .given .1)) ∙ o .«open» .ensures) in
     (back w32 _ (c .refusal-code .ok) ∙ c .refusal-code .ensures ∙ ap doneCode e, kept-no _ _ _ e)
 
 same-length : tie.Need-same-length
@@ -44,7 +46,7 @@ returns-2 c =
     let o = w .before .before .before .before .before in
     let s = o .before .before .before .args .file .now in
     let room = o .before .before .before .args .«record» .now in
-    let opened = sym (ap told (w .before .before .before .a2 .given .1)) ∙ o .«open» .ensures in (
+    let opened = sym (ap openingTold (w .before .before .before .a2 .given .1)) ∙ o .«open» .ensures in (
       back w32 _ (c .done-code .ok) ∙ c .done-code .ensures
           ∙ ap doneCode (w .write-record .ensures .0 ∙ open-room s room _ opened) ∙ done-outcome (openInto s room),
       w .write-record .ensures .1 ∙ kept-room s room _ opened,

@@ -3,12 +3,12 @@
 use mathlib.Core.Path.{sym, ap, _∙_}
 use mir.Syntax.{w32}
 use Rattle.basics.specs.Signed.{back}
-use Rattle.tzb.specs.declared.FullCheck.{FullCheck}
-use Rattle.tzb.specs.FullCheck.{checkTold}
+use Rattle.replies.specs.declared.FullCheck.{FullCheck}
 use Rattle.tzb_codes.specs.Codes.{checkCode}
 use borrow.Author.Needs.{needs}
 use Rattle.tzb_codes.proofs.check_code.Statement.{statement}
 use Rattle.tzb_codes.proofs.check_code.Tie as tie
+use Rattle.replies.specs.Replies.{checkTold}
 
 enum-told : tie.Need-enum-told
 enum-told c = search needs

@@ -4,13 +4,13 @@ use mathlib.Core.Path.{sym, ap, _∙_}
 use mathlib.Core.Bool.{Bool}
 use mir.Syntax.{w32}
 use Rattle.answer.specs.Answers.{ok}
-use Rattle.reader_rings.specs.declared.Verdict.{Verdict}
+use Rattle.replies.specs.declared.Verdict.{Verdict}
 use Rattle.basics.specs.Signed.{back}
-use Rattle.tzb_asked.specs.Asked.{verdictTold}
 use Rattle.tzb_codes.specs.Codes.{insideCode}
 use borrow.Author.Needs.{needs}
 use Rattle.tzb_codes.proofs.inside_code.Statement.{statement}
 use Rattle.tzb_codes.proofs.inside_code.Tie as tie
+use Rattle.replies.specs.Replies.{verdictTold}
 
 enum-known-v : tie.Need-enum-known-v
 enum-known-v c = search needs

@@ -2,13 +2,13 @@
 -- Assumes nothing.
 use mathlib.Core.Path.{sym, ap, _∙_}
 use mir.Syntax.{w32}
-use Rattle.reader_grid.specs.declared.Choice.{Choice}
+use Rattle.replies.specs.declared.Choice.{Choice}
 use Rattle.basics.specs.Signed.{back}
-use Rattle.tzb_asked.specs.Asked.{choiceTold}
 use Rattle.tzb_codes.specs.Codes.{kindCode}
 use borrow.Author.Needs.{needs}
 use Rattle.tzb_codes.proofs.kind_code.Statement.{statement}
 use Rattle.tzb_codes.proofs.kind_code.Tie as tie
+use Rattle.replies.specs.Replies.{choiceTold}
 
 enum-told : tie.Need-enum-told
 enum-told c = search needs

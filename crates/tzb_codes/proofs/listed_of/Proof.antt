@@ -2,12 +2,12 @@
 -- Assumes nothing.
 use Prim.Native.Nat.{ℕ, _+_, _*_}
 use mathlib.Core.Path.{sym, ap, ap₂, _∙_}
-use Rattle.reader_grid.specs.declared.Choice.{Choice}
-use Rattle.tzb_asked.specs.Asked.{choiceTold}
+use Rattle.replies.specs.declared.Choice.{Choice}
 use Rattle.tzb_codes.specs.Codes.{listedOf}
 use borrow.Author.Needs.{needs}
 use Rattle.tzb_codes.proofs.listed_of.Statement.{statement}
 use Rattle.tzb_codes.proofs.listed_of.Tie as tie
+use Rattle.replies.specs.Replies.{choiceTold}
 
 enum-told : tie.Need-enum-told
 enum-told c = search needs

@@ -7,9 +7,9 @@ use Prim.Native.Nat.{suc, _+_, _-_}
 use mir.Syntax.{w32}
 use mir.Val.{toZ}
 use mir.ValLaws.{toZ-neg}
-use Rattle.tzb_codes.specs.Codes.{code-small, code-held}
 use Rattle.tzb_codes.proofs.refusal_code.Statement.{statement}
 use Rattle.tzb_codes.proofs.refusal_code.Tie as tie
+use Rattle.tzb_codes.proofs.CodesLaws.{code-small, code-held}
 
 add-result : tie.Need-add-result
 add-result c = search needs

@@ -4,13 +4,13 @@ use native.Mathlib.Omega.{arith}
 use mathlib.Core.Path.{sym, ap, _∙_}
 use mir.Syntax.{w64}
 use mir.ValLaws.{toZ-pos}
-use Rattle.reader_lookup.specs.declared.Found.{Found}
+use Rattle.replies.specs.declared.Found.{Found}
 use Rattle.basics.specs.Signed.{back}
-use Rattle.tzb_asked.specs.Asked.{foundTold}
 use Rattle.tzb_codes.specs.Codes.{zoneCode}
 use borrow.Author.Needs.{needs}
 use Rattle.tzb_codes.proofs.zone_code.Statement.{statement}
 use Rattle.tzb_codes.proofs.zone_code.Tie as tie
+use Rattle.replies.specs.Replies.{foundTold}
 
 enum-told : tie.Need-enum-told
 enum-told c = search needs

@@ -3,10 +3,10 @@
 use mathlib.Core.Path.{_∙_}
 use mir.Syntax.{w16}
 use mir.ValLaws.{toZ-ofZ}
-use Rattle.tzb_record.specs.Layout.{grid-is}
 use borrow.Author.Needs.{needs}
 use Rattle.tzb_record.proofs.grid_in.Statement.{statement}
 use Rattle.tzb_record.proofs.grid_in.Tie as tie
+use Rattle.tzb_record.proofs.LayoutLaws.{grid-is}
 
 u32-at-requires : tie.Need-u32-at-requires
 u32-at-requires c κs = search needs

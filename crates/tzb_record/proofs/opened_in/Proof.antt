@@ -1,9 +1,9 @@
 -- `tzb_record::opened_in` meets its contract: each part at its place.
 -- Assumes nothing.
-use Rattle.tzb_record.specs.Layout.{opened-is}
 use borrow.Author.Needs.{needs}
 use Rattle.tzb_record.proofs.opened_in.Statement.{statement}
 use Rattle.tzb_record.proofs.opened_in.Tie as tie
+use Rattle.tzb_record.proofs.LayoutLaws.{opened-is}
 
 u32-at-requires : tie.Need-u32-at-requires
 u32-at-requires c κs = search needs

@@ -1,10 +1,10 @@
 -- `tzb_record::put_directories` meets its contract: one behind the other.
 -- Assumes nothing.
 use mathlib.Core.Path.{refl}
-use Rattle.tzb_record.specs.Stores.{behind}
 use borrow.Author.Needs.{needs}
 use Rattle.tzb_record.proofs.put_directories.Statement.{statement}
 use Rattle.tzb_record.proofs.put_directories.Tie as tie
+use Rattle.fields.proofs.StoresLaws.{behind}
 
 put-pair-requires : tie.Need-put-pair-requires
 put-pair-requires c κs = search needs

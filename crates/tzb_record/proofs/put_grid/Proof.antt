@@ -4,10 +4,10 @@ use mathlib.Core.Path.{refl, ap}
 use mir.Syntax.{w16}
 use mir.Val.{ofZ}
 use mir.ValLaws.{toZ-ofZ}
-use Rattle.tzb_record.specs.Stores.{behind, told-by}
 use borrow.Author.Needs.{needs}
 use Rattle.tzb_record.proofs.put_grid.Statement.{statement}
 use Rattle.tzb_record.proofs.put_grid.Tie as tie
+use Rattle.fields.proofs.StoresLaws.{behind, told-by}
 
 put32-requires : tie.Need-put32-requires
 put32-requires c κs = search needs

@@ -4,10 +4,10 @@ use mathlib.Core.Path.{ap, _∙_}
 use mir.Syntax.{w16}
 use mir.Val.{ofZ}
 use mir.ValLaws.{toZ-ofZ}
-use Rattle.tzb_record.specs.Stores.{told-by}
 use borrow.Author.Needs.{needs}
 use Rattle.tzb_record.proofs.put_i16.Statement.{statement}
 use Rattle.tzb_record.proofs.put_i16.Tie as tie
+use Rattle.fields.proofs.StoresLaws.{told-by}
 
 bits16-requires : tie.Need-bits16-requires
 bits16-requires c κs = search needs

@@ -2,10 +2,10 @@
 -- Assumes nothing.
 use mathlib.Core.Path.{refl}
 use Rattle.tzb_record.specs.Layout.{bytesOf}
-use Rattle.tzb_record.specs.Stores.{behind}
 use borrow.Author.Needs.{needs}
 use Rattle.tzb_record.proofs.put_opened.Statement.{statement}
 use Rattle.tzb_record.proofs.put_opened.Tie as tie
+use Rattle.fields.proofs.StoresLaws.{behind}
 
 put32-requires : tie.Need-put32-requires
 put32-requires c κs = search needs

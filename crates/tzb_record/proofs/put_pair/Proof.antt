@@ -1,10 +1,10 @@
 -- `tzb_record::put_pair` meets its contract: one number behind the other.
 -- Assumes nothing.
 use mathlib.Core.Path.{refl}
-use Rattle.tzb_record.specs.Stores.{behind}
 use borrow.Author.Needs.{needs}
 use Rattle.tzb_record.proofs.put_pair.Statement.{statement}
 use Rattle.tzb_record.proofs.put_pair.Tie as tie
+use Rattle.fields.proofs.StoresLaws.{behind}
 
 put32-requires : tie.Need-put32-requires
 put32-requires c κs = search needs

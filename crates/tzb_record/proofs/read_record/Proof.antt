@@ -1,9 +1,9 @@
 -- `tzb_record::read_record` meets its contract: the length, then the fields.
 -- Assumes nothing.
-use Rattle.tzb_record.specs.Layout.{record-none, record-is}
 use borrow.Author.Needs.{needs}
 use Rattle.tzb_record.proofs.read_record.Statement.{statement}
 use Rattle.tzb_record.proofs.read_record.Tie as tie
+use Rattle.tzb_record.proofs.LayoutLaws.{record-none, record-is}
 
 refuse-requires : tie.Need-refuse-requires
 refuse-requires c κs = search needs

@@ -1,9 +1,9 @@
 -- `tzb_record::section_in` meets its contract: two numbers of 32 bits, one after the other.
 -- Assumes nothing.
-use Rattle.tzb_record.specs.Layout.{section-is}
 use borrow.Author.Needs.{needs}
 use Rattle.tzb_record.proofs.section_in.Statement.{statement}
 use Rattle.tzb_record.proofs.section_in.Tie as tie
+use Rattle.tzb_record.proofs.LayoutLaws.{section-is}
 
 u32-at-requires : tie.Need-u32-at-requires
 u32-at-requires c κs = search needs

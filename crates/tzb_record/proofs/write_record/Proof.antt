@@ -1,10 +1,10 @@
 -- `tzb_record::write_record` meets its contract: the room first, then the bytes.
 -- Assumes nothing.
 use mathlib.Core.Path.{_∙_}
-use Rattle.tzb_record.specs.Layout.{no-room, into-room}
 use borrow.Author.Needs.{needs}
 use Rattle.tzb_record.proofs.write_record.Statement.{statement}
 use Rattle.tzb_record.proofs.write_record.Tie as tie
+use Rattle.tzb_record.proofs.LayoutLaws.{no-room, into-room}
 
 fail-requires : tie.Need-fail-requires
 fail-requires c κs = search needs

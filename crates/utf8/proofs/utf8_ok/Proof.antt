@@ -1,6 +1,6 @@
 -- `utf8::utf8_ok` meets its contract. The loop's invariant: what is left from i on is UTF-8 exactly if the whole is. The measure is what is left.
 -- Assumes nothing.
-use mathlib.Core.Path.{_≡_, refl, sym, ap, _∙_}
+use mathlib.Core.Path.{_≡_, sym, ap, _∙_}
 use mathlib.Core.List.{[]}
 use mathlib.Core.Bool.{Bool, _&&_, not}
 use Prim.Native.Nat.{_+_, _-_, _≤_}

@@ -2,11 +2,13 @@
 -- Assumes nothing.
 use mathlib.Core.Path.{sym, ap, _∙_}
 use Rattle.tzb_core.specs.Points.{spotted}
-use Rattle.tzb_core.specs.Decode.{outcome, filled, into-none, into-short, into-no, into-at}
+use Rattle.tzb_core.specs.Decode.{filled}
 use native.Mathlib.Omega.{arith}
 use borrow.Author.Needs.{needs}
 use Rattle.tzb_core.proofs.chunk.decode_points.Statement.{statement}
 use Rattle.tzb_core.proofs.chunk.decode_points.Tie as tie
+use Rattle.answer.specs.Answers.{outcome}
+use Rattle.tzb_core.proofs.DecodeLaws.{into-none, into-short, into-no, into-at}
 
 fail-requires : tie.Need-fail-requires
 fail-requires c κs = search needs

@@ -5,8 +5,8 @@ use mathlib.Core.Path.{sym, ap, _∙_}
 use mathlib.Core.List.{List, _++_}
 use lib.ListN.{take, drop}
 use lib.IntN.{ℤ}
-use Rattle.answer.specs.Answers.{checkedTold}
-use Rattle.tzb_core.specs.Decode.{outcome, pointsFrom, filled}
+use Rattle.answer.specs.Answers.{checkedTold, outcome}
+use Rattle.tzb_core.specs.Decode.{pointsFrom, filled}
 use Rattle.tzb_core.proofs.Decoded.{wrote, copied, led-same, led-fine, led-no}
 use native.Mathlib.Omega.{arith}
 use borrow.Author.Needs.{needs}

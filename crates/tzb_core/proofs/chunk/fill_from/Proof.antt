@@ -8,11 +8,11 @@ use lib.ListN.{length}
 use lib.IntN.{ℤ}
 use mir.Syntax.{w32}
 use mir.Val.{toZ, ofZ}
-use Rattle.answer.specs.Answers.{ok}
-use Rattle.tzb_core.specs.Varint.{told, numberAt}
+use Rattle.answer.specs.Answers.{ok, outcome}
+use Rattle.tzb_core.specs.Varint.{numberAt, readTold}
 use Rattle.tzb_core.specs.Points.{moved}
 use Rattle.tzb_core.specs.Along.{alongBy, along-by, by-there}
-use Rattle.tzb_core.specs.Decode.{decoder, outcome, pointsFrom, put, readFrom}
+use Rattle.tzb_core.specs.Decode.{decoder, pointsFrom, put, readFrom}
 use Rattle.basics.specs.Signed.{back}
 use Rattle.tzb_core.proofs.Decoded.{put-end, put-on}
 use Rattle.tzb_core.proofs.Turns.{nextOf, turn-none, turn-no, turn-half, turn-to, half-less, point-less, no-more, place-on, place-in, room-first, room-kept, readBy, read-by, check-no, check-on, check-end, read-no, read-on, read-end}
@@ -51,7 +51,7 @@ returns c =
     let v = c .before .before .before in
     let l = v .before .before in
     let p = l .before .before in
-    let e = turn-none _ _ _ _ (l .loop .half) _ (sym (ap told (c .before .a .given .1)) ∙ v .varint .ensures) in (
+    let e = turn-none _ _ _ _ (l .loop .half) _ (sym (ap readTold (c .before .a .given .1)) ∙ v .varint .ensures) in (
       check-no _ _ _ _ _ (v .before .loop-test .taken) _ e ∙ l .loop .inv .2,
       λ h. put-end _ _ _ (read-no _ _ _ (v .before .loop-test .taken) _ e)
           ∙ l .loop .inv .3 (room-kept _ _ _ (l .before .out .given) h)
@@ -68,7 +68,7 @@ point-after-requires c κs = search needs
 read : (c : tie.After-known-told2 Inv-loop μ-loop) → ok (toZ w32 (ofZ w32 (c .before .a2 .given .0 .0)), c .before .a2 .given .0 .1 .0 .at) ≡ numberAt (c .before .before .before .before .before .before .before .before .before .before .args .s .now) (c .before .before .before .before .before .loop .at .at)
 read c =
     let v = c .before .before .before in
-    ap (λ (z : ℤ). ok (z, c .before .a2 .given .0 .1 .0 .at)) (back w32 _ (c .known-told2 .given .0 .1)) ∙ sym (ap told (c .before .a2 .given .1)) ∙ v .varint .ensures
+    ap (λ (z : ℤ). ok (z, c .before .a2 .given .0 .1 .0 .at)) (back w32 _ (c .known-told2 .given .0 .1)) ∙ sym (ap readTold (c .before .a2 .given .1)) ∙ v .varint .ensures
 
 enum-known-t : tie.Need-enum-known-t Inv-loop μ-loop
 enum-known-t c = search needs

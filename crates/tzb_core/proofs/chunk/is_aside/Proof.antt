@@ -8,7 +8,6 @@ use mir.Syntax.{w32}
 use mir.Val.{toZ, ofZ}
 use Rattle.tzb_core.specs.Scan.{aside, bothBelow, bothAbove}
 use Rattle.basics.specs.Signed.{back}
-use borrow.Author.Needs.{needs}
 use Rattle.tzb_core.proofs.chunk.is_aside.Statement.{statement}
 use Rattle.tzb_core.proofs.chunk.is_aside.Tie as tie
 

@@ -1,7 +1,7 @@
 -- `chunk::next_point` meets its contract: two numbers, the sums, then the domain.
 -- Assumes nothing.
 use mathlib.Core.Path.{_≡_, sym, ap, ap₂, _∙_}
-use Rattle.tzb_core.specs.Points.{point, spotted, moved, numbersAt, arrive, next-no, next-over, next-to}
+use Rattle.tzb_core.specs.Points.{spotted, moved, numbersAt, arrive, next-no, next-over, next-to}
 use lib.IntN.{ℤ}
 use mir.Syntax.{w32}
 use Rattle.answer.specs.Answers.{ok}
@@ -9,6 +9,7 @@ use Rattle.basics.specs.Signed.{back}
 use borrow.Author.Needs.{needs}
 use Rattle.tzb_core.proofs.chunk.next_point.Statement.{statement}
 use Rattle.tzb_core.proofs.chunk.next_point.Tie as tie
+use Rattle.plane.specs.Places.{point}
 
 module _ (c : tie.After-point-after) where
   -- the two numbers

@@ -7,10 +7,10 @@ use mir.Syntax.{w32}
 use mir.Val.{toZ, ofZ}
 use lib.IntN.{ℤ}
 use Rattle.answer.specs.Answers.{ok}
-use Rattle.answer.specs.Walks.{broken, add, add-none, breaks, hits, ends, keeps}
+use Rattle.answer.specs.Walks.{broken, add}
 use Rattle.plane.specs.Sight.{seenTold}
 use Rattle.plane.specs.Domain.{inDomain}
-use Rattle.tzb_core.specs.Varint.{told, numberAt}
+use Rattle.tzb_core.specs.Varint.{numberAt, readTold}
 use Rattle.tzb_core.specs.Points.{moved}
 use Rattle.tzb_core.specs.Along.{alongBy, along-by, by-left, by-end, by-no, by-there}
 use Rattle.tzb_core.specs.Scan.{scanner, onward}
@@ -19,6 +19,7 @@ use Rattle.basics.specs.Signed.{back}
 use borrow.Author.Needs.{needs}
 use Rattle.tzb_core.proofs.chunk.scan_from.Statement.{statement}
 use Rattle.tzb_core.proofs.chunk.scan_from.Tie as tie
+use Rattle.answer.proofs.WalksLaws.{add-none, breaks, hits, ends, keeps}
 
 abbrev Inv-loop : tie.InvT-loop
 Inv-loop s p count b q₀ at₀ odd₀ left₀ half₀ x₀ q at odd left half x =
@@ -44,7 +45,7 @@ returns : tie.Need-returns Inv-loop μ-loop
 returns c =
     let v = c .before .before .before in
     let l = v .before .before in
-    breaks _ _ _ (l .loop .inv .1) _ (by-no _ _ _ _ _ _ (v .before .loop-test .taken) _ (turn-none _ _ _ _ (l .loop .half) _ (sym (ap told (c .before .a .given .1)) ∙ v .varint .ensures)))
+    breaks _ _ _ (l .loop .inv .1) _ (by-no _ _ _ _ _ _ (v .before .loop-test .taken) _ (turn-none _ _ _ _ (l .loop .half) _ (sym (ap readTold (c .before .a .given .1)) ∙ v .varint .ensures)))
 
 enum-known-a-2 : tie.Need-enum-known-a-2 Inv-loop μ-loop
 enum-known-a-2 c = search needs
@@ -59,7 +60,7 @@ enum-known-t c = search needs
 read : (c : tie.After-known-told2 Inv-loop μ-loop) → ok (toZ w32 (ofZ w32 (c .before .a2 .given .0 .0)), c .before .a2 .given .0 .1 .0 .at) ≡ numberAt (c .before .before .before .before .before .before .before .before .args .s .now) (c .before .before .before .before .before .loop .at .at)
 read c =
     let v = c .before .before .before in
-    ap (λ (z : ℤ). ok (z, c .before .a2 .given .0 .1 .0 .at)) (back w32 _ (c .known-told2 .given .0 .1)) ∙ sym (ap told (c .before .a2 .given .1)) ∙ v .varint .ensures
+    ap (λ (z : ℤ). ok (z, c .before .a2 .given .0 .1 .0 .at)) (back w32 _ (c .known-told2 .given .0 .1)) ∙ sym (ap readTold (c .before .a2 .given .1)) ∙ v .varint .ensures
 
 returns-2 : tie.Need-returns-2 Inv-loop μ-loop
 returns-2 c =

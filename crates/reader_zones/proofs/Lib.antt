@@ -1,0 +1,3 @@
+-- That answers are determined.
+pub mod ZonesLaws
+pub mod Determined

@@ -1,0 +1,2 @@
+-- Containment in a zone.
+pub mod Zones

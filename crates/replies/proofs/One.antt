@@ -1,0 +1,134 @@
+-- Two values of an enum that tell the same are the same: what each tells is read back.
+-- Assumes nothing.
+use Prim.Native.Nat.{ℕ}
+use mathlib.Core.Path.{_≡_, refl}
+use mathlib.Core.Bool.{Bool}
+use Rattle.basics.specs.Told.{one-told}
+use Rattle.answer.specs.Answers.{Answer, ok, refused}
+use Rattle.opened.specs.declared.Opened.{Opened}
+use Rattle.replies.specs.Replies.{boundsTold, Chosen, none, all, listed, choiceTold, candidateTold, verdictTold, Sought, nowhere, inZone, foundTold, listingTold, countTold, openingTold, Outcome, accepted, refusedBy, brokenAt, checkTold}
+use Rattle.replies.specs.declared.Bounds.{Bounds}
+use Rattle.replies.specs.declared.Bounds.the-variants as B
+use Rattle.replies.specs.declared.Choice.{Choice}
+use Rattle.replies.specs.declared.Choice.the-variants as C
+use Rattle.replies.specs.declared.Candidate.{Candidate}
+use Rattle.replies.specs.declared.Candidate.the-variants as Z
+use Rattle.replies.specs.declared.Verdict.{Verdict}
+use Rattle.replies.specs.declared.Verdict.the-variants as J
+use Rattle.replies.specs.declared.Found.{Found}
+use Rattle.replies.specs.declared.Found.the-variants as F
+use Rattle.replies.specs.declared.Listing.{Listing}
+use Rattle.replies.specs.declared.Listing.the-variants as L
+use Rattle.replies.specs.declared.Count.{Count}
+use Rattle.replies.specs.declared.Count.the-variants as N
+use Rattle.replies.specs.declared.Opening.{Opening}
+use Rattle.replies.specs.declared.Opening.the-variants as O
+use Rattle.replies.specs.declared.FullCheck.{FullCheck}
+use Rattle.replies.specs.declared.FullCheck.the-variants as K
+
+pub one-bounds : (a b : Bounds) (x : Answer (ℕ × ℕ)) → boundsTold a ≡ x → boundsTold b ≡ x → a ≡ b
+one-bounds = one-told boundsTold again back
+  where
+    again : Answer (ℕ × ℕ) → Bounds
+    again (ok t) = B.At (t .0) (t .1)
+    again (refused k) = B.Refused k
+
+    back : (a : Bounds) → again (boundsTold a) ≡ a
+    back (B.At from to) = refl
+    back (B.Refused k) = refl
+
+pub one-choice : (a b : Choice) (x : Answer Chosen) → choiceTold a ≡ x → choiceTold b ≡ x → a ≡ b
+one-choice = one-told choiceTold again back
+  where
+    again : Answer Chosen → Choice
+    again (ok none) = C.None
+    again (ok (all n)) = C.All n
+    again (ok (listed n p)) = C.Listed n p
+    again (refused k) = C.Refused k
+
+    back : (a : Choice) → again (choiceTold a) ≡ a
+    back C.None = refl
+    back (C.All n) = refl
+    back (C.Listed n p) = refl
+    back (C.Refused k) = refl
+
+pub one-candidate : (a b : Candidate) (x : Answer ℕ) → candidateTold a ≡ x → candidateTold b ≡ x → a ≡ b
+one-candidate = one-told candidateTold again back
+  where
+    again : Answer ℕ → Candidate
+    again (ok z) = Z.Zone z
+    again (refused k) = Z.Refused k
+
+    back : (a : Candidate) → again (candidateTold a) ≡ a
+    back (Z.Zone z) = refl
+    back (Z.Refused k) = refl
+
+pub one-verdict : (a b : Verdict) (x : Answer Bool) → verdictTold a ≡ x → verdictTold b ≡ x → a ≡ b
+one-verdict = one-told verdictTold again back
+  where
+    again : Answer Bool → Verdict
+    again (ok b) = J.Is b
+    again (refused k) = J.Refused k
+
+    back : (a : Verdict) → again (verdictTold a) ≡ a
+    back (J.Is b) = refl
+    back (J.Refused k) = refl
+
+pub one-found : (a b : Found) (x : Answer Sought) → foundTold a ≡ x → foundTold b ≡ x → a ≡ b
+one-found = one-told foundTold again back
+  where
+    again : Answer Sought → Found
+    again (ok nowhere) = F.None
+    again (ok (inZone z)) = F.Zone z
+    again (refused k) = F.Refused k
+
+    back : (a : Found) → again (foundTold a) ≡ a
+    back F.None = refl
+    back (F.Zone z) = refl
+    back (F.Refused k) = refl
+
+pub one-listing : (a b : Listing) (x : Answer ℕ) → listingTold a ≡ x → listingTold b ≡ x → a ≡ b
+one-listing = one-told listingTold again back
+  where
+    again : Answer ℕ → Listing
+    again (ok n) = L.Zones n
+    again (refused k) = L.Refused k
+
+    back : (a : Listing) → again (listingTold a) ≡ a
+    back (L.Zones n) = refl
+    back (L.Refused k) = refl
+
+pub one-count : (a b : Count) (x : Answer ℕ) → countTold a ≡ x → countTold b ≡ x → a ≡ b
+one-count = one-told countTold again back
+  where
+    again : Answer ℕ → Count
+    again (ok n) = N.Is n
+    again (refused k) = N.Refused k
+
+    back : (a : Count) → again (countTold a) ≡ a
+    back (N.Is n) = refl
+    back (N.Refused k) = refl
+
+pub one-opening : (a b : Opening) (x : Answer Opened) → openingTold a ≡ x → openingTold b ≡ x → a ≡ b
+one-opening = one-told openingTold again back
+  where
+    again : Answer Opened → Opening
+    again (ok o) = O.Done o
+    again (refused k) = O.Refused k
+
+    back : (a : Opening) → again (openingTold a) ≡ a
+    back (O.Done o) = refl
+    back (O.Refused k) = refl
+
+pub one-check : (a b : FullCheck) (x : Outcome) → checkTold a ≡ x → checkTold b ≡ x → a ≡ b
+one-check = one-told checkTold again back
+  where
+    again : Outcome → FullCheck
+    again accepted = K.Accepted
+    again (refusedBy k) = K.Refused k
+    again (brokenAt k n) = K.Broken k n
+
+    back : (a : FullCheck) → again (checkTold a) ≡ a
+    back K.Accepted = refl
+    back (K.Refused k) = refl
+    back (K.Broken k n) = refl

@@ -1,0 +1,2 @@
+-- What each question answers.
+pub mod Replies

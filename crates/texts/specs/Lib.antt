@@ -1,0 +1,2 @@
+-- The order of texts by their bytes.
+pub mod Spelled

@@ -1,0 +1,23 @@
+-- Laws of specs/Codes, as proofs cite them. Nothing here need be believed.
+-- Assumes nothing.
+use Prim.Native.Nat.{_+_, _≤_, _<_}
+use native.Mathlib.Omega.{arith}
+use mathlib.Core.Path.{_≡_, refl, ap}
+use lib.IntN.{negsuc}
+use Rattle.answer.specs.declared.Refusal.{Refusal}
+use Rattle.answer.specs.Answers.{Answer, ok, refused, outcome}
+use Rattle.tzb_codes.specs.Codes.{refusalCode, doneCode}
+
+module _ (r : Refusal) where
+  pub code-small : r .number < 1000 → negsuc (999 + r .number) ≡ refusalCode r
+  unfolding refusalCode
+  code-small h = ap negsuc (omega arith)
+
+  pub code-held : 1000 ≤ r .number → negsuc 1998 ≡ refusalCode r
+  unfolding refusalCode
+  code-held h = ap negsuc (omega arith)
+
+-- whether an answer was given is told as the answer is
+pub done-outcome : {A : Type 0} (x : Answer A) → doneCode (outcome x) ≡ doneCode x
+done-outcome (ok a) = refl
+done-outcome (refused k) = refl

@@ -1,0 +1,20 @@
+-- Laws of specs/Varint, as proofs cite them. Nothing here need be believed.
+-- Assumes nothing.
+use Prim.Native.Nat.{ℕ, _-_}
+use mathlib.Core.Path.{_≡_, ap}
+use mathlib.Core.List.{List}
+use mathlib.Core.Bool.{true}
+use lib.IntN.{ℤ}
+use Rattle.answer.specs.declared.Refusal.{Refusal}
+use Rattle.answer.specs.Answers.{ok, refused}
+use Rattle.tzb_core.specs.Varint.{unzig, digits, signed, numberAt}
+
+-- ---- the digits decide the number
+module _ (s : List ℕ) (p : ℕ) where
+  pub number-ok : (z : ℤ) (n q : ℕ) → z ≡ unzig n → ok (n, q) ≡ digits 4 true s p → ok (z, q) ≡ numberAt s p
+  unfolding numberAt
+  number-ok z n q h e = rw h (ap signed e)
+
+  pub number-no : (r : Refusal) → refused r ≡ digits 4 true s p → refused r ≡ numberAt s p
+  unfolding numberAt
+  number-no r e = ap signed e
