@@ -1,5 +1,5 @@
 -- Document 01, "Records". Fields in the order of the structs in `reader.rs`; two unread bytes after each u16.
--- Asked of any opened record and any bytes: index inside its directory (34), the whole record fitsBelow the bytes (44), its rule (34, for an op 35).
+-- Asked of any opened record and any bytes: index inside its directory (34), the whole record within the bytes (44), its rule (34, for an op 35).
 -- Assumes nothing.
 use Prim.Native.Nat.{ℕ, _+_, _*_, _%_}
 use mathlib.Core.Bool.{Bool, _&&_}
@@ -67,7 +67,7 @@ directory off count = record { off = off; count = count }
 abbrev pub place : Directory → ℕ → ℕ → ℕ
 place d w i = d .off + i * w
 
--- index inside its directory (34), and the whole record fitsBelow the bytes (44)
+-- index inside its directory (34), and the whole record within the bytes (44)
 unfoldable pub recordAt : List ℕ → Directory → ℕ → ℕ → Answer ℕ
 recordAt s d w i = need 34 (ltb i (d .count)) (need 44 (inside w s (place d w i)) (ok (place d w i)))
 
@@ -85,7 +85,7 @@ boxIn s p = record { minx = coordinate s p; miny = coordinate s (p + 4); maxx = 
 unfoldable pub pointIn : List ℕ → ℕ → I32Point
 pointIn s p = record { x = coordinate s p; y = coordinate s (p + 4) }
 
--- count at least 1, and first + count fitsBelow the directory below
+-- count at least 1, and first + count within the directory below
 unfoldable pub fitsBelow : ℕ → ℕ → ℕ → Bool
 fitsBelow first count below = ltb 0 count && leb (first + count) below
 

@@ -21,7 +21,7 @@ use Rattle.opened.specs.declared.Opened.{Opened}
 use Rattle.reader_records.specs.declared.GroupRecord.{GroupRecord}
 use Rattle.reader_records.specs.declared.RingRecord.{RingRecord}
 use Rattle.reader_records.specs.Records.{opAt, groupAt, ringAt, countRule}
-use Rattle.reader_groups.specs.Groups.{One, groupWalk}
+use Rattle.reader_groups.specs.Groups.{One, groupScan}
 use Rattle.reader_rings.specs.declared.Turned.{Turned}
 use Rattle.reader_rings.specs.declared.Round.{Round}
 use Rattle.reader_rings.specs.Rings.{turnOf, turnedAt, jointOf, groupWalk, turnWalk, opStep, opsFrom, ringEnd, ringRest, ringOf, ringContains}
@@ -67,7 +67,7 @@ module _ (o : Opened) (s : List ℕ) (p : Point) where
     unfolding groupWalk
     walk-skip h k t e = rw (h, k, e)
 
-    pub walk-scan : relevant (g .bbox) p ≡ true → right (g .bbox) p ≡ false → groupWalk o s p g ≡ groupWalk o s p g
+    pub walk-scan : relevant (g .bbox) p ≡ true → right (g .bbox) p ≡ false → groupScan o s p g ≡ groupWalk o s p g
     unfolding groupWalk
     walk-scan h k = rw (h, k)
 

@@ -17,7 +17,7 @@ use Rattle.opened.specs.declared.Opened.{Opened}
 use Rattle.reader_records.specs.declared.GroupRecord.{GroupRecord}
 use Rattle.reader_records.specs.declared.RingRecord.{RingRecord}
 use Rattle.reader_records.specs.Records.{opAt, groupIn, groupAt, ringAt, countRule}
-use Rattle.reader_groups.specs.Groups.{One, groupWalk}
+use Rattle.reader_groups.specs.Groups.{One, groupScan}
 use Rattle.reader_rings.specs.declared.Turned.{Turned}
 use Rattle.reader_rings.specs.declared.LegAt.{LegAt}
 use Rattle.reader_rings.specs.declared.LegAt.the-variants as L
@@ -64,7 +64,7 @@ jointOf p a b = cond (same a b) (done tt) (past (rayOf a b p) tt)
 unfoldable pub groupWalk : Opened → List ℕ → Point → GroupRecord → Walk One
 groupWalk o s p g =
     cond (relevant (g .bbox) p)
-    (cond (right (g .bbox) p) (off (parityOf p (g .entry) (g .exit)) tt) (groupWalk o s p g))
+    (cond (right (g .bbox) p) (off (parityOf p (g .entry) (g .exit)) tt) (groupScan o s p g))
     (done tt)
 
 module _ (o : Opened) (s : List ℕ) (p : Point) where
