@@ -2,7 +2,7 @@
 -- Asked of any opened record and any bytes: index inside its directory (34), the whole record within the bytes (44), its rule (34, for an op 35).
 -- Assumes nothing.
 use Prim.Native.Nat.{ℕ, _+_, _*_, _%_}
-use mathlib.Core.Bool.{Bool, _&&_}
+use mathlib.Core.Bool.{Bool, _&&_, not}
 use mathlib.Core.List.{List}
 use lib.Dec.{ltb, leb, eqb}
 use lib.IntN.{ℤ}
@@ -119,9 +119,15 @@ ringAt o s i = ruled (recordAt s (o .rings) 28 i) (ringIn s) (ringRule (o .ops .
 unfoldable pub countRule : RingRecord → ℕ → Bool
 countRule v sum = eqb sum (v .points + v .count)
 
--- an op is a word: its group's index, and in the top bit whether that is turned round
+-- an op is a word: the index of its group. "The top bit of an op turns its group round."
+abbrev pub groupIndex : ℕ → ℕ
+groupIndex word = word % 0x8000_0000
+
+abbrev pub turnsRound : ℕ → Bool
+turnsRound word = not (ltb word 0x8000_0000)
+
 unfoldable pub opRule : ℕ → ℕ → Bool
-opRule below word = ltb (word % 0x8000_0000) below
+opRule below word = ltb (groupIndex word) below
 
 unfoldable pub opAt : Opened → List ℕ → ℕ → Answer ℕ
 opAt o s i = ruled (recordAt s (o .ops) 4 i) (le 4 s) (opRule (o .groups .count)) 35
