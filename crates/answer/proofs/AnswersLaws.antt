@@ -2,14 +2,15 @@
 -- Assumes nothing.
 use Prim.Native.Nat.{ℕ}
 use native.Mathlib.Omega.{arith}
-use mathlib.Core.Path.{_≡_, refl, sym, ap, _∙_}
+use mathlib.Core.Path.{_≡_, refl, ap, _∙_}
 use mathlib.Core.Bool.{Bool, true, false, false≢true}
 use mathlib.Core.List.{List, _++_}
 use lib.ListN.{length, drop}
+use Rattle.basics.specs.Told.{one-told}
 use Rattle.answer.specs.declared.Refusal.{Refusal}
 use Rattle.answer.specs.declared.Checked.{Checked}
 use Rattle.answer.specs.declared.Checked.the-variants.{Fine, Refused}
-use Rattle.answer.specs.Answers.{Answer, no, _then_, need, Check, fine, checkedTold, outcome, howMany, left, holds, answered, ok, refused}
+use Rattle.answer.specs.Answers.{Answer, no, _then_, need, fine, checkedTold, outcome, howMany, left, holds, answered, ok, refused}
 
 pub then-ok : {A B : Type 0} (x : Answer A) (k : A → Answer B) (a : A) → ok a ≡ x → k a ≡ (x then k)
 then-ok x k a e = rw (← e)
@@ -38,15 +39,19 @@ need-inv n false x a e = let z : _≡_ {A = ℕ} 0 1 = cc in absurd (zero-one z)
 pub ok-inv : {A : Type 0} (a b : A) → ok a ≡ ok b → a ≡ b
 ok-inv a b e = cc
 
--- no two answers of a check are told alike
-pub checked-one : (r r' : Checked) → checkedTold r ≡ checkedTold r' → r ≡ r'
-checked-one r r' e = sym (back r) ∙ ap again e ∙ back r'
-  where
-    again : Check → Checked
-    again (ok u) = Fine
-    again (refused k) = Refused k
+-- an enum of the code, read back from the answer that it tells
+abbrev pub readBack : {A E : Type 0} → (A → E) → (Refusal → E) → Answer A → E
+readBack value no (ok a) = value a
+readBack value no (refused r) = no r
 
-    back : (r : Checked) → again (checkedTold r) ≡ r
+-- two of its values that tell the same are the same
+pub one-answer : {A E : Type 0} (told : E → Answer A) (value : A → E) (no : Refusal → E) → ((e : E) → readBack value no (told e) ≡ e) → (e f : E) (x : Answer A) → told e ≡ x → told f ≡ x → e ≡ f
+one-answer told value no back = one-told told (readBack value no) back
+
+pub checked-one : (r r' : Checked) → checkedTold r ≡ checkedTold r' → r ≡ r'
+checked-one r r' e = one-answer checkedTold (λ u. Fine) Refused back r r' (checkedTold r') e refl
+  where
+    back : (r : Checked) → readBack (λ u. Fine) Refused (checkedTold r) ≡ r
     back Fine = refl
     back (Refused k) = refl
 

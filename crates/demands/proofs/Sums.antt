@@ -1,12 +1,12 @@
 -- A ring's point counts added up as answers (reader_cover) and as numbers (reader_exact): where no group is refused the sums are one.
 -- Assumes nothing.
-use Prim.Native.Nat.{ℕ, zero, suc, _+_, _%_}
+use Prim.Native.Nat.{ℕ, zero, suc, _+_}
 use mathlib.Core.Path.{_≡_, sym, ap, ap₂, _∙_}
 use mathlib.Core.List.{List}
 use Rattle.answer.specs.Answers.{ok, _then_}
 use Rattle.opened.specs.declared.Opened.{Opened}
 use Rattle.reader_records.specs.declared.GroupRecord.{GroupRecord}
-use Rattle.reader_records.specs.Records.{opAt, groupAt}
+use Rattle.reader_records.specs.Records.{groupIndex, opAt, groupAt}
 use Rattle.reader_exact.specs.Directories as D
 use Rattle.reader_exact.specs.Directories.{opWord, groupRecord}
 use Rattle.reader_cover.specs.Cover.{opGroup, opPoints}
@@ -26,8 +26,8 @@ module _ (o : Opened) (s : List ℕ) where
   op-is : (j : ℕ) (g : GroupRecord) → ok g ≡ opGroup o s j → groupRecord o s (D.opGroup o s j) ≡ g
   unfolding opGroup
   op-is j g e =
-      let a = then-inv (opAt o s j) (λ w. groupAt o s (w % 0x8000_0000)) g e in
-      ap (λ (w : ℕ). groupRecord o s (w % 0x8000_0000)) (word-is j (a .0) (a .1)) ∙ group-is (a .0 % 0x8000_0000) g (a .2)
+      let a = then-inv (opAt o s j) (λ w. groupAt o s (groupIndex w)) g e in
+      ap (λ (w : ℕ). groupRecord o s (groupIndex w)) (word-is j (a .0) (a .1)) ∙ group-is (groupIndex (a .0)) g (a .2)
 
   pub points-total : (n j t : ℕ) → ok t ≡ opPoints o s n j → t ≡ total (D.opPoints o s) n j
   unfolding opPoints total

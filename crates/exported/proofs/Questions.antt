@@ -38,7 +38,7 @@ use Rattle.reader_records.specs.declared.GroupRecord.{GroupRecord}
 use Rattle.reader_records.specs.declared.RingRecord.{RingRecord}
 use Rattle.reader_records.specs.Records.{place, recordAt, ruled, listAt, ringAt, countRule, opAt, groupAt, chunkAt}
 use Rattle.reader_chunks.specs.Chunks.{endOf, span, bytesOf, firstIn, scanIn, decodeBy, decodeIn}
-use Rattle.reader_groups.specs.Groups.{nextFirst, skipTo, scanTo, joinedTo, passAt, lastIn, lastAt, chunksFrom, groupWalk}
+use Rattle.reader_groups.specs.Groups.{nextFirst, skipTo, scanTo, joinedTo, passAt, lastIn, lastAt, chunksFrom, groupScan}
 use Rattle.reader_rings.specs.declared.Turned.{Turned}
 use Rattle.reader_rings.specs.declared.Round.{Round}
 use Rattle.reader_rings.specs.Rings.{turnedAt, jointOf, groupWalk, turnWalk, opStep, opsFrom, ringEnd, ringRest, ringOf, ringContains}
@@ -266,8 +266,8 @@ module _ (o : Opened) (s : List ℕ) where
     chunks-from x zero i v = last i v x
     chunks-from x (suc n) i v = go-t _ _ (pass i v) (λ w. chunks-from x n (i + 1) w)
 
-    group-of : (g : GroupRecord) → W (groupWalk o s p g)
-    unfolding groupWalk
+    group-of : (g : GroupRecord) → W (groupScan o s p g)
+    unfolding groupScan
     group-of g = yields-t _ _ (chunk o s (g .first)) (λ v. chunks-from (g .exit) _ (g .first) v)
 
     -- ---- rings

@@ -1,9 +1,10 @@
 -- Any two answers that a promise allows are equal: stated over the contracts themselves. Two values of an enum that tell the same are the same.
 -- Assumes nothing.
-use mathlib.Core.Path.{_≡_, sym, _∙_}
+use mathlib.Core.Path.{_≡_, refl, sym, _∙_}
 use Prim.Native.Nat.{ℕ}
 use lib.IntN.{ℤ}
 use Rattle.basics.specs.Determined.{Determined}
+use Rattle.answer.proofs.AnswersLaws.{readBack, one-answer}
 use Rattle.answer.specs.Answers.{Answer}
 use Rattle.fields.proofs.u16_le.Reads as u16-le-reads
 use Rattle.fields.proofs.u16_at.Reads as u16-at-reads
@@ -33,34 +34,39 @@ use Rattle.fields.proofs.wide16.Reads as wide16-reads
 use Rattle.fields.proofs.bits16.Reads as bits16-reads
 
 one16 : (a b : Loaded16) (x : Answer ℕ) → told16 a ≡ x → told16 b ≡ x → a ≡ b
-one16 (L16.Value p) (L16.Value q) x e f = cc
-one16 (L16.Value p) (L16.Refused k) x e f = cc
-one16 (L16.Refused k) (L16.Value p) x e f = cc
-one16 (L16.Refused k) (L16.Refused l) x e f = cc
+one16 = one-answer told16 L16.Value L16.Refused back
+  where
+    back : (a : Loaded16) → readBack L16.Value L16.Refused (told16 a) ≡ a
+    back (L16.Value n) = refl
+    back (L16.Refused k) = refl
 
 one32 : (a b : Loaded32) (x : Answer ℕ) → told32 a ≡ x → told32 b ≡ x → a ≡ b
-one32 (L32.Value p) (L32.Value q) x e f = cc
-one32 (L32.Value p) (L32.Refused k) x e f = cc
-one32 (L32.Refused k) (L32.Value p) x e f = cc
-one32 (L32.Refused k) (L32.Refused l) x e f = cc
+one32 = one-answer told32 L32.Value L32.Refused back
+  where
+    back : (a : Loaded32) → readBack L32.Value L32.Refused (told32 a) ≡ a
+    back (L32.Value n) = refl
+    back (L32.Refused k) = refl
 
 one64 : (a b : Loaded64) (x : Answer ℕ) → told64 a ≡ x → told64 b ≡ x → a ≡ b
-one64 (L64.Value p) (L64.Value q) x e f = cc
-one64 (L64.Value p) (L64.Refused k) x e f = cc
-one64 (L64.Refused k) (L64.Value p) x e f = cc
-one64 (L64.Refused k) (L64.Refused l) x e f = cc
+one64 = one-answer told64 L64.Value L64.Refused back
+  where
+    back : (a : Loaded64) → readBack L64.Value L64.Refused (told64 a) ≡ a
+    back (L64.Value n) = refl
+    back (L64.Refused k) = refl
 
 oneI16 : (a b : LoadedI16) (x : Answer ℤ) → toldI16 a ≡ x → toldI16 b ≡ x → a ≡ b
-oneI16 (I16.Value p) (I16.Value q) x e f = cc
-oneI16 (I16.Value p) (I16.Refused k) x e f = cc
-oneI16 (I16.Refused k) (I16.Value p) x e f = cc
-oneI16 (I16.Refused k) (I16.Refused l) x e f = cc
+oneI16 = one-answer toldI16 I16.Value I16.Refused back
+  where
+    back : (a : LoadedI16) → readBack I16.Value I16.Refused (toldI16 a) ≡ a
+    back (I16.Value n) = refl
+    back (I16.Refused k) = refl
 
 oneI32 : (a b : LoadedI32) (x : Answer ℤ) → toldI32 a ≡ x → toldI32 b ≡ x → a ≡ b
-oneI32 (I32.Value p) (I32.Value q) x e f = cc
-oneI32 (I32.Value p) (I32.Refused k) x e f = cc
-oneI32 (I32.Refused k) (I32.Value p) x e f = cc
-oneI32 (I32.Refused k) (I32.Refused l) x e f = cc
+oneI32 = one-answer toldI32 I32.Value I32.Refused back
+  where
+    back : (a : LoadedI32) → readBack I32.Value I32.Refused (toldI32 a) ≡ a
+    back (I32.Value n) = refl
+    back (I32.Refused k) = refl
 
 pub u16-le : Determined u16-le-reads.Learnt
 u16-le κ a r r' e e' p q = one16 r r' _ p q

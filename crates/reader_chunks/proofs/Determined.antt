@@ -1,7 +1,7 @@
 -- Any two answers that a promise allows are equal, and so is the lent memory: stated over the contracts themselves. Two values of an enum that tell the same are the same.
 -- Assumes nothing.
 use Prim.Native.Nat.{ℕ}
-use mathlib.Core.Path.{_≡_, sym, _∙_}
+use mathlib.Core.Path.{_≡_, refl, sym, _∙_}
 use Rattle.basics.specs.Determined.{Determined, DeterminedMemory}
 use Rattle.answer.specs.Answers.{Answer}
 use Rattle.plane.specs.declared.I32Point.{I32Point}
@@ -19,19 +19,21 @@ use Rattle.reader_chunks.proofs.trace_in.Reads as trace-in-reads
 use Rattle.reader_chunks.proofs.first_at.Reads as first-at-reads
 use Rattle.reader_chunks.proofs.trace_at.Reads as trace-at-reads
 use Rattle.reader_chunks.proofs.decode_chunk_points.Reads as decode-chunk-points-reads
-use Rattle.answer.proofs.AnswersLaws.{checked-one}
+use Rattle.answer.proofs.AnswersLaws.{readBack, one-answer, checked-one}
 
 one-offset : (a b : Offset) (x : Answer ℕ) → toldOffset a ≡ x → toldOffset b ≡ x → a ≡ b
-one-offset (O.At v) (O.At w) x e f = cc
-one-offset (O.At v) (O.Refused k) x e f = cc
-one-offset (O.Refused k) (O.At w) x e f = cc
-one-offset (O.Refused k) (O.Refused l) x e f = cc
+one-offset = one-answer toldOffset O.At O.Refused back
+  where
+    back : (a : Offset) → readBack O.At O.Refused (toldOffset a) ≡ a
+    back (O.At p) = refl
+    back (O.Refused k) = refl
 
 one-point : (a b : PointAt) (x : Answer I32Point) → toldPoint a ≡ x → toldPoint b ≡ x → a ≡ b
-one-point (P.At v) (P.At w) x e f = cc
-one-point (P.At v) (P.Refused k) x e f = cc
-one-point (P.Refused k) (P.At w) x e f = cc
-one-point (P.Refused k) (P.Refused l) x e f = cc
+one-point = one-answer toldPoint P.At P.Refused back
+  where
+    back : (a : PointAt) → readBack P.At P.Refused (toldPoint a) ≡ a
+    back (P.At p) = refl
+    back (P.Refused k) = refl
 
 pub start-of : Determined start-of-reads.Learnt
 start-of κ a r r' e e' p q = p .0 ∙ sym (q .0)

@@ -1,6 +1,6 @@
 -- Laws of specs/Cover, as proofs cite them. Nothing here need be believed.
 -- Assumes nothing.
-use Prim.Native.Nat.{ℕ, _+_, _-_, _%_}
+use Prim.Native.Nat.{ℕ, _+_, _-_}
 use mathlib.Core.Path.{_≡_}
 use mathlib.Core.Bool.{Bool, _&&_}
 use mathlib.Core.List.{List}
@@ -10,7 +10,7 @@ use Rattle.answer.specs.declared.Refusal.{Refusal}
 use Rattle.answer.specs.Answers.{ok, refused, holds}
 use Rattle.opened.specs.declared.Opened.{Opened}
 use Rattle.reader_records.specs.declared.GroupRecord.{GroupRecord}
-use Rattle.reader_records.specs.Records.{opAt, groupAt}
+use Rattle.reader_records.specs.Records.{groupIndex, opAt, groupAt}
 use Rattle.reader_chunks.specs.Chunks.{firstAt, chunkPoints}
 use Rattle.reader_cover.specs.Cover.{opGroup, endsFit}
 
@@ -19,7 +19,7 @@ module _ (o : Opened) (s : List ℕ) (j : ℕ) where
   unfolding opGroup
   op-group-no r e = rw (← e)
 
-  pub op-group-is : (w : ℕ) → ok w ≡ opAt o s j → groupAt o s (w % 0x8000_0000) ≡ opGroup o s j
+  pub op-group-is : (w : ℕ) → ok w ≡ opAt o s j → groupAt o s (groupIndex w) ≡ opGroup o s j
   unfolding opGroup
   op-group-is w e = rw (← e)
 

@@ -1,6 +1,6 @@
 -- Document 01, "What the full check demands": what is asked of one ring, one chunk, one group, one box. For any opened record and any bytes.
 -- Assumes nothing.
-use Prim.Native.Nat.{ℕ, zero, suc, _+_, _-_, _%_}
+use Prim.Native.Nat.{ℕ, zero, suc, _+_, _-_}
 use mathlib.Core.Bool.{Bool, _&&_}
 use mathlib.Core.List.{List}
 use Rattle.plane.specs.Segment.{same}
@@ -12,7 +12,7 @@ use Rattle.opened.specs.declared.Opened.{Opened}
 use Rattle.reader_records.specs.declared.ListRecord.{ListRecord}
 use Rattle.reader_records.specs.declared.RingRecord.{RingRecord}
 use Rattle.reader_records.specs.declared.GroupRecord.{GroupRecord}
-use Rattle.reader_records.specs.Records.{polyAt, ringAt, opAt, groupAt, chunkAt, countRule}
+use Rattle.reader_records.specs.Records.{polyAt, ringAt, groupIndex, opAt, groupAt, chunkAt, countRule}
 use Rattle.reader_chunks.specs.Chunks.{firstAt, chunkPoints}
 use Rattle.shapes.specs.Shapes.{covers}
 use Rattle.reader_cover.specs.declared.Part.{Part}
@@ -21,7 +21,7 @@ use Rattle.reader_cover.specs.All.{all}
 
 -- the group that op j names
 unfoldable pub opGroup : Opened → List ℕ → ℕ → Answer GroupRecord
-opGroup o s j = opAt o s j then λ w. groupAt o s (w % 0x8000_0000)
+opGroup o s j = opAt o s j then λ w. groupAt o s (groupIndex w)
 
 -- ---- F2 Every ring's groups' point counts, less its number of groups, add to its point count.
 -- the point counts of the groups that n ops name, from op j on, added

@@ -18,7 +18,7 @@ use Rattle.shapes.specs.Walk as Shapes
 use Rattle.shapes.specs.Walk.{floatTests, chunkWalk, chunksWalk}
 use Rattle.shapes.specs.Layout as Layout
 use Rattle.opened.specs.declared.Opened.{Opened}
-use Rattle.reader_groups.specs.Groups.{passAt, chunksFrom, groupWalk}
+use Rattle.reader_groups.specs.Groups.{passAt, chunksFrom, groupScan}
 use Rattle.reader_rings.specs.Rings.{groupWalk}
 use Rattle.reader_exact.specs.Directories.{groupRecord, chunkShape, directories}
 use Rattle.reader_exact.specs.Sound.{Sound}
@@ -54,8 +54,8 @@ module _ (o : Opened) (s : List ℕ) (p : Point) where
         (chunksWalk (floatTests p) exit (chunkShape o s (i + 1) ∷ ds)) tt (chunks-walk exit n (i + 1) (omega arith) g))
 
     module _ (i : ℕ) (j : i < o .groups .count) where
-      group-of : groupWalk o s p (groupRecord o s i) ≡ past (chunksWalk (floatTests p) (groupRecord o s i .exit) (groupChunks (Layout.groupAt (directories o s) i))) tt
-      unfolding groupWalk Layout.groupAt directories
+      group-of : groupScan o s p (groupRecord o s i) ≡ past (chunksWalk (floatTests p) (groupRecord o s i .exit) (groupChunks (Layout.groupAt (directories o s) i))) tt
+      unfolding groupScan Layout.groupAt directories
       group-of =
           let r = group-ruled o s k i j in
           let g = groupRecord o s i in

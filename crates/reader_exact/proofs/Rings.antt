@@ -3,9 +3,8 @@
 use Prim.Native.Nat.{ℕ, zero, suc, _+_, _-_, _≤_, _<_}
 use native.Mathlib.Omega.{arith}
 use mathlib.Core.Path.{_≡_, refl, sym, ap, _∙_}
-use mathlib.Core.Bool.{Bool, true, false, not, _&&_, cond}
+use mathlib.Core.Bool.{Bool, true, false, _&&_, cond}
 use mathlib.Core.List.{List, _∷_, map}
-use lib.Dec.{ltb}
 use Rattle.plane.specs.declared.Point.{Point}
 use Rattle.plane.specs.declared.I32Point.{I32Point}
 use Rattle.plane.specs.Sight.{Sight}
@@ -25,7 +24,7 @@ use Rattle.shapes.specs.Layout as Layout
 use Rattle.opened.specs.declared.Opened.{Opened}
 use Rattle.reader_records.specs.declared.GroupRecord.{GroupRecord}
 use Rattle.reader_records.specs.declared.RingRecord.{RingRecord}
-use Rattle.reader_records.specs.Records.{countRule}
+use Rattle.reader_records.specs.Records.{turnsRound, countRule}
 use Rattle.reader_groups.specs.Groups.{One}
 use Rattle.reader_rings.specs.declared.Turned.{Turned}
 use Rattle.reader_rings.specs.declared.Round.{Round}
@@ -40,11 +39,11 @@ use Rattle.answer.proofs.WalksLaws.{add-none}
 use Rattle.reader_rings.proofs.RingsLaws.{turned-is, end-is}
 
 -- ---- a group as an op has it
-turn-is : (w : ℕ) (g : GroupRecord) → record { entry = cond (not (ltb w 0x8000_0000)) (g .exit) (g .entry); exit = cond (not (ltb w 0x8000_0000)) (g .entry) (g .exit); group = g } ≡ turnOf w g
+turn-is : (w : ℕ) (g : GroupRecord) → record { entry = cond (turnsRound w) (g .exit) (g .entry); exit = cond (turnsRound w) (g .entry) (g .exit); group = g } ≡ turnOf w g
 unfolding turnOf
-turn-is w g = either (ltb w 0x8000_0000)
+turn-is w g = either (turnsRound w)
   where
-    either : (b : Bool) → _≡_ {A = Turned} (record { entry = cond (not b) (g .exit) (g .entry); exit = cond (not b) (g .entry) (g .exit); group = g }) (cond b (record { entry = g .entry; exit = g .exit; group = g }) (record { entry = g .exit; exit = g .entry; group = g }))
+    either : (b : Bool) → _≡_ {A = Turned} (record { entry = cond b (g .exit) (g .entry); exit = cond b (g .entry) (g .exit); group = g }) (cond b (record { entry = g .exit; exit = g .entry; group = g }) (record { entry = g .entry; exit = g .exit; group = g }))
     either true = refl
     either false = refl
 

@@ -1,9 +1,7 @@
 -- The directories that a file holds, as shapes has them: each record, and each chunk's points, as the reader answers them. Where it refuses, a fixed value stands in; of a sound file (specs/Sound) none is ever asked for.
 -- Assumes nothing.
-use Prim.Native.Nat.{ℕ, _%_}
+use Prim.Native.Nat.{ℕ}
 use mathlib.Core.List.{List, [], _∷_}
-use mathlib.Core.Bool.{not}
-use lib.Dec.{ltb}
 use lib.IntN.{pos}
 use Rattle.plane.specs.declared.I32Point.{I32Point}
 use Rattle.plane.specs.Lines.{origin}
@@ -15,7 +13,7 @@ use Rattle.opened.specs.declared.Opened.{Opened}
 use Rattle.reader_records.specs.declared.ListRecord.{ListRecord}
 use Rattle.reader_records.specs.declared.RingRecord.{RingRecord}
 use Rattle.reader_records.specs.declared.GroupRecord.{GroupRecord}
-use Rattle.reader_records.specs.Records.{zoneAt, polyAt, ringAt, opAt, groupAt, chunkAt}
+use Rattle.reader_records.specs.Records.{zoneAt, polyAt, ringAt, groupIndex, turnsRound, opAt, groupAt, chunkAt}
 use Rattle.reader_chunks.specs.Chunks.{chunkPoints}
 
 -- ---- what stands in
@@ -72,7 +70,7 @@ module _ (o : Opened) (s : List ℕ) where
 
   -- the group that an op names, and its point count
   abbrev pub opGroup : ℕ → ℕ
-  opGroup i = opWord i % 0x8000_0000
+  opGroup i = groupIndex (opWord i)
 
   abbrev pub opPoints : ℕ → ℕ
   opPoints i = groupRecord (opGroup i) .points
@@ -92,7 +90,7 @@ module _ (o : Opened) (s : List ℕ) where
         entryAt = λ i. groupRecord i .entry;
         exitAt = λ i. groupRecord i .exit;
         opGroup = opGroup;
-        opTurned = λ i. not (ltb (opWord i) 0x8000_0000);
+        opTurned = λ i. turnsRound (opWord i);
         ringSpan = λ i. ringSpan (ringRecord i);
         polygonSpan = λ i. listSpan (polyRecord i);
         zoneSpan = λ i. listSpan (zoneRecord i);

@@ -1,4 +1,4 @@
--- The four comparisons of a position: they pass exactly where both numbers are finite and inRange ±180, ±90, and then both have a floor.
+-- The four comparisons of a position: they pass exactly where both numbers are finite and within ±180, ±90, and then both have a floor.
 -- Assumes nothing.
 use Prim.Native.Nat.{ℕ, _*_, _≤_, _^_}
 use native.Mathlib.Omega.{arith}

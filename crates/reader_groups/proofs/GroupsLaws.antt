@@ -19,7 +19,7 @@ use Rattle.reader_records.specs.declared.GroupRecord.{GroupRecord}
 use Rattle.reader_records.specs.declared.ChunkRecord.{ChunkRecord}
 use Rattle.reader_records.specs.Records.{chunkAt}
 use Rattle.reader_chunks.specs.Chunks.{startOf, endOf, firstIn, scanIn}
-use Rattle.reader_groups.specs.Groups.{One, nextFirst, skipTo, scanTo, joinedTo, passAt, lastIn, lastAt, chunksFrom, groupWalk}
+use Rattle.reader_groups.specs.Groups.{One, nextFirst, skipTo, scanTo, joinedTo, passAt, lastIn, lastAt, chunksFrom, groupScan}
 
 module _ (o : Opened) (s : List ℕ) (i : ℕ) (n : ChunkRecord) where
   pub next-no : (r : Refusal) → refused r ≡ endOf o s (i + 1) → refused r ≡ nextFirst o s i n
@@ -154,10 +154,10 @@ module _ (o : Opened) (s : List ℕ) (p : Point) (x : I32Point) (i : ℕ) (v : C
     chunks-off b w e = rw (chunks-one, ← e)
 
 module _ (o : Opened) (s : List ℕ) (p : Point) (g : GroupRecord) (i : ℕ) (e : i ≡ g .first) where
-  pub group-no : (r : Refusal) → refused r ≡ chunkAt o s i → broken r ≡ groupWalk o s p g
-  unfolding groupWalk
+  pub group-no : (r : Refusal) → refused r ≡ chunkAt o s i → broken r ≡ groupScan o s p g
+  unfolding groupScan
   group-no r h = rw (← e, ← h)
 
-  pub group-is : (v : ChunkRecord) → ok v ≡ chunkAt o s i → chunksFrom o s p (g .exit) (g .count - 1) i v ≡ groupWalk o s p g
-  unfolding groupWalk
+  pub group-is : (v : ChunkRecord) → ok v ≡ chunkAt o s i → chunksFrom o s p (g .exit) (g .count - 1) i v ≡ groupScan o s p g
+  unfolding groupScan
   group-is v h = rw (← e, ← h)

@@ -78,5 +78,5 @@ unfoldable pub chunksFrom : Opened → List ℕ → Point → I32Point → ℕ �
 chunksFrom o s p x zero i v = lastAt o s p i v x
 chunksFrom o s p x (suc n) i v = passAt o s p i v go λ w. chunksFrom o s p x n (i + 1) w
 
-unfoldable pub groupWalk : Opened → List ℕ → Point → GroupRecord → Walk One
-groupWalk o s p g = chunkAt o s (g .first) yields λ v. chunksFrom o s p (g .exit) (g .count - 1) (g .first) v
+unfoldable pub groupScan : Opened → List ℕ → Point → GroupRecord → Walk One
+groupScan o s p g = chunkAt o s (g .first) yields λ v. chunksFrom o s p (g .exit) (g .count - 1) (g .first) v

@@ -6,7 +6,7 @@ ghost use Rattle.answer.specs.Walks.{add};
 ghost use Rattle.tzb_core.specs.Ray.{rayOf};
 ghost use Rattle.tzb_core.specs.Scan.{past, scanned};
 ghost use Rattle.reader_chunks.specs.Chunks.{toldPoint, startOf, firstIn, scanIn};
-ghost use Rattle.reader_groups.specs.Groups.{went, joined, passed, nextFirst, skipTo, scanTo, joinedTo, passAt, lastIn, lastAt, chunksFrom, groupWalk};
+ghost use Rattle.reader_groups.specs.Groups.{went, joined, passed, nextFirst, skipTo, scanTo, joinedTo, passAt, lastIn, lastAt, chunksFrom, groupScan};
 ghost use Rattle.reader_groups.specs.Remembered.{ownFirst, Kept, Leaves, Hands};
 use answer::Refusal;
 use opened::Opened;
@@ -296,7 +296,7 @@ fn scan_chunks(
 
 // Past all chunks of a group.
 pub fn scan_group(o: Opened, s: &[u8], p: Point, g: GroupRecord) -> Went
-    ensures { λ r. ⌜ went r ≡ groupWalk o (now (s .entry)) p g ⌝ }
+    ensures { λ r. ⌜ went r ≡ groupScan o (now (s .entry)) p g ⌝ }
 {
     let from = fields::wide(g.first);
     let t = reader_records::chunk_at(o, s, from);

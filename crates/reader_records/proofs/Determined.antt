@@ -1,8 +1,9 @@
 -- Any two answers that a promise allows are equal: stated over the contracts themselves. Two values of an enum that tell the same are the same.
 -- Assumes nothing.
-use mathlib.Core.Path.{_≡_, sym, _∙_}
+use mathlib.Core.Path.{_≡_, refl, sym, _∙_}
 use Prim.Native.Nat.{ℕ}
 use Rattle.basics.specs.Determined.{Determined}
+use Rattle.answer.proofs.AnswersLaws.{readBack, one-answer}
 use Rattle.answer.specs.Answers.{Answer}
 use Rattle.reader_records.specs.Records.{toldPlace, toldList, toldRing, toldOp, toldGroup, toldChunk}
 use Rattle.reader_records.specs.declared.ListRecord.{ListRecord}
@@ -36,40 +37,46 @@ use Rattle.reader_records.proofs.chunk_rule.Reads as chunk-rule-reads
 use Rattle.reader_records.proofs.count_rule.Reads as count-rule-reads
 
 one-place : (a b : RecordPlace) (x : Answer ℕ) → toldPlace a ≡ x → toldPlace b ≡ x → a ≡ b
-one-place (P.At p) (P.At q) x e f = cc
-one-place (P.At p) (P.Refused k) x e f = cc
-one-place (P.Refused k) (P.At q) x e f = cc
-one-place (P.Refused k) (P.Refused l) x e f = cc
+one-place = one-answer toldPlace P.At P.Refused back
+  where
+    back : (a : RecordPlace) → readBack P.At P.Refused (toldPlace a) ≡ a
+    back (P.At p) = refl
+    back (P.Refused k) = refl
 
 one-list : (a b : ListAt) (x : Answer ListRecord) → toldList a ≡ x → toldList b ≡ x → a ≡ b
-one-list (L.At v) (L.At w) x e f = cc
-one-list (L.At v) (L.Refused k) x e f = cc
-one-list (L.Refused k) (L.At w) x e f = cc
-one-list (L.Refused k) (L.Refused l) x e f = cc
+one-list = one-answer toldList L.At L.Refused back
+  where
+    back : (a : ListAt) → readBack L.At L.Refused (toldList a) ≡ a
+    back (L.At v) = refl
+    back (L.Refused k) = refl
 
 one-ring : (a b : RingAt) (x : Answer RingRecord) → toldRing a ≡ x → toldRing b ≡ x → a ≡ b
-one-ring (N.At v) (N.At w) x e f = cc
-one-ring (N.At v) (N.Refused k) x e f = cc
-one-ring (N.Refused k) (N.At w) x e f = cc
-one-ring (N.Refused k) (N.Refused l) x e f = cc
+one-ring = one-answer toldRing N.At N.Refused back
+  where
+    back : (a : RingAt) → readBack N.At N.Refused (toldRing a) ≡ a
+    back (N.At v) = refl
+    back (N.Refused k) = refl
 
 one-op : (a b : OpAt) (x : Answer ℕ) → toldOp a ≡ x → toldOp b ≡ x → a ≡ b
-one-op (O.At v) (O.At w) x e f = cc
-one-op (O.At v) (O.Refused k) x e f = cc
-one-op (O.Refused k) (O.At w) x e f = cc
-one-op (O.Refused k) (O.Refused l) x e f = cc
+one-op = one-answer toldOp O.At O.Refused back
+  where
+    back : (a : OpAt) → readBack O.At O.Refused (toldOp a) ≡ a
+    back (O.At w) = refl
+    back (O.Refused k) = refl
 
 one-group : (a b : GroupAt) (x : Answer GroupRecord) → toldGroup a ≡ x → toldGroup b ≡ x → a ≡ b
-one-group (G.At v) (G.At w) x e f = cc
-one-group (G.At v) (G.Refused k) x e f = cc
-one-group (G.Refused k) (G.At w) x e f = cc
-one-group (G.Refused k) (G.Refused l) x e f = cc
+one-group = one-answer toldGroup G.At G.Refused back
+  where
+    back : (a : GroupAt) → readBack G.At G.Refused (toldGroup a) ≡ a
+    back (G.At v) = refl
+    back (G.Refused k) = refl
 
 one-chunk : (a b : ChunkAt) (x : Answer ChunkRecord) → toldChunk a ≡ x → toldChunk b ≡ x → a ≡ b
-one-chunk (C.At v) (C.At w) x e f = cc
-one-chunk (C.At v) (C.Refused k) x e f = cc
-one-chunk (C.Refused k) (C.At w) x e f = cc
-one-chunk (C.Refused k) (C.Refused l) x e f = cc
+one-chunk = one-answer toldChunk C.At C.Refused back
+  where
+    back : (a : ChunkAt) → readBack C.At C.Refused (toldChunk a) ≡ a
+    back (C.At v) = refl
+    back (C.Refused k) = refl
 
 pub list-at : Determined list-at-reads.Learnt
 list-at κ a r r' e e' p q = one-list r r' _ p q

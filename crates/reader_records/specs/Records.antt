@@ -1,8 +1,8 @@
 -- Document 01, "Records". Fields in the order of the structs in `reader.rs`; two unread bytes after each u16.
--- Asked of any opened record and any bytes: index inside its directory (34), the whole record fitsBelow the bytes (44), its rule (34, for an op 35).
+-- Asked of any opened record and any bytes: index inside its directory (34), the whole record within the bytes (44), its rule (34, for an op 35).
 -- Assumes nothing.
 use Prim.Native.Nat.{ℕ, _+_, _*_, _%_}
-use mathlib.Core.Bool.{Bool, _&&_}
+use mathlib.Core.Bool.{Bool, _&&_, not}
 use mathlib.Core.List.{List}
 use lib.Dec.{ltb, leb, eqb}
 use lib.IntN.{ℤ}
@@ -67,7 +67,7 @@ directory off count = record { off = off; count = count }
 abbrev pub place : Directory → ℕ → ℕ → ℕ
 place d w i = d .off + i * w
 
--- index inside its directory (34), and the whole record fitsBelow the bytes (44)
+-- index inside its directory (34), and the whole record within the bytes (44)
 unfoldable pub recordAt : List ℕ → Directory → ℕ → ℕ → Answer ℕ
 recordAt s d w i = need 34 (ltb i (d .count)) (need 44 (inside w s (place d w i)) (ok (place d w i)))
 
@@ -85,7 +85,7 @@ boxIn s p = record { minx = coordinate s p; miny = coordinate s (p + 4); maxx = 
 unfoldable pub pointIn : List ℕ → ℕ → I32Point
 pointIn s p = record { x = coordinate s p; y = coordinate s (p + 4) }
 
--- count at least 1, and first + count fitsBelow the directory below
+-- count at least 1, and first + count within the directory below
 unfoldable pub fitsBelow : ℕ → ℕ → ℕ → Bool
 fitsBelow first count below = ltb 0 count && leb (first + count) below
 
@@ -119,9 +119,15 @@ ringAt o s i = ruled (recordAt s (o .rings) 28 i) (ringIn s) (ringRule (o .ops .
 unfoldable pub countRule : RingRecord → ℕ → Bool
 countRule v sum = eqb sum (v .points + v .count)
 
--- an op is a word: its group's index, and in the top bit whether that is turned round
+-- an op is a word: the index of its group. "The top bit of an op turns its group round."
+abbrev pub groupIndex : ℕ → ℕ
+groupIndex word = word % 0x8000_0000
+
+abbrev pub turnsRound : ℕ → Bool
+turnsRound word = not (ltb word 0x8000_0000)
+
 unfoldable pub opRule : ℕ → ℕ → Bool
-opRule below word = ltb (word % 0x8000_0000) below
+opRule below word = ltb (groupIndex word) below
 
 unfoldable pub opAt : Opened → List ℕ → ℕ → Answer ℕ
 opAt o s i = ruled (recordAt s (o .ops) 4 i) (le 4 s) (opRule (o .groups .count)) 35

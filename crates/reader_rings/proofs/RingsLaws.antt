@@ -1,6 +1,6 @@
 -- Laws of specs/Rings, as proofs cite them. Nothing here need be believed.
 -- Assumes nothing.
-use Prim.Native.Nat.{ℕ, suc, _+_, _-_, _%_, _≤_, _<_}
+use Prim.Native.Nat.{ℕ, suc, _+_, _-_, _≤_, _<_}
 use native.Mathlib.Omega.{arith}
 use mathlib.Core.Path.{_≡_, sym, ap, ap₂, _∙_}
 use mathlib.Core.Bool.{Bool, true, false}
@@ -20,8 +20,8 @@ use Rattle.tzb_core.specs.Scan.{past}
 use Rattle.opened.specs.declared.Opened.{Opened}
 use Rattle.reader_records.specs.declared.GroupRecord.{GroupRecord}
 use Rattle.reader_records.specs.declared.RingRecord.{RingRecord}
-use Rattle.reader_records.specs.Records.{opAt, groupAt, ringAt, countRule}
-use Rattle.reader_groups.specs.Groups.{One, groupWalk}
+use Rattle.reader_records.specs.Records.{groupIndex, opAt, groupAt, ringAt, countRule}
+use Rattle.reader_groups.specs.Groups.{One, groupScan}
 use Rattle.reader_rings.specs.declared.Turned.{Turned}
 use Rattle.reader_rings.specs.declared.Round.{Round}
 use Rattle.reader_rings.specs.Rings.{turnOf, turnedAt, jointOf, groupWalk, turnWalk, opStep, opsFrom, ringEnd, ringRest, ringOf, ringContains}
@@ -40,11 +40,11 @@ module _ (o : Opened) (s : List ℕ) (i : ℕ) where
   turned-no r h = rw (← h)
 
   module _ (w : ℕ) (h : ok w ≡ opAt o s i) where
-    pub turned-bad : (r : Refusal) → refused r ≡ groupAt o s (w % 0x8000_0000) → refused r ≡ turnedAt o s i
+    pub turned-bad : (r : Refusal) → refused r ≡ groupAt o s (groupIndex w) → refused r ≡ turnedAt o s i
     unfolding turnedAt
     turned-bad r k = rw (← h, ← k)
 
-    pub turned-is : (g : GroupRecord) → ok g ≡ groupAt o s (w % 0x8000_0000) → (t : Turned) → t ≡ turnOf w g → ok t ≡ turnedAt o s i
+    pub turned-is : (g : GroupRecord) → ok g ≡ groupAt o s (groupIndex w) → (t : Turned) → t ≡ turnOf w g → ok t ≡ turnedAt o s i
     unfolding turnedAt
     turned-is g k t e = rw (← h, ← k, e)
 
@@ -67,7 +67,7 @@ module _ (o : Opened) (s : List ℕ) (p : Point) where
     unfolding groupWalk
     walk-skip h k t e = rw (h, k, e)
 
-    pub walk-scan : relevant (g .bbox) p ≡ true → right (g .bbox) p ≡ false → groupWalk o s p g ≡ groupWalk o s p g
+    pub walk-scan : relevant (g .bbox) p ≡ true → right (g .bbox) p ≡ false → groupScan o s p g ≡ groupWalk o s p g
     unfolding groupWalk
     walk-scan h k = rw (h, k)
 

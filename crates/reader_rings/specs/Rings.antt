@@ -1,10 +1,9 @@
 -- Document 01, "Asking": a ring as `ring_contains` walks it: its groups in the order of its ops, turned round or not, and the segments that join them. For any opened record and any bytes.
 -- Assumes nothing.
-use Prim.Native.Nat.{ℕ, zero, suc, _+_, _-_, _%_, _≤_}
+use Prim.Native.Nat.{ℕ, zero, suc, _+_, _-_, _≤_}
 use mathlib.Core.Bool.{Bool, false, cond}
 use mathlib.Core.List.{List}
 use lib.ListN.{length}
-use lib.Dec.{ltb}
 use Rattle.plane.specs.declared.Point.{Point}
 use Rattle.plane.specs.declared.I32Point.{I32Point}
 use Rattle.plane.specs.Segment.{same}
@@ -16,8 +15,8 @@ use Rattle.tzb_core.specs.Scan.{past}
 use Rattle.opened.specs.declared.Opened.{Opened}
 use Rattle.reader_records.specs.declared.GroupRecord.{GroupRecord}
 use Rattle.reader_records.specs.declared.RingRecord.{RingRecord}
-use Rattle.reader_records.specs.Records.{opAt, groupIn, groupAt, ringAt, countRule}
-use Rattle.reader_groups.specs.Groups.{One, groupWalk}
+use Rattle.reader_records.specs.Records.{groupIndex, turnsRound, opAt, groupIn, groupAt, ringAt, countRule}
+use Rattle.reader_groups.specs.Groups.{One, groupScan}
 use Rattle.reader_rings.specs.declared.Turned.{Turned}
 use Rattle.reader_rings.specs.declared.LegAt.{LegAt}
 use Rattle.reader_rings.specs.declared.LegAt.the-variants as L
@@ -38,13 +37,13 @@ sumAfter d R.On = d
 sumAfter d (R.Off b z) = z .sum
 
 -- ---- the ops
--- a group with its ends as the op has them: the top bit turns it round
+-- a group with its ends as the op has them
 unfoldable pub turnOf : ℕ → GroupRecord → Turned
-turnOf w g = cond (ltb w 0x8000_0000) (record { entry = g .entry; exit = g .exit; group = g }) (record { entry = g .exit; exit = g .entry; group = g })
+turnOf w g = cond (turnsRound w) (record { entry = g .exit; exit = g .entry; group = g }) (record { entry = g .entry; exit = g .exit; group = g })
 
 -- the group of op i
 unfoldable pub turnedAt : Opened → List ℕ → ℕ → Answer Turned
-turnedAt o s i = opAt o s i then λ w. groupAt o s (w % 0x8000_0000) then λ g. ok (turnOf w g)
+turnedAt o s i = opAt o s i then λ w. groupAt o s (groupIndex w) then λ g. ok (turnOf w g)
 
 -- what the code says of an op by its word and its group's place, where all the group's bytes are
 abbrev pub legTold : List ℕ → LegAt → Answer Turned
@@ -64,7 +63,7 @@ jointOf p a b = cond (same a b) (done tt) (past (rayOf a b p) tt)
 unfoldable pub groupWalk : Opened → List ℕ → Point → GroupRecord → Walk One
 groupWalk o s p g =
     cond (relevant (g .bbox) p)
-    (cond (right (g .bbox) p) (off (parityOf p (g .entry) (g .exit)) tt) (groupWalk o s p g))
+    (cond (right (g .bbox) p) (off (parityOf p (g .entry) (g .exit)) tt) (groupScan o s p g))
     (done tt)
 
 module _ (o : Opened) (s : List ℕ) (p : Point) where

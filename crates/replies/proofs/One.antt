@@ -5,6 +5,7 @@ use mathlib.Core.Path.{_≡_, refl}
 use mathlib.Core.Bool.{Bool}
 use Rattle.basics.specs.Told.{one-told}
 use Rattle.answer.specs.Answers.{Answer, ok, refused}
+use Rattle.answer.proofs.AnswersLaws.{readBack, one-answer}
 use Rattle.opened.specs.declared.Opened.{Opened}
 use Rattle.replies.specs.Replies.{boundsTold, Chosen, none, all, listed, choiceTold, candidateTold, verdictTold, Sought, nowhere, inZone, foundTold, listingTold, countTold, openingTold, Outcome, accepted, refusedBy, brokenAt, checkTold}
 use Rattle.replies.specs.declared.Bounds.{Bounds}
@@ -27,13 +28,12 @@ use Rattle.replies.specs.declared.FullCheck.{FullCheck}
 use Rattle.replies.specs.declared.FullCheck.the-variants as K
 
 pub one-bounds : (a b : Bounds) (x : Answer (ℕ × ℕ)) → boundsTold a ≡ x → boundsTold b ≡ x → a ≡ b
-one-bounds = one-told boundsTold again back
+one-bounds = one-answer boundsTold bounds B.Refused back
   where
-    again : Answer (ℕ × ℕ) → Bounds
-    again (ok t) = B.At (t .0) (t .1)
-    again (refused k) = B.Refused k
+    bounds : ℕ × ℕ → Bounds
+    bounds t = B.At (t .0) (t .1)
 
-    back : (a : Bounds) → again (boundsTold a) ≡ a
+    back : (a : Bounds) → readBack bounds B.Refused (boundsTold a) ≡ a
     back (B.At from to) = refl
     back (B.Refused k) = refl
 
@@ -53,24 +53,16 @@ one-choice = one-told choiceTold again back
     back (C.Refused k) = refl
 
 pub one-candidate : (a b : Candidate) (x : Answer ℕ) → candidateTold a ≡ x → candidateTold b ≡ x → a ≡ b
-one-candidate = one-told candidateTold again back
+one-candidate = one-answer candidateTold Z.Zone Z.Refused back
   where
-    again : Answer ℕ → Candidate
-    again (ok z) = Z.Zone z
-    again (refused k) = Z.Refused k
-
-    back : (a : Candidate) → again (candidateTold a) ≡ a
+    back : (a : Candidate) → readBack Z.Zone Z.Refused (candidateTold a) ≡ a
     back (Z.Zone z) = refl
     back (Z.Refused k) = refl
 
 pub one-verdict : (a b : Verdict) (x : Answer Bool) → verdictTold a ≡ x → verdictTold b ≡ x → a ≡ b
-one-verdict = one-told verdictTold again back
+one-verdict = one-answer verdictTold J.Is J.Refused back
   where
-    again : Answer Bool → Verdict
-    again (ok b) = J.Is b
-    again (refused k) = J.Refused k
-
-    back : (a : Verdict) → again (verdictTold a) ≡ a
+    back : (a : Verdict) → readBack J.Is J.Refused (verdictTold a) ≡ a
     back (J.Is b) = refl
     back (J.Refused k) = refl
 
@@ -88,35 +80,23 @@ one-found = one-told foundTold again back
     back (F.Refused k) = refl
 
 pub one-listing : (a b : Listing) (x : Answer ℕ) → listingTold a ≡ x → listingTold b ≡ x → a ≡ b
-one-listing = one-told listingTold again back
+one-listing = one-answer listingTold L.Zones L.Refused back
   where
-    again : Answer ℕ → Listing
-    again (ok n) = L.Zones n
-    again (refused k) = L.Refused k
-
-    back : (a : Listing) → again (listingTold a) ≡ a
+    back : (a : Listing) → readBack L.Zones L.Refused (listingTold a) ≡ a
     back (L.Zones n) = refl
     back (L.Refused k) = refl
 
 pub one-count : (a b : Count) (x : Answer ℕ) → countTold a ≡ x → countTold b ≡ x → a ≡ b
-one-count = one-told countTold again back
+one-count = one-answer countTold N.Is N.Refused back
   where
-    again : Answer ℕ → Count
-    again (ok n) = N.Is n
-    again (refused k) = N.Refused k
-
-    back : (a : Count) → again (countTold a) ≡ a
+    back : (a : Count) → readBack N.Is N.Refused (countTold a) ≡ a
     back (N.Is n) = refl
     back (N.Refused k) = refl
 
 pub one-opening : (a b : Opening) (x : Answer Opened) → openingTold a ≡ x → openingTold b ≡ x → a ≡ b
-one-opening = one-told openingTold again back
+one-opening = one-answer openingTold O.Done O.Refused back
   where
-    again : Answer Opened → Opening
-    again (ok o) = O.Done o
-    again (refused k) = O.Refused k
-
-    back : (a : Opening) → again (openingTold a) ≡ a
+    back : (a : Opening) → readBack O.Done O.Refused (openingTold a) ≡ a
     back (O.Done o) = refl
     back (O.Refused k) = refl
 

@@ -1,16 +1,16 @@
 -- Any two answers that a promise of the chunk code allows are equal, and so is the lent memory: stated over the contracts themselves. Two values of an enum that tell the same are the same.
 -- Assumes nothing.
-use mathlib.Core.Path.{_≡_, sym, ap, ap₂, _∙_}
+use mathlib.Core.Path.{_≡_, refl, sym, _∙_}
 use mathlib.Core.Bool.{Bool}
 use Prim.Native.Nat.{ℕ}
 use Rattle.basics.specs.Determined.{Determined, DeterminedMemory}
-use Rattle.answer.specs.Answers.{Answer, ok}
-use Rattle.answer.specs.Walks.{Walk}
+use Rattle.basics.specs.Told.{one-told}
+use Rattle.answer.specs.Answers.{Answer}
+use Rattle.answer.specs.Walks.{Walk, broken, on, off}
 use Rattle.plane.specs.declared.I32Point.{I32Point}
 use Rattle.tzb_core.specs.Points.{spotted}
 use Rattle.tzb_core.specs.Scan.{scanned}
 use Rattle.tzb_core.specs.Trace.{toldTrace}
-use Rattle.tzb_core.specs.declared.varint.Place.{Place}
 use Rattle.tzb_core.specs.declared.chunk.Spotted.{Spotted}
 use Rattle.tzb_core.specs.declared.chunk.Spotted.the-variants as S
 use Rattle.tzb_core.specs.declared.chunk.Scan.{Scan}
@@ -22,42 +22,42 @@ use Rattle.tzb_core.proofs.chunk.next_point.Reads as next-point-reads
 use Rattle.tzb_core.proofs.chunk.scan_chunk.Reads as scan-chunk-reads
 use Rattle.tzb_core.proofs.chunk.trace_chunk.Reads as trace-chunk-reads
 use Rattle.tzb_core.proofs.chunk.decode_points.Reads as decode-points-reads
-use Rattle.answer.proofs.AnswersLaws.{checked-one}
-
--- a point and the place after it
-one-point : (x y : I32Point) (p q : Place) → _≡_ {A = Answer (I32Point × ℕ)} (ok (x, p .at)) (ok (y, q .at)) → S.At x p ≡ S.At y q
-one-point x y p q e =
-    let t : _≡_ {A = I32Point × ℕ} (x, p .at) (y, q .at) = cc in
-    ap₂ (λ (z : I32Point) (n : ℕ). S.At z (record { at = n })) (ap (λ (u : I32Point × ℕ). u .0) t) (ap (λ (u : I32Point × ℕ). u .1) t)
+use Rattle.answer.proofs.AnswersLaws.{readBack, one-answer, checked-one}
 
 pub one-spotted : (a b : Spotted) (x : Answer (I32Point × ℕ)) → spotted a ≡ x → spotted b ≡ x → a ≡ b
-one-spotted (S.At x p) (S.At y q) z e f = one-point x y p q (e ∙ sym f)
-one-spotted (S.At x p) (S.Refused k) z e f = cc
-one-spotted (S.Refused k) (S.At x p) z e f = cc
-one-spotted (S.Refused k) (S.Refused l) z e f = cc
+one-spotted = one-answer spotted point S.Refused back
+  where
+    -- a point and the place after it
+    point : I32Point × ℕ → Spotted
+    point t = S.At (t .0) (record { at = t .1 })
+
+    back : (a : Spotted) → readBack point S.Refused (spotted a) ≡ a
+    back (S.At q p) = refl
+    back (S.Refused k) = refl
 
 pub one-scan : (a b : Scan) (x : Walk I32Point) → scanned a ≡ x → scanned b ≡ x → a ≡ b
-one-scan (W.Refused k) (W.Refused l) z e f = cc
-one-scan (W.Refused k) W.On z e f = cc
-one-scan (W.Refused k) (W.Off b q) z e f = cc
-one-scan W.On (W.Refused k) z e f = cc
-one-scan W.On W.On z e f = cc
-one-scan W.On (W.Off b q) z e f = cc
-one-scan (W.Off b q) (W.Refused k) z e f = cc
-one-scan (W.Off b q) W.On z e f = cc
-one-scan (W.Off b q) (W.Off c t) z e f = cc
+one-scan = one-told scanned again back
+  where
+    again : Walk I32Point → Scan
+    again (broken k) = W.Refused k
+    again on = W.On
+    again (off b q) = W.Off b q
 
--- whether all is inside, and the last point
-one-pair : (i j : Bool) (p q : I32Point) → _≡_ {A = Answer (Bool × I32Point)} (ok (i, p)) (ok (j, q)) → T.Points i p ≡ T.Points j q
-one-pair i j p q e =
-    let t : _≡_ {A = Bool × I32Point} (i, p) (j, q) = cc in
-    ap₂ T.Points (ap (λ (u : Bool × I32Point). u .0) t) (ap (λ (u : Bool × I32Point). u .1) t)
+    back : (a : Scan) → again (scanned a) ≡ a
+    back (W.Refused k) = refl
+    back W.On = refl
+    back (W.Off b q) = refl
 
 pub one-trace : (a b : Traced) (x : Answer (Bool × I32Point)) → toldTrace a ≡ x → toldTrace b ≡ x → a ≡ b
-one-trace (T.Points i p) (T.Points j q) x e f = one-pair i j p q (e ∙ sym f)
-one-trace (T.Points i p) (T.Refused l) x e f = cc
-one-trace (T.Refused k) (T.Points j q) x e f = cc
-one-trace (T.Refused k) (T.Refused l) x e f = cc
+one-trace = one-answer toldTrace points T.Refused back
+  where
+    -- whether all is inside, and the last point
+    points : Bool × I32Point → Traced
+    points t = T.Points (t .0) (t .1)
+
+    back : (a : Traced) → readBack points T.Refused (toldTrace a) ≡ a
+    back (T.Points i p) = refl
+    back (T.Refused k) = refl
 
 pub first-point : Determined first-point-reads.Learnt
 first-point κ a r r' e e' p q = one-spotted r r' _ p q
