@@ -10,8 +10,9 @@ use lib.Bits.{bitXor, xor-comm, xor-shifted}
 use lib.Pow.{pow-pos, pow-mono}
 use lib.ListN.{length, getD, set, length-set}
 use lib.Seq.{getD-set-same, getD-set-other}
-use Rattle.crc.specs.Crc32.{step, steps, entry, Filled, First, Power}
+use Rattle.crc.specs.Crc32.{step, steps, entry, Filled}
 use Rattle.crc.proofs.Linear.{steps-linear, steps-add, steps-split}
+use Rattle.crc.specs.Steps.{First, Power}
 
 -- a rule that holds of the entries below i, at one more
 one-more : (f : ℕ → ℕ) (t : List ℕ) (i v : ℕ) → i < length t → ((j : ℕ) → j < i → getD t j 0 ≡ f j) → v ≡ f i

@@ -21,7 +21,7 @@ use Rattle.tzb_core.specs.Delta as Deltas
 use Rattle.tzb_core.specs.Varint.{numberAt, digits}
 use Rattle.tzb_core.specs.Points as Points
 use Rattle.tzb_core.specs.Along.{along, walkOf}
-use Rattle.tzb_core.specs.Decode.{pointsOf, pointsFrom}
+use Rattle.tzb_core.specs.Decode.{pointsOf}
 use Rattle.shapes.specs.Shapes.{Zone, ringIn, polygonIn, zoneIn, inBox, covers}
 use Rattle.shapes.specs.Layout.{groupAt, legAt, ringAt, polygonAt, zoneAt}
 use Rattle.shapes.specs.Example.{zone}
@@ -52,6 +52,7 @@ use Rattle.replies.specs.Replies.{accepted, nowhere, inZone}
 use Rattle.basics.specs.Total.{total}
 use Rattle.replies.specs.Replies as Told
 use Rattle.tzb.proofs.FullCheckLaws.{full-accepted}
+use Rattle.tzb_core.specs.Steps.{pointsFrom}
 
 -- F1
 pub opens : ok opened ≡ P.openOf file

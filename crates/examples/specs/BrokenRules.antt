@@ -17,7 +17,7 @@ use Rattle.tzb_core.specs.Delta.{addDelta, fits32}
 use Rattle.tzb_core.specs.Varint.{numberAt, digits}
 use Rattle.tzb_core.specs.Points as Points
 use Rattle.tzb_core.specs.Along.{along, walkOf}
-use Rattle.tzb_core.specs.Decode.{pointsOf, pointsFrom}
+use Rattle.tzb_core.specs.Decode.{pointsOf}
 use Rattle.shapes.specs.Shapes.{inBox, covers}
 use Rattle.opened.specs.declared.Opened.{Opened}
 use Rattle.reader_records.specs.Records as Records
@@ -26,6 +26,7 @@ use Rattle.reader_cover.specs.Cover.{opGroup, opPoints, pointsAdd, chunkCovers,
 use Rattle.reader_check.specs.FullCheck.{met, allMet, recordsHold, chunksDecode, chunkBoxesCover, groupsCover, boxesCover, rule, lowestBroken}
 use Rattle.answer.specs.Answers.{holds, answered}
 use Rattle.reader_cover.specs.All.{all}
+use Rattle.tzb_core.specs.Steps.{pointsFrom}
 
 -- a zone of two polygons with a ring each; the first ring is a square from two groups, the second goes back along one of them
 abbrev pub bytes : List ℕ

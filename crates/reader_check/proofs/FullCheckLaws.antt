@@ -11,7 +11,8 @@ use Rattle.answer.specs.Refusals.{refusal}
 use Rattle.answer.specs.Answers.{Answer, ok, refused}
 use Rattle.opened.specs.declared.Opened.{Opened}
 use Rattle.replies.specs.Replies.{accepted, refusedBy, brokenAt}
-use Rattle.reader_check.specs.FullCheck.{rule, lowestBroken, judged, found, checkOf}
+use Rattle.reader_check.specs.FullCheck.{rule, lowestBroken, judged, checkOf}
+use Rattle.reader_check.specs.Steps.{found}
 
 module _ (n : ℕ) (b : Bool) (after : ℕ) where
   pub rule-broken : b ≡ false → n ≡ rule n b after

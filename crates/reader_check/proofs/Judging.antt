@@ -7,8 +7,9 @@ use mathlib.Core.List.{List, [], _∷_}
 use lib.Dec.{ltb}
 use Rattle.opened.specs.declared.Opened.{Opened}
 use Rattle.reader_check.specs.declared.Demand.{Demand}
-use Rattle.reader_check.specs.FullCheck.{asked, met, allMet, rule, lowestBroken, found}
+use Rattle.reader_check.specs.FullCheck.{asked, met, allMet, rule, lowestBroken}
 use Rattle.reader_cover.specs.All.{all}
+use Rattle.reader_check.specs.Steps.{found}
 
 -- one demand, and then another of the same rule
 past : (k n : ℕ) (a b : Bool) (after : ℕ) → ltb 0 n ≡ true → found (found k (rule n a 0)) (rule n b after) ≡ found k (rule n (a && b) after)

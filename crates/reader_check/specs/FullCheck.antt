@@ -98,9 +98,3 @@ judged (suc n) = brokenAt (refusal 47) (suc n)
 unfoldable pub checkOf : Answer Opened → List ℕ → Outcome
 checkOf (ok o) s = judged (lowestBroken o s)
 checkOf (refused r) s = refusedBy r
-
--- ---- what the code's steps answer
--- the number of a rule that is broken already; where there is none, 0, what comes after
-unfoldable pub found : ℕ → ℕ → ℕ
-found zero after = after
-found (suc n) after = suc n

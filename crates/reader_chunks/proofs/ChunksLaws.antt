@@ -20,7 +20,8 @@ use Rattle.tzb_core.specs.Trace.{traceOf}
 use Rattle.opened.specs.declared.Opened.{Opened}
 use Rattle.reader_records.specs.declared.ChunkRecord.{ChunkRecord}
 use Rattle.reader_records.specs.Records.{chunkAt}
-use Rattle.reader_chunks.specs.Chunks.{startOf, endOf, span, bytesOf, firstIn, scanIn, traceIn, pointsIn, firstAt, traceAt, decodeBy, decodeIn}
+use Rattle.reader_chunks.specs.Chunks.{startOf, endOf, span, bytesOf, firstIn, scanIn, traceIn, firstAt, traceAt, decodeBy, decodeIn}
+use Rattle.reader_chunks.specs.Steps.{pointsIn}
 
 pub start-is : (o : Opened) (v : ChunkRecord) → o .points .off + v .off ≡ startOf o v
 unfolding startOf

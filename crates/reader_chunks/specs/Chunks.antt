@@ -64,10 +64,6 @@ scanIn s n p a e = span s a e yields λ b. scanOf b n p
 unfoldable pub traceIn : List ℕ → ℕ → BBox → ℕ → ℕ → Answer (Bool × I32Point)
 traceIn s n b a e = span s a e then λ c. traceOf c n b
 
--- all n points in the bytes from a to e
-unfoldable pub pointsIn : List ℕ → ℕ → ℕ → ℕ → Answer (List I32Point)
-pointsIn s n a e = span s a e then λ b. pointsOf b n
-
 -- ---- a chunk by its number
 -- its first point alone
 unfoldable pub firstAt : Opened → List ℕ → ℕ → Answer I32Point

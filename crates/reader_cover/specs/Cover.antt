@@ -15,8 +15,6 @@ use Rattle.reader_records.specs.declared.GroupRecord.{GroupRecord}
 use Rattle.reader_records.specs.Records.{polyAt, ringAt, groupIndex, opAt, groupAt, chunkAt, countRule}
 use Rattle.reader_chunks.specs.Chunks.{firstAt, chunkPoints}
 use Rattle.shapes.specs.Shapes.{covers}
-use Rattle.reader_cover.specs.declared.Part.{Part}
-use Rattle.reader_cover.specs.declared.Part.the-variants as P
 use Rattle.reader_cover.specs.All.{all}
 
 -- the group that op j names
@@ -79,12 +77,3 @@ polyCovers o s v = all (ringUnder o s (v .bbox)) (v .count) (v .first)
 
 unfoldable pub zoneCovers : Opened → List ℕ → ListRecord → Bool
 zoneCovers o s v = all (polyUnder o s (v .bbox)) (v .count) (v .first)
-
--- ---- what the code's steps answer
--- what is asked of each part of something larger
-abbrev pub partFits : Opened → List ℕ → Part → ℕ → Bool
-partFits o s (P.Chunk b) = chunkUnder o s b
-partFits o s (P.Group b) = groupUnder o s b
-partFits o s (P.Ring b) = ringUnder o s b
-partFits o s (P.Polygon b) = polyUnder o s b
-partFits o s P.Joint = jointCovers o s

@@ -21,10 +21,10 @@ use Rattle.boxes.specs.Box.{ordered, boxInDomain, contains, relevant, right}
 use Rattle.tzb_core.specs.Delta.{addDelta, fits32}
 use Rattle.tzb_core.specs.Ray.{rayOf, rayAt, touches, crosses, aboveOf, parityOf}
 use Rattle.tzb_core.specs.Along.{along, walkOf}
-use Rattle.tzb_core.specs.Scan.{scanOf, onward}
+use Rattle.tzb_core.specs.Scan.{scanOf}
 use Rattle.tzb_core.specs.Varint.{numberAt, digits}
 use Rattle.tzb_core.specs.Points as Points
-use Rattle.tzb_core.specs.Decode.{pointsOf, pointsFrom}
+use Rattle.tzb_core.specs.Decode.{pointsOf}
 use Rattle.shapes.specs.Example.{zone, Row, rows}
 use Rattle.shapes.specs.Layout.{groupAt, legAt, ringAt, polygonAt, zoneAt}
 use Rattle.opened.specs.declared.Opened.{Opened}
@@ -34,6 +34,7 @@ use Rattle.reader_groups.specs.Groups.{nextFirst, skipTo, scanTo, joinedTo, pas
 use Rattle.reader_rings.specs.Rings.{turnOf, turnedAt, jointOf, groupWalk, turnWalk, opStep, opsFrom, ringEnd, ringRest, ringOf, ringContains}
 use Rattle.reader_zones.specs.Zones.{polyOf, zoneOf, containsAt, firstSo}
 use Rattle.reader_exact.specs.Directories.{zoneRecord, polyRecord, ringRecord, opWord, groupRecord, chunkShape, directories}
+use Rattle.tzb_core.specs.Steps.{onward, pointsFrom}
 
 abbrev pub bytes : List ℕ
 bytes =

@@ -12,7 +12,7 @@ use lib.Ieee.{Float, nan, inf, fin, binary64, up, down, lt, eq, le, ofInt, ofBit
 use lib.Ieee.Scale.{finite}
 use Rattle.basics.specs.Truth.{and-l, and-r}
 use Rattle.reader_grid.specs.Asked.{onEarth, inRange}
-use Rattle.reader_grid.specs.Floor.{Small}
+use Rattle.reader_grid.specs.Steps.{Small}
 
 -- a number between two finite ones is finite
 between-finite : (s t : Bool) (m n : ℕ) (e d : ℤ) (x : Float) →

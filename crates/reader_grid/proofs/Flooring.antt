@@ -16,8 +16,9 @@ use lib.Ieee.{Float, nan, inf, fin, binary64, up, down, lt, le, eq, ofInt, toSig
 use lib.Ieee.Fits.{down-pos}
 use lib.Ieee.Exact.{HasValue}
 use lib.Ieee.Back.{round-whole}
-use Rattle.reader_grid.specs.Floor.{signed, floorOf, Small}
+use Rattle.reader_grid.specs.Floor.{signed, floorOf}
 use Rattle.reader_grid.proofs.Numbers.{near, moved-fits, moved-is, moved-small}
+use Rattle.reader_grid.specs.Steps.{Small}
 
 or-l : (a b : Bool) → T a → T (a || b)
 or-l true b t = tt

@@ -1,13 +1,10 @@
 -- The floor of a float: the greatest whole number not above it, in exact arithmetic. A finite float is numerator / 2^k.
 -- Assumes nothing.
-use Prim.Native.Nat.{ℕ, _*_, _≤_}
-use mathlib.Core.Path.{_≡_}
+use Prim.Native.Nat.{ℕ, _*_}
 use mathlib.Core.Bool.{Bool, true, false}
 use lib.IntN.{ℤ, pos, negℤ, _*ℤ_}
 use lib.Signed.{leZ, shrZ}
 use lib.Ieee.{Float, nan, inf, fin, up, down}
-use lib.Ieee.Scale.{finite}
-use lib.Ieee.Positive.{num, den}
 
 -- the numerator of a finite float, with its sign
 abbrev pub signed : Bool → ℕ → ℤ
@@ -25,8 +22,3 @@ unfoldable pub floorOf : Float → ℤ
 floorOf nan = pos 0
 floorOf (inf s) = pos 0
 floorOf (fin s m e) = shrZ (signed s (m * up e)) (down e)
-
--- a finite float of size at most 180: what the code's floor asks for
-pub record Small (x : Float) : Type 0 where
-  pub is-finite : finite x ≡ true
-  pub small : num x ≤ 180 * den x

@@ -12,7 +12,6 @@ use Rattle.reader_records.specs.Records.{chunkAt}
 use Rattle.reader_chunks.specs.Chunks.{startOf, endOf, firstIn}
 use Rattle.reader_chunks.proofs.Ranges.{end-next}
 use Rattle.reader_groups.specs.Groups.{nextFirst}
-use Rattle.reader_groups.specs.Remembered.{ownFirst, Kept, Leaves, Hands}
 use Rattle.reader_groups.specs.declared.Known.{Known}
 use Rattle.reader_groups.specs.declared.Known.the-variants as K
 use Rattle.reader_groups.specs.declared.Joined.{Joined}
@@ -20,6 +19,7 @@ use Rattle.reader_groups.specs.declared.Joined.the-variants as J
 use Rattle.reader_groups.specs.declared.Pass.{Pass}
 use Rattle.reader_groups.specs.declared.Pass.the-variants as P
 use Rattle.answer.proofs.AnswersLaws.{then-ok, zero-one}
+use Rattle.reader_groups.specs.Steps.{ownFirst, Kept, Leaves, Hands}
 
 -- of an equal answer
 pub kept-at : (k : Known) (x y : Answer I32Point) → x ≡ y → Kept k y → Kept k x

@@ -17,30 +17,16 @@ use Rattle.reader_records.specs.Records.{chunkAt}
 use Rattle.reader_chunks.specs.Chunks.{startOf, endOf, firstIn, scanIn}
 use Rattle.reader_groups.specs.declared.Went.{Went}
 use Rattle.reader_groups.specs.declared.Went.the-variants as W
-use Rattle.reader_groups.specs.declared.Joined.{Joined}
-use Rattle.reader_groups.specs.declared.Joined.the-variants as J
-use Rattle.reader_groups.specs.declared.Pass.{Pass}
-use Rattle.reader_groups.specs.declared.Pass.the-variants as P
 
 -- a walk that hands nothing on
 abbrev pub One : Type 0
 One = Unit {0}
 
--- ---- what the enums of the code say
+-- ---- what the enum of the code says
 abbrev pub went : Went → Walk One
 went (W.Refused r) = broken r
 went W.On = on
 went (W.Off b) = off b tt
-
-abbrev pub joined : Joined → Walk One
-joined (J.Refused r) = broken r
-joined J.On = on
-joined (J.Off b k) = off b tt
-
-abbrev pub passed : Pass → Walk ChunkRecord
-passed (P.Refused r) = broken r
-passed P.On = on
-passed (P.Off b v k) = off b v
 
 -- the first point of chunk i + 1, with record n
 unfoldable pub nextFirst : Opened → List ℕ → ℕ → ChunkRecord → Answer I32Point

@@ -10,7 +10,8 @@ use Rattle.answer.specs.Answers.{fine}
 use Rattle.answer.proofs.CheckLaws.{fine-one, fine-rest, fine-claim, at-le}
 use mathlib.Core.Path.{_≡_, refl}
 use Rattle.answer.specs.Checks.{deny}
-use Rattle.reader_head.specs.Head.{startCheck, boundsCheck, headCheck, Long, Headed}
+use Rattle.reader_head.specs.Head.{startCheck, boundsCheck, headCheck, Headed}
+use Rattle.reader_head.specs.Steps.{Long}
 
 -- ---- what is known of a file whose head is fine
 pub size-in : (n : ℕ) → (ltb n 68 || ltb 4_294_967_295 n) ≡ false → (68 ≤ n) × (n ≤ 4_294_967_295)

@@ -65,9 +65,6 @@ boundsCheck s =
 unfoldable pub headCheck : List ℕ → Check
 headCheck s = first (startCheck s ∷ fieldsCheck s ∷ versionCheck s ∷ boundsCheck s ∷ [])
 
-pub record Long (s : List ℕ) : Type 0 where
-  pub long : 68 ≤ length s
-
 pub record Headed (s : List ℕ) : Type 0 where
   pub long : 68 ≤ length s
   pub short : length s ≤ 4_294_967_295

@@ -5,7 +5,8 @@ ghost use lib.ListN.{length};
 ghost use Rattle.answer.specs.Answers.{checkedTold};
 ghost use Rattle.answer.specs.Checks.{seek};
 ghost use Rattle.reader_head.specs.Magic.{startsWith};
-ghost use Rattle.reader_head.specs.Head.{startCheck, isCount, fieldsCheck, versionCheck, boundsCheck, headCheck, Long, isZero, notZero};
+ghost use Rattle.reader_head.specs.Head.{startCheck, isCount, fieldsCheck, versionCheck, boundsCheck, headCheck, isZero, notZero};
+ghost use Rattle.reader_head.specs.Steps.{Long};
 use answer::Checked;
 
 fn starts_with(s: &[u8], t: &[u8]) -> bool

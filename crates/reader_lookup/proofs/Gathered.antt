@@ -13,8 +13,8 @@ use Rattle.answer.specs.Checks.{andThen}
 use Rattle.opened.specs.declared.Opened.{Opened}
 use Rattle.reader_names.specs.Asked.{nameAt}
 use Rattle.reader_lookup.specs.Asking.{also, allHits, namesRead}
-use Rattle.reader_lookup.specs.Gather.{seen, seenOn, tally}
 use Rattle.replies.specs.Replies.{Sought, nowhere, inZone}
+use Rattle.reader_lookup.specs.Steps.{seen, seenOn, tally}
 
 and-then-assoc : (a b c : Check) → andThen (andThen a b) c ≡ andThen a (andThen b c)
 unfolding andThen

@@ -1,3 +1,3 @@
 -- The two questions for a position.
 pub mod Asking
-pub mod Gather
+pub mod Steps

@@ -12,7 +12,8 @@ use Rattle.fields.specs.Part.{part}
 use Rattle.answer.specs.Answers.{Check, fine}
 use Rattle.answer.specs.Checks.{deny, each}
 use Rattle.answer.proofs.CheckLaws.{fine-one, fine-rest, fine-claim, same-eq, each-at}
-use Rattle.reader_names.specs.Names.{blobLen, offsetAt, prior, shapeCheck, misplaced, offsetRule, offsetCheck, textCheck, textAt, Shaped, Ordered}
+use Rattle.reader_names.specs.Names.{blobLen, offsetAt, prior, shapeCheck, misplaced, offsetRule, offsetCheck, textCheck, textAt}
+use Rattle.reader_names.specs.Steps.{Shaped, Ordered}
 
 pub fits : (s : List ℕ) (at len n : ℕ) → at + len ≤ length s → shapeCheck s at len n ≡ fine → at + 8 + 4 * n + blobLen s at ≤ length s
 unfolding shapeCheck

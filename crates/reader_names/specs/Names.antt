@@ -1,6 +1,6 @@
 -- Document 01, "Names", 21 to 26: n names in len bytes from at on. Blob length, zone count + 1 offsets, blob.
 -- Assumes nothing.
-use Prim.Native.Nat.{ℕ, zero, suc, _+_, _*_, _≤_, _<_}
+use Prim.Native.Nat.{ℕ, zero, suc, _+_, _*_}
 use mathlib.Core.Bool.{Bool, _&&_, _||_, not}
 use mathlib.Core.List.{List, [], _∷_}
 use lib.Dec.{ltb, eqb}
@@ -57,13 +57,3 @@ textAt s at n i = textCheck (text s at n i)
 unfoldable pub namesCheck : List ℕ → ℕ → ℕ → ℕ → Check
 namesCheck s at len n =
     first (shapeCheck s at len n ∷ each (offsetCheck s at n) (n + 1) 0 ∷ each (textAt s at n) n 0 ∷ [])
-
--- what is known after the first check, and after the second
-pub record Shaped (s : List ℕ) (at n : ℕ) : Type 0 where
-  pub fits : at + 8 + 4 * n + blobLen s at ≤ length s
-  pub small : length s < 4_294_967_296
-
-pub record Ordered (s : List ℕ) (at n : ℕ) : Type 0 where
-  pub shape : Shaped s at n
-  pub rises : (i : ℕ) → i < n → offsetAt s at i < offsetAt s at (i + 1)
-  pub ends : (i : ℕ) → i < n → offsetAt s at (i + 1) ≤ blobLen s at

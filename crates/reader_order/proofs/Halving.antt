@@ -10,7 +10,7 @@ use mathlib.Core.List.{List, [], _∷_, _++_}
 use lib.ListN.{length, take, drop, set, getD}
 use lib.Seq.{getD-take, length-take-le, take-take}
 use Rattle.reader_order.specs.Order.{insert, inOrder}
-use Rattle.reader_order.specs.Place.{placeFor, movedUp}
+use Rattle.reader_order.specs.Steps.{placeFor, movedUp}
 use Rattle.texts.proofs.Bytes.{not-before}
 use Rattle.reader_order.proofs.Sorted.{From, Sorted, sorted-in}
 use Rattle.reader_order.proofs.Shift.{written}

@@ -10,13 +10,13 @@ use mathlib.Core.List.{List, [], _∷_, _++_, append-assoc, append-nil}
 use lib.ListN.{length, take, drop, set, getD, length-set, length-append, length-drop, take-append-drop, drop-of-length-le}
 use lib.Seq.{take-length, take-suc, take-take, take-all, take-add, take-at, take-append-le, drop-at, drop-drop, length-take-le}
 use Rattle.reader_order.specs.Order.{insert, insertAll, ordered, inOrder, called}
-use Rattle.reader_order.specs.Place.{placeFor, movedUp}
 use Rattle.texts.proofs.Bytes.{not-before}
 use Rattle.reader_order.proofs.Sorted.{From, Sorted, sorted-in, in-sorted, sorted-take, insert-here, insert-on, all-last, all-sorted, all-called, is-ordered, as-they-came, same-length}
 use Rattle.reader_order.proofs.Shift.{written, moved-length, Sorting, all-there}
 use Rattle.reader_order.proofs.Halving.{place-inside}
 use Rattle.reader_order.proofs.Only.{only-ordered}
 use Rattle.texts.specs.Spelled.{comesBefore, sameBytes}
+use Rattle.reader_order.specs.Steps.{placeFor, movedUp}
 
 -- ---- the zones from place k on
 module _ (m : List ℕ) (k : ℕ) (h : k ≤ length m) where

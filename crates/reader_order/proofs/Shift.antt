@@ -9,8 +9,8 @@ use mathlib.Core.List.{List, [], _∷_, _++_, append-assoc, append-nil}
 use lib.ListN.{length, take, drop, set, getD, length-set, length-append, length-drop, take-append-drop, drop-of-length-le}
 use lib.Seq.{take-suc, drop-cons, getD-set-same, drop-set-lt, getD-at, drop-at, take-set-le, getD-take, take-take, take-all, drop-drop, length-take-le, take-at, append-snoc, set-append-left, take-set-lt, take-suc-set}
 use Rattle.reader_order.specs.Order.{insert, insertAll, ordered, inOrder}
-use Rattle.reader_order.specs.Place.{movedUp}
 use Rattle.reader_order.proofs.Sorted.{all-last, is-ordered, same-length}
+use Rattle.reader_order.specs.Steps.{movedUp}
 
 -- ---- the move
 -- The zones from place i on, up to the last that is to move, have moved up.

@@ -1,3 +1,3 @@
 -- Zones in the order of their names.
 pub mod Order
-pub mod Place
+pub mod Steps

@@ -6,7 +6,7 @@ ghost use Prim.Native.Nat.{_+_, _<_, _≤_};
 ghost use lib.ListN.{length, take, drop, getD};
 ghost use Rattle.reader_names.specs.Asked.{nameOr};
 ghost use Rattle.reader_order.specs.Order.{insert, insertAll, ordered, inOrder};
-ghost use Rattle.reader_order.specs.Place.{placeFor, movedUp};
+ghost use Rattle.reader_order.specs.Steps.{placeFor, movedUp};
 ghost use Rattle.texts.specs.Spelled.{comesBefore};
 use opened::Opened;
 

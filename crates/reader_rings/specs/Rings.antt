@@ -1,40 +1,23 @@
 -- Document 01, "Asking": a ring as `ring_contains` walks it: its groups in the order of its ops, turned round or not, and the segments that join them. For any opened record and any bytes.
 -- Assumes nothing.
-use Prim.Native.Nat.{ℕ, zero, suc, _+_, _-_, _≤_}
+use Prim.Native.Nat.{ℕ, zero, suc, _+_, _-_}
 use mathlib.Core.Bool.{Bool, false, cond}
 use mathlib.Core.List.{List}
-use lib.ListN.{length}
 use Rattle.plane.specs.declared.Point.{Point}
 use Rattle.plane.specs.declared.I32Point.{I32Point}
 use Rattle.plane.specs.Segment.{same}
-use Rattle.answer.specs.Answers.{Answer, ok, refused, _then_}
-use Rattle.answer.specs.Walks.{Walk, broken, on, off, _go_, _yields_, done, must, verdict}
+use Rattle.answer.specs.Answers.{Answer, ok, _then_}
+use Rattle.answer.specs.Walks.{Walk, off, _go_, _yields_, done, must, verdict}
 use Rattle.boxes.specs.Box.{contains, relevant, right}
 use Rattle.tzb_core.specs.Ray.{rayOf, parityOf}
 use Rattle.tzb_core.specs.Scan.{past}
 use Rattle.opened.specs.declared.Opened.{Opened}
 use Rattle.reader_records.specs.declared.GroupRecord.{GroupRecord}
 use Rattle.reader_records.specs.declared.RingRecord.{RingRecord}
-use Rattle.reader_records.specs.Records.{groupIndex, turnsRound, opAt, groupIn, groupAt, ringAt, countRule}
+use Rattle.reader_records.specs.Records.{groupIndex, turnsRound, opAt, groupAt, ringAt, countRule}
 use Rattle.reader_groups.specs.Groups.{One, groupScan}
 use Rattle.reader_rings.specs.declared.Turned.{Turned}
-use Rattle.reader_rings.specs.declared.LegAt.{LegAt}
-use Rattle.reader_rings.specs.declared.LegAt.the-variants as L
 use Rattle.reader_rings.specs.declared.Round.{Round}
-use Rattle.reader_rings.specs.declared.Rounds.{Rounds}
-use Rattle.reader_rings.specs.declared.Rounds.the-variants as R
-
--- ---- what the enums of the code say
-abbrev pub rounds : Rounds → Walk Round
-rounds (R.Refused r) = broken r
-rounds R.On = on
-rounds (R.Off b z) = off b z
-
--- how many points are counted after a step, where it goes on
-abbrev pub sumAfter : ℕ → Rounds → ℕ
-sumAfter d (R.Refused r) = d
-sumAfter d R.On = d
-sumAfter d (R.Off b z) = z .sum
 
 -- ---- the ops
 -- a group with its ends as the op has them
@@ -44,15 +27,6 @@ turnOf w g = cond (turnsRound w) (record { entry = g .exit; exit = g .entry; gro
 -- the group of op i
 unfoldable pub turnedAt : Opened → List ℕ → ℕ → Answer Turned
 turnedAt o s i = opAt o s i then λ w. groupAt o s (groupIndex w) then λ g. ok (turnOf w g)
-
--- what the code says of an op by its word and its group's place, where all the group's bytes are
-abbrev pub legTold : List ℕ → LegAt → Answer Turned
-legTold s (L.At w p) = ok (turnOf w (groupIn s p))
-legTold s (L.Refused k) = refused k
-
-abbrev pub LegRoom : List ℕ → LegAt → Type 0
-LegRoom s (L.At w p) = p + 44 ≤ length s
-LegRoom s (L.Refused k) = One
 
 -- ---- the walk
 -- the segment that joins two ends, where they differ

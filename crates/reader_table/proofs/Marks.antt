@@ -14,7 +14,7 @@ use lib.Bits.{bitAnd, bitOr, and-step, or-step, and-comm, or-comm, and-self, or-
 use lib.Dec.{eqb, leb}
 use borrow.Author.Tests.{eqb-true, eqb-false, leb-true, leb-false}
 use Rattle.reader_table.specs.declared.units.Stride.{Stride}
-use Rattle.reader_table.specs.Shared.{own, Marked, Strides, Taken}
+use Rattle.reader_table.specs.Steps.{own, Marked, Strides, Taken}
 
 -- ---- bits
 

@@ -15,7 +15,7 @@ use Rattle.answer.specs.Answers.{fine}
 use Rattle.answer.specs.Checks.{claim, andThen, each, atMost, same, either}
 use Rattle.answer.proofs.CheckLaws.{fine-one, fine-rest, fine-claim, at-le, same-eq}
 use Rattle.reader_table.specs.Table.{sections, offAt, lenAt, apart, apartAt, placedCheck}
-use Rattle.reader_table.specs.Shared.{Settled, Placed, Has, Split, Marked, Taken, Clipped, TakenBy, MarkedBy}
+use Rattle.reader_table.specs.Steps.{Settled, Placed, Has, Split, Marked, Taken, Clipped, TakenBy, MarkedBy}
 
 -- ---- one entry
 

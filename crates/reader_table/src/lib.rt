@@ -5,7 +5,7 @@ ghost use Rattle.answer.specs.Answers.{checkedTold};
 ghost use Rattle.reader_head.specs.Head.{Headed};
 ghost use Rattle.answer.specs.Checks.{seek, each};
 ghost use Rattle.reader_table.specs.Table.{sections, entryField, isType, has, repeats, banned, apart, apartAt, placedCheck, typedCheck, entryCheck, entriesCheck, sectionOf};
-ghost use Rattle.reader_table.specs.Shared.{Settled};
+ghost use Rattle.reader_table.specs.Steps.{Settled};
 
 mod units;
 

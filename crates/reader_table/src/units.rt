@@ -6,7 +6,7 @@ ghost use Prim.Native.Nat.{_+_, _*_, _≤_, _<_};
 ghost use lib.ListN.{length};
 ghost use Rattle.reader_head.specs.Head.{Headed};
 ghost use Rattle.reader_table.specs.Table.{sections};
-ghost use Rattle.reader_table.specs.Shared.{own, Strides, Taken, Clipped, TakenBy, Split, Placed, Settled};
+ghost use Rattle.reader_table.specs.Steps.{own, Strides, Taken, Clipped, TakenBy, Split, Placed, Settled};
 use answer::Checked;
 
 // Bits of one byte of the map, and how many units they stand for.

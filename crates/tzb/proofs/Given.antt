@@ -29,13 +29,14 @@ use Rattle.reader_grid.proofs.Accepted.{ChosenGiven, candidates-given}
 use Rattle.reader_records.specs.Records.{place, recordAt, chunkAt, chunkRule, groupAt, groupRule}
 use Rattle.reader_dirs.specs.Dirs.{chunkOf, groupOf, chunksCheck, groupsCheck, countAt, Lies, Room}
 use Rattle.reader_dirs.proofs.Accepted.{chunk-kept, chunk-found, chunk-some, chunk-inside, rises, group-kept, group-found, group-sum}
-use Rattle.tzb.specs.Opening.{tableCheck, sizesCheck, namesIn, gridIn, contentsCheck, gridIs, openedIs, openOf, Placed}
+use Rattle.tzb.specs.Opening.{tableCheck, sizesCheck, namesIn, gridIn, contentsCheck, gridIs, openedIs, openOf}
 use Rattle.opened.specs.Within.{Within}
 use Rattle.basics.specs.Total.{total}
 use Rattle.answer.proofs.AnswersLaws.{zero-one, ok-inv}
 use Rattle.reader_opened.proofs.OpenedLaws.{within}
 use Rattle.reader_records.proofs.RecordsLaws.{record-at}
 use Rattle.tzb.proofs.OpeningLaws.{tabled, placed, lies, room}
+use Rattle.tzb.specs.Steps.{Placed}
 
 -- an answer that was given after a check
 before-inv : {A : Type 0} (c : Check) (x : Answer A) (a : A) → ok a ≡ (c before x) → (c ≡ fine) × (ok a ≡ x)

@@ -17,9 +17,10 @@ use Rattle.reader_names.specs.Names.{namesCheck}
 use Rattle.reader_grid.specs.Grid.{gridCheck}
 use Rattle.reader_dirs.specs.Dirs.{Lies, Room}
 use Rattle.opened.specs.Within.{Within}
-use Rattle.tzb.specs.Opening.{tableCheck, namesIn, gridIn, contentsCheck, openOf, Placed}
+use Rattle.tzb.specs.Opening.{tableCheck, namesIn, gridIn, contentsCheck, openOf}
 use Rattle.reader_head.proofs.HeadLaws.{headed}
 use Rattle.reader_opened.proofs.OpenedLaws.{within}
+use Rattle.tzb.specs.Steps.{Placed}
 
 pub tabled : (s : List ℕ) → tableCheck s ≡ fine → Tabled s
 unfolding tableCheck

@@ -1,9 +1,8 @@
 -- Document 01, "Opening, in this order": the whole. Each part's lines stand in the crate that is named beside it.
 -- Assumes nothing.
-use Prim.Native.Nat.{ℕ, _%_, _<_}
+use Prim.Native.Nat.{ℕ, _%_}
 use mathlib.Core.Bool.{cond}
 use mathlib.Core.List.{List, [], _∷_}
-use lib.ListN.{length}
 use Rattle.answer.specs.Checks.{first, same}
 use Rattle.answer.specs.Answers.{Answer, ok, _before_, Check, fine}
 use Rattle.reader_head.specs.Head.{headCheck}
@@ -15,7 +14,6 @@ use Rattle.reader_opened.specs.Opened.{presentCheck, flagCheck, zonesCheck, len
 use Rattle.reader_names.specs.Names.{namesCheck}
 use Rattle.reader_grid.specs.Grid.{gridCheck}
 use Rattle.reader_dirs.specs.Dirs.{chunksCheck, groupsCheck}
-use Rattle.opened.specs.Within.{Within}
 
 -- 1 to 11 (reader_head), 12 to 16 (reader_table), 17 and 18 (reader_opened)
 unfoldable pub tableCheck : List ℕ → Check
@@ -47,11 +45,3 @@ openedIs s = openedOf (sectionsOf s) (gridIs s)
 -- the opened record, or the first refusal
 unfoldable pub openOf : List ℕ → Answer Opened
 openOf s = tableCheck s before (contentsCheck s (sectionsOf s) (gridIs s) (openedIs s) before ok (openedIs s))
-
--- the sections that opening reads lie within the file
-pub record Placed (s : List ℕ) (p : Sections) : Type 0 where
-  pub names : Within s (p .names)
-  pub grid : Within s (p .gridpart)
-  pub groups : Within s (p .groupdir)
-  pub chunks : Within s (p .chunkdir)
-  pub small : length s < 4_294_967_296

@@ -16,7 +16,8 @@ use Rattle.reader_records.specs.Records.{chunkAt}
 use Rattle.reader_chunks.specs.Chunks.{decodeIn}
 use Rattle.reader_lookup.specs.Asking.{listOf}
 use Rattle.tzb_record.specs.Layout.{recordOf}
-use Rattle.tzb_asked.specs.Asked.{nameAsked, endsAsked, decodeAsked, listAsked, chunkCount}
+use Rattle.tzb_asked.specs.Asked.{nameAsked, endsAsked, decodeAsked, listAsked}
+use Rattle.tzb_asked.specs.Steps.{chunkCount}
 
 -- ---- the record is refused, or the question is asked of it
 module _ {A : Type 0} (b : List ℕ) (f : Opened → Answer A) where

@@ -10,7 +10,7 @@ use Rattle.reader_chunks.specs.Chunks.{decodeIn}
 use Rattle.reader_chunks.proofs.Decodes.{decoded-are, stands, count-stands}
 use Rattle.answer.proofs.AnswersLaws.{outcome-fine, many-is}
 use Rattle.tzb_asked.proofs.AskedLaws.{count-is}
-use Rattle.tzb_asked.specs.Asked.{chunkCount}
+use Rattle.tzb_asked.specs.Steps.{chunkCount}
 
 pub many-decoded : (o : Opened) (s : List ℕ) (i : ℕ) (out : List ℤ) → fine ≡ outcome (decodeIn o s i out) → (n : ℕ) → n ≡ chunkCount o s i → ok n ≡ howMany (decodeIn o s i out)
 many-decoded o s i out e n h =

@@ -7,12 +7,9 @@ use lib.IntN.{ℤ}
 use lib.Ieee.{Float}
 use Rattle.plane.specs.declared.I32Point.{I32Point}
 use Rattle.answer.specs.Checks.{atMost}
-use Rattle.answer.specs.Answers.{left, Answer, ok, refused, need, _then_}
-use Rattle.opened.specs.declared.Opened.{Opened}
+use Rattle.answer.specs.Answers.{left, Answer, ok, need, _then_}
 use Rattle.reader_names.specs.Asked as N
 use Rattle.reader_grid.specs.Asked as G
-use Rattle.reader_records.specs.declared.ChunkRecord.{ChunkRecord}
-use Rattle.reader_records.specs.Records.{chunkAt}
 use Rattle.reader_chunks.specs.Chunks.{decodeIn}
 use Rattle.reader_zones.specs.Zones.{containsAt}
 use Rattle.reader_lookup.specs.Asking.{lookupOf, listOf}
@@ -59,12 +56,3 @@ lookupAsked b s lng lat = recordOf b then λ o. lookupOf o s lng lat
 -- all zones that it lies in, in the order of their names, into that many places
 unfoldable pub listAsked : List ℕ → List ℕ → Float → Float → ℕ → Answer (List ℕ)
 listAsked b s lng lat places = recordOf b then λ o. listOf o s lng lat places
-
--- ---- what the code's steps answer
--- the point count of a chunk's record, 0 where there is none
-unfoldable pub chunkCount : Opened → List ℕ → ℕ → ℕ
-chunkCount o s i = counts (chunkAt o s i)
-  where
-    counts : Answer ChunkRecord → ℕ
-    counts (ok v) = v .count
-    counts (refused k) = 0

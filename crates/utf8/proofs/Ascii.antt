@@ -13,9 +13,9 @@ use lib.ListN.{length, getD, drop}
 use borrow.Author.Tests.{eq-eqb, ltb-true, ltb-false}
 use Rattle.fields.specs.Le.{le}
 use Rattle.utf8.specs.Rfc3629.{on, utf8}
-use Rattle.utf8.specs.Parts.{Plain}
 use Rattle.utf8.proofs.Between.{between, lead-by}
 use Rattle.utf8.proofs.Steps.{begin}
+use Rattle.utf8.specs.Steps.{Plain}
 
 -- the top bit of each of n bytes
 abbrev pub tops : ℕ → ℕ

@@ -6,7 +6,7 @@ ghost use Prim.Native.Nat.{_+_, _-_, _≤_, _<_};
 ghost use lib.Dec.{eqb};
 ghost use lib.ListN.{length, getD, drop};
 ghost use Rattle.utf8.specs.Rfc3629.{utf8, within, range, tail};
-ghost use Rattle.utf8.specs.Parts.{fit, sized, second, Plain};
+ghost use Rattle.utf8.specs.Steps.{fit, sized, second, Plain};
 
 // The byte k places after i, and 0, which continues no character, past the end.
 fn byte(s: &[u8], i: usize, k: usize) -> u8

@@ -4,12 +4,13 @@ use mathlib.Core.Path.{_≡_, refl, ap, _∙_, subst}
 use Prim.Native.Nat.{_+_, _-_, _*_, _≤_}
 use lib.Bits.{bitXor}
 use lib.ListN.{length, getD, length-set}
-use Rattle.crc.specs.Crc32.{steps, First}
+use Rattle.crc.specs.Crc32.{steps}
 use Rattle.crc.proofs.Front.{wider, doubles}
 use native.Mathlib.Omega.{arith}
 use borrow.Author.Needs.{needs}
 use Rattle.crc.proofs.doubled.Statement.{statement}
 use Rattle.crc.proofs.doubled.Tie as tie
+use Rattle.crc.specs.Steps.{First}
 
 abbrev Inv-loop : tie.InvT-loop
 Inv-loop t₀ p x j₀ t j = (j ≤ p) × (length t ≡ length t₀) × First t (p + j)

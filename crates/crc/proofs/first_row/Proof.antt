@@ -3,12 +3,12 @@
 use mathlib.Core.Path.{_≡_, refl, _∙_, subst}
 use Prim.Native.Nat.{_-_}
 use lib.ListN.{length, length-set}
-use Rattle.crc.specs.Crc32.{First, Power}
 use Rattle.crc.proofs.Front.{begun, power-first, power-next, power-least, power-most}
 use native.Mathlib.Omega.{arith}
 use borrow.Author.Needs.{needs}
 use Rattle.crc.proofs.first_row.Statement.{statement}
 use Rattle.crc.proofs.first_row.Tie as tie
+use Rattle.crc.specs.Steps.{First, Power}
 
 abbrev Inv-loop : tie.InvT-loop
 Inv-loop t₀ p₀ t p = Power p × (length t ≡ length t₀) × First t p

@@ -6,10 +6,10 @@ use mathlib.Core.Bool.{Bool}
 use mathlib.Core.List.{List}
 use Rattle.opened.specs.declared.Opened.{Opened}
 use Rattle.reader_cover.specs.declared.Part.{Part}
-use Rattle.reader_cover.specs.Cover.{partFits}
 use borrow.Author.Needs.{needs}
 use Rattle.reader_cover.proofs.part_fits.Statement.{statement}
 use Rattle.reader_cover.proofs.part_fits.Tie as tie
+use Rattle.reader_cover.specs.Steps.{partFits}
 
 -- the part that was matched
 as-matched : (o : Opened) (s : List ℕ) (p q : Part) (j : ℕ) (r : Bool) → p ≡ q → r ≡ partFits o s q j → r ≡ partFits o s p j

@@ -3,12 +3,12 @@
 use mathlib.Core.Path.{sym, ap, _∙_}
 use Rattle.reader_records.specs.Records.{toldChunk}
 use Rattle.reader_groups.proofs.Remembering.{kept-at, own-next, leaves-own}
-use Rattle.reader_groups.specs.Groups.{joined}
 use native.Mathlib.Omega.{arith}
 use borrow.Author.Needs.{needs}
 use Rattle.reader_groups.proofs.pass_at.Statement.{statement}
 use Rattle.reader_groups.proofs.pass_at.Tie as tie
 use Rattle.reader_groups.proofs.GroupsLaws.{pass-no, pass-bad, pass-on, pass-is}
+use Rattle.reader_groups.specs.Steps.{joined}
 
 add-chunk-at : tie.Need-add-chunk-at
 add-chunk-at c = search needs

@@ -3,8 +3,7 @@
 use mathlib.Core.Path.{_≡_, sym, ap, _∙_}
 use Prim.Native.Nat.{_+_, _-_, _<_}
 use Rattle.answer.specs.Walks.{add}
-use Rattle.reader_groups.specs.Groups.{passed, chunksFrom}
-use Rattle.reader_groups.specs.Remembered.{ownFirst, Kept}
+use Rattle.reader_groups.specs.Groups.{chunksFrom}
 use Rattle.reader_groups.proofs.Remembering.{hands-known}
 use native.Mathlib.Omega.{arith}
 use borrow.Author.Needs.{needs}
@@ -12,6 +11,7 @@ use Rattle.reader_groups.proofs.scan_chunks.Statement.{statement}
 use Rattle.reader_groups.proofs.scan_chunks.Tie as tie
 use Rattle.answer.proofs.WalksLaws.{add-none, breaks, hits, keeps}
 use Rattle.reader_groups.proofs.GroupsLaws.{chunks-last, chunks-no, chunks-on, chunks-off}
+use Rattle.reader_groups.specs.Steps.{passed, ownFirst, Kept}
 
 abbrev Inv-loop : tie.InvT-loop
 Inv-loop o s p x count from i₀ v₀ known₀ odd₀ left₀ i v known odd left = (add odd (chunksFrom o s p x (left - 1) i v) ≡ chunksFrom o s p x (count - 1) i₀ v₀) × (i + left < 0x1_0001_0000) × Kept known (ownFirst o s i v)

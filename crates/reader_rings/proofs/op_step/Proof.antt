@@ -1,7 +1,6 @@
 -- `reader_rings::op_step` meets its contract: the group, then its walk.
 -- Assumes nothing.
 use mathlib.Core.Path.{sym, ap, subst, _∙_}
-use Rattle.reader_rings.specs.Rings.{legTold, LegRoom}
 use Rattle.answer.specs.Answers.{ok}
 use Rattle.reader_groups.specs.Groups.{went}
 use native.Mathlib.Omega.{arith}
@@ -9,6 +8,7 @@ use borrow.Author.Needs.{needs}
 use Rattle.reader_rings.proofs.op_step.Statement.{statement}
 use Rattle.reader_rings.proofs.op_step.Tie as tie
 use Rattle.reader_rings.proofs.RingsLaws.{step-no, step-bad, step-on, step-is}
+use Rattle.reader_rings.specs.Steps.{legTold, LegRoom}
 
 leg-at-requires : tie.Need-leg-at-requires
 leg-at-requires c κs = search needs

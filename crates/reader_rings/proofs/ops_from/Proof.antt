@@ -1,7 +1,7 @@
 -- `reader_rings::ops_from` meets its contract: the parity so far, added to what is left, is the whole.
 -- Assumes nothing.
 use mathlib.Core.Path.{_≡_, sym, ap, _∙_}
-use Rattle.reader_rings.specs.Rings.{rounds, sumAfter, opsFrom}
+use Rattle.reader_rings.specs.Rings.{opsFrom}
 use Rattle.answer.specs.Walks.{add}
 use Prim.Native.Nat.{_+_, _-_, _*_, _<_, _≤_}
 use native.Mathlib.Omega.{arith}
@@ -10,6 +10,7 @@ use Rattle.reader_rings.proofs.ops_from.Statement.{statement}
 use Rattle.reader_rings.proofs.ops_from.Tie as tie
 use Rattle.reader_rings.proofs.RingsLaws.{ops-end, ops-no, ops-on, ops-off}
 use Rattle.answer.proofs.WalksLaws.{add-none, breaks, hits, ends, keeps}
+use Rattle.reader_rings.specs.Steps.{rounds, sumAfter}
 
 abbrev Inv-loop : tie.InvT-loop
 Inv-loop o s p count from i₀ z₀ odd₀ left₀ i z odd left = (add odd (opsFrom o s p (left - 1) i z) ≡ opsFrom o s p (count - 1) i₀ z₀) × (i + left < 0x2_0001_0000) × (z .sum + 0x1_0000_0000 * left ≤ 0x1_0001_0000_0000)

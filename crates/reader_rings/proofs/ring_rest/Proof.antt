@@ -1,11 +1,11 @@
 -- `reader_rings::ring_rest` meets its contract: the other groups, then the end.
 -- Assumes nothing.
 use mathlib.Core.Path.{sym, ap, _∙_}
-use Rattle.reader_rings.specs.Rings.{rounds}
 use borrow.Author.Needs.{needs}
 use Rattle.reader_rings.proofs.ring_rest.Statement.{statement}
 use Rattle.reader_rings.proofs.ring_rest.Tie as tie
 use Rattle.reader_rings.proofs.RingsLaws.{rest-no, rest-on, rest-is}
+use Rattle.reader_rings.specs.Steps.{rounds}
 
 wide-requires : tie.Need-wide-requires
 wide-requires c κs = search needs

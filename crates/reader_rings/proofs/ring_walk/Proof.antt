@@ -1,13 +1,13 @@
 -- `reader_rings::ring_walk` meets its contract: the first group, then the rest.
 -- Assumes nothing.
 use mathlib.Core.Path.{sym, ap, subst, _∙_}
-use Rattle.reader_rings.specs.Rings.{legTold, LegRoom}
 use Rattle.answer.specs.Answers.{ok}
 use Rattle.reader_groups.specs.Groups.{went}
 use borrow.Author.Needs.{needs}
 use Rattle.reader_rings.proofs.ring_walk.Statement.{statement}
 use Rattle.reader_rings.proofs.ring_walk.Tie as tie
 use Rattle.reader_rings.proofs.RingsLaws.{ring-no, ring-bad, ring-on, ring-is}
+use Rattle.reader_rings.specs.Steps.{legTold, LegRoom}
 
 wide-requires : tie.Need-wide-requires
 wide-requires c κs = search needs

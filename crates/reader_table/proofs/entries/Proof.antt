@@ -7,11 +7,11 @@ use Rattle.answer.specs.Checks.{each}
 use Rattle.answer.proofs.CheckLaws.{each-from, each-stop, each-fine, each-end}
 use Rattle.reader_head.specs.Head.{Headed}
 use Rattle.reader_table.specs.Table.{entryCheck, entriesCheck, sections}
-use Rattle.reader_table.specs.Shared.{Settled}
 use native.Mathlib.Omega.{arith}
 use borrow.Author.Needs.{needs}
 use Rattle.reader_table.proofs.entries.Statement.{statement}
 use Rattle.reader_table.proofs.entries.Tie as tie
+use Rattle.reader_table.specs.Steps.{Settled}
 
 abbrev Inv-loop : tie.InvT-loop
 Inv-loop s n k i₀ i = (i ≤ n) × Headed s × (n ≡ sections s) × (each (entryCheck s) (n - i) i ≡ entriesCheck s) × Settled s k

@@ -9,7 +9,7 @@ use borrow.Author.Needs.{needs}
 use Rattle.tzb_asked.proofs.decode_opened.Statement.{statement}
 use Rattle.tzb_asked.proofs.decode_opened.Tie as tie
 use Rattle.answer.proofs.AnswersLaws.{outcome-no, many-no}
-use Rattle.tzb_asked.specs.Asked.{chunkCount}
+use Rattle.tzb_asked.specs.Steps.{chunkCount}
 
 wide-requires : tie.Need-wide-requires
 wide-requires c κs = search needs

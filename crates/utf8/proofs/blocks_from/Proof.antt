@@ -4,11 +4,11 @@ use Prim.Native.Nat.{_+_, _-_, _≤_}
 use native.Mathlib.Omega.{arith}
 use lib.ListN.{length}
 use borrow.Author.Tests.{not-false}
-use Rattle.utf8.specs.Parts.{Plain}
 use Rattle.utf8.proofs.Ascii.{join}
 use borrow.Author.Needs.{needs}
 use Rattle.utf8.proofs.blocks_from.Statement.{statement}
 use Rattle.utf8.proofs.blocks_from.Tie as tie
+use Rattle.utf8.specs.Steps.{Plain}
 
 abbrev Inv-loop : tie.InvT-loop
 Inv-loop s i at₀ at = Plain s i at × ((i ≤ at) × (at ≤ length s))

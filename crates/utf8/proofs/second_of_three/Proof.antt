@@ -7,11 +7,11 @@ use native.Mathlib.Omega.{arith}
 use lib.Dec.{ltb}
 use borrow.Author.Tests.{ltb-true, ltb-false}
 use Rattle.utf8.specs.Rfc3629.{range, tail, within}
-use Rattle.utf8.specs.Parts.{second}
 use Rattle.utf8.proofs.Steps.{by-second}
 use borrow.Author.Needs.{needs}
 use Rattle.utf8.proofs.second_of_three.Statement.{statement}
 use Rattle.utf8.proofs.second_of_three.Tie as tie
+use Rattle.utf8.specs.Steps.{second}
 
 after-e0-requires : tie.Need-after-e0-requires
 after-e0-requires c κs = search needs

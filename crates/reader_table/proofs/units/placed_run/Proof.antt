@@ -5,12 +5,12 @@ use mathlib.Core.Path.{_≡_, _∙_, sym, ap}
 use Rattle.answer.specs.Answers.{checkedTold}
 use Rattle.reader_head.specs.Head.{Headed}
 use Rattle.reader_table.specs.Table.{sections}
-use Rattle.reader_table.specs.Shared.{Placed}
 use Rattle.reader_table.proofs.Windows.{placed-none, placed-more}
 use native.Mathlib.Omega.{arith}
 use borrow.Author.Needs.{needs}
 use Rattle.reader_table.proofs.units.placed_run.Statement.{statement}
 use Rattle.reader_table.proofs.units.placed_run.Tie as tie
+use Rattle.reader_table.specs.Steps.{Placed}
 
 abbrev Inv-loop : tie.InvT-loop
 Inv-loop s n i₀ i = (i ≤ n) × Headed s × (n ≡ sections s) × Placed s i

@@ -5,12 +5,12 @@ use mathlib.Core.Path.{_≡_, refl}
 use lib.ListN.{length}
 use Rattle.reader_head.specs.Head.{Headed}
 use Rattle.reader_table.specs.Table.{sections}
-use Rattle.reader_table.specs.Shared.{Placed, Split}
 use Rattle.reader_table.proofs.Windows.{split-start, split-join, placed-fewer, settle}
 use native.Mathlib.Omega.{arith}
 use borrow.Author.Needs.{needs}
 use Rattle.reader_table.proofs.units.settled.Statement.{statement}
 use Rattle.reader_table.proofs.units.settled.Tie as tie
+use Rattle.reader_table.specs.Steps.{Placed, Split}
 
 abbrev Inv-loop : tie.InvT-loop
 Inv-loop s end n₀ base₀ n base =

@@ -6,12 +6,12 @@ use lib.ListN.{length}
 use borrow.Author.Tests.{not-false}
 use Rattle.reader_head.specs.Head.{Headed}
 use Rattle.reader_table.specs.Table.{sections}
-use Rattle.reader_table.specs.Shared.{MarkedBy, Split}
 use Rattle.reader_table.proofs.Windows.{marked-none, marked-more, split-none, split-more}
 use native.Mathlib.Omega.{arith}
 use borrow.Author.Needs.{needs}
 use Rattle.reader_table.proofs.units.split_with.Statement.{statement}
 use Rattle.reader_table.proofs.units.split_with.Tie as tie
+use Rattle.reader_table.specs.Steps.{MarkedBy, Split}
 
 abbrev Inv-loop : tie.InvT-loop
 Inv-loop s n base map₀ i₀ map i =

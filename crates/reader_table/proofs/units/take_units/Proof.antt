@@ -4,12 +4,12 @@ use Prim.Native.Nat.{_≤_, _<_, _-_, _*_}
 use mathlib.Core.Path.{_≡_, refl, sym}
 use mathlib.Core.Bool.{true≢false}
 use lib.ListN.{length}
-use Rattle.reader_table.specs.Shared.{Taken}
 use Rattle.reader_table.proofs.Marks.{take-none, take-on, take-end}
 use native.Mathlib.Omega.{arith}
 use borrow.Author.Needs.{needs}
 use Rattle.reader_table.proofs.units.take_units.Statement.{statement}
 use Rattle.reader_table.proofs.units.take_units.Tie as tie
+use Rattle.reader_table.specs.Steps.{Taken}
 
 abbrev Inv-loop : tie.InvT-loop
 Inv-loop map₀ from to k₀ map k = (length map ≡ length map₀) × (to ≤ 8 * length map₀) × (to < 0x1_0000_0000) × Taken map₀ map from k

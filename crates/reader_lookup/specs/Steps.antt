@@ -1,3 +1,4 @@
+-- Nothing here need be believed: the code's own steps cite it, and no public promise does.
 -- What the steps of `lookup_into` answer: the zones that were seen to contain the point, and how many there are.
 -- Assumes nothing.
 use Prim.Native.Nat.{ℕ, zero, suc, _+_, _≤_}

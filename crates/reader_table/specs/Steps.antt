@@ -1,5 +1,6 @@
+-- Nothing here need be believed: the code's own steps cite it, and no public promise does.
 -- How `entries` finds which entries share no byte with an earlier one without a look at every pair: a map of the file with a bit for each unit of four bytes.
--- No public promise names anything here. Assumes nothing.
+-- Assumes nothing.
 use Prim.Native.Nat.{ℕ, _+_, _-_, _*_, _/_, _%_, _^_, _≤_, _<_}
 use mathlib.Core.List.{List}
 use mathlib.Core.Path.{_≡_}

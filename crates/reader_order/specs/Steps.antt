@@ -1,4 +1,5 @@
--- Words of the sort's parts: the place where a zone goes in, and the move that puts it there. No promise that is handed out needs them.
+-- Nothing here need be believed: the code's own steps cite it, and no public promise does.
+-- Words of the sort's parts: the place where a zone goes in, and the move that puts it there.
 -- Assumes nothing.
 use Prim.Native.Nat.{ℕ, _+_}
 use mathlib.Core.Bool.{cond}

@@ -1,3 +1,4 @@
+-- Nothing here need be believed: the code's own steps cite it, and no public promise does.
 -- What the parts of the code find: whether the octets at a place fit a row of ranges, and the size of a character that is there.
 -- Assumes nothing.
 use Prim.Native.Nat.{ℕ, _+_, _≤_, _<_}

@@ -1,21 +1,34 @@
--- The code remembers a chunk's first point where it was read as the end of the chunk before. What is known is what reading would give.
+-- Nothing here need be believed: the code's own steps cite it, and no public promise does.
 -- Assumes nothing.
 use Prim.Native.Nat.{ℕ, _+_}
-use mathlib.Core.Path.{_≡_}
 use mathlib.Core.List.{List}
+use mathlib.Core.Path.{_≡_}
 use Rattle.plane.specs.declared.I32Point.{I32Point}
-use Rattle.answer.specs.Answers.{Answer, ok, _then_}
+use Rattle.answer.specs.Answers.{Answer, _then_, ok}
+use Rattle.answer.specs.Walks.{Walk, broken, on, off}
 use Rattle.opened.specs.declared.Opened.{Opened}
 use Rattle.reader_records.specs.declared.ChunkRecord.{ChunkRecord}
 use Rattle.reader_chunks.specs.Chunks.{startOf, endOf, firstIn}
-use Rattle.reader_groups.specs.Groups.{One}
-use Rattle.reader_groups.specs.declared.Known.{Known}
-use Rattle.reader_groups.specs.declared.Known.the-variants as K
 use Rattle.reader_groups.specs.declared.Joined.{Joined}
 use Rattle.reader_groups.specs.declared.Joined.the-variants as J
 use Rattle.reader_groups.specs.declared.Pass.{Pass}
 use Rattle.reader_groups.specs.declared.Pass.the-variants as P
+use Rattle.reader_groups.specs.Groups.{One}
+use Rattle.reader_groups.specs.declared.Known.{Known}
+use Rattle.reader_groups.specs.declared.Known.the-variants as K
 
+-- ---- what the enums of the code say
+abbrev pub joined : Joined → Walk One
+joined (J.Refused r) = broken r
+joined J.On = on
+joined (J.Off b k) = off b tt
+
+abbrev pub passed : Pass → Walk ChunkRecord
+passed (P.Refused r) = broken r
+passed P.On = on
+passed (P.Off b v k) = off b v
+
+-- ---- The code remembers a chunk's first point where it was read as the end of the chunk before. What is known is what reading would give.
 -- the first point of chunk i, with record v
 unfoldable pub ownFirst : Opened → List ℕ → ℕ → ChunkRecord → Answer I32Point
 ownFirst o s i v = endOf o s i then λ e. firstIn s (startOf o v) e
