@@ -14,8 +14,9 @@ use Rattle.plane.specs.declared.I32Point.{I32Point}
 use Rattle.tzb_core.specs.Varint.{atEnd}
 use Rattle.tzb_core.specs.Points.{firstOf, nextAt}
 use Rattle.tzb_core.specs.Along.{follow, along, walkOf}
-use Rattle.tzb_core.specs.Decode.{led, decoder, pointsFrom, pointsOf, intoRoom}
+use Rattle.tzb_core.specs.Decode.{led, decoder, pointsOf, intoRoom}
 use Rattle.tzb_core.proofs.AlongLaws.{walk-no, walk-from}
+use Rattle.tzb_core.specs.Steps.{pointsFrom}
 
 -- ---- what the walk comes to here
 followed : {A : Type 0} (x : Answer A) (f : A → Answer (List I32Point)) → follow decoder x f ≡ (x then f)

@@ -12,9 +12,10 @@ use Rattle.answer.specs.Answers.{Answer, ok, refused, _then_, fine, outcome}
 use Rattle.plane.specs.declared.I32Point.{I32Point}
 use Rattle.tzb_core.specs.Varint.{atEnd}
 use Rattle.tzb_core.specs.Points.{nextAt}
-use Rattle.tzb_core.specs.Decode.{led, pointsFrom, flat, filled, readFrom, put}
+use Rattle.tzb_core.specs.Decode.{led, flat, filled}
 use Rattle.answer.proofs.AnswersLaws.{then-inv, need-inv, ok-inv, outcome-fine, outcome-no}
 use Rattle.tzb_core.proofs.DecodeLaws.{points-last, points-next}
+use Rattle.tzb_core.specs.Steps.{pointsFrom, readFrom, put}
 
 -- what leads changes no outcome
 pub led-same : (q : I32Point) (x : Answer (List I32Point)) → outcome x ≡ outcome (led q x)

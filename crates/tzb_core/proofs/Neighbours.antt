@@ -25,11 +25,12 @@ use Rattle.tzb_core.specs.Varint.{atEnd}
 use Rattle.tzb_core.specs.Points.{numbersAt, movedBy, firstOf, nextAt, mustLie}
 use Rattle.tzb_core.specs.Along.{Walker, follow, reach, along, walkOf, overFrom}
 use Rattle.tzb_core.specs.Scan.{past, scanner, scanOf}
-use Rattle.tzb_core.specs.Decode.{led, pointsFrom, pointsOf}
+use Rattle.tzb_core.specs.Decode.{led, pointsOf}
 use Rattle.tzb_core.specs.Trace.{also, tracer, traceOf, traced}
 use Rattle.tzb_core.proofs.Decoded.{read-all}
 use Rattle.answer.proofs.AnswersLaws.{then-inv, need-inv, ok-inv}
 use Rattle.tzb_core.proofs.DecodeLaws.{points-last, points-next, points-are}
+use Rattle.tzb_core.specs.Steps.{pointsFrom}
 
 -- ---- a point that was read lies in the domain
 inside-in : (q : I32Point) (p : ℕ) (t : I32Point × ℕ) → ok t ≡ mustLie q p → inDomain (t .0) ≡ true

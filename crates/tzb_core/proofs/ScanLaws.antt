@@ -14,8 +14,9 @@ use Rattle.plane.specs.Sight.{On, Off}
 use Rattle.tzb_core.specs.Ray.{rayOf}
 use Rattle.tzb_core.specs.Points.{firstOf}
 use Rattle.tzb_core.specs.Along.{reach}
-use Rattle.tzb_core.specs.Scan.{scanner, onward, scanOf}
+use Rattle.tzb_core.specs.Scan.{scanner, scanOf}
 use Rattle.tzb_core.proofs.AlongLaws.{walk-none, walk-no, walk-from}
+use Rattle.tzb_core.specs.Steps.{onward}
 
 -- ---- the cases of the code
 module _ (s : List ℕ) (n : ℕ) (p : Point) where

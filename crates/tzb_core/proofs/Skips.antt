@@ -21,12 +21,12 @@ use Rattle.plane.specs.Sight.{Off}
 use Rattle.plane.specs.Domain.{inDomain, within}
 use Rattle.boxes.specs.Box.{float}
 use Rattle.tzb_core.specs.Ray.{rayAt, rayOf}
-use Rattle.tzb_core.specs.Scan.{Around, aside}
 use Rattle.tzb_core.specs.declared.chunk.Band.{Band}
 use Rattle.tzb_core.proofs.Floats.{at, In, fine}
 use Rattle.basics.specs.Picked.{yes-is}
 use Rattle.tzb_core.proofs.Order.{nat, nat-in, nat-at, lt-float}
 use Rattle.plane.proofs.DomainLaws.{domain-y}
+use Rattle.tzb_core.specs.Steps.{Around, aside}
 
 -- ---- the whole part of a size n / c, with all that is below 2 ^ 63 kept
 least : (n c N M : ℕ) → N ≡ min (n / c) M → N * c ≤ n

@@ -16,15 +16,17 @@ use Rattle.plane.specs.Sight.{On, Off}
 use Rattle.plane.specs.Domain.{inDomain}
 use Rattle.tzb_core.specs.Ray.{rayOf}
 use Rattle.tzb_core.specs.Varint.{numberAt, atEnd}
-use Rattle.tzb_core.specs.Points.{movedBy, nextAt, arrive, placed, next-arrives, next-no}
-use Rattle.tzb_core.specs.Along.{follow, along, alongBy, by-no, by-to}
+use Rattle.tzb_core.specs.Points.{movedBy, nextAt}
+use Rattle.tzb_core.specs.Along.{follow, along}
 use Rattle.tzb_core.specs.Scan.{scanner}
-use Rattle.tzb_core.specs.Decode.{decoder, readFrom}
+use Rattle.tzb_core.specs.Decode.{decoder}
 use Rattle.tzb_core.proofs.Decoded.{led-same}
 use Rattle.plane.specs.Places.{point}
 use Rattle.answer.proofs.AnswersLaws.{then-inv, need-inv, ok-inv}
-use Rattle.tzb_core.proofs.PointsLaws.{numbers-first, numbers-second, numbers-both}
+use Rattle.tzb_core.proofs.PointsLaws.{numbers-first, numbers-second, numbers-both, next-arrives, next-no}
 use Rattle.tzb_core.proofs.ScanLaws.{segment-on, segment-off}
+use Rattle.tzb_core.specs.Steps.{arrive, placed, alongBy, readFrom}
+use Rattle.tzb_core.proofs.AlongLaws.{by-no, by-to}
 
 -- the point after q, of whose delta x is read; the bytes of y stand at k
 unfoldable pub nextAfter : List ℕ → I32Point → ℤ → ℕ → Answer (I32Point × ℕ)

@@ -1,14 +1,10 @@
 -- Document 01, "Chunk bytes": the one walk along a chunk's points, whatever is done on the way. A count of 0 is 32; then the first point, and the others one by one; bytes left over are 43, tested last.
 -- Scanning (specs/Scan), decoding (Decode) and the trace by which the full check goes (Trace) are this walk, each with a walker of its own.
 -- Assumes nothing.
-use Prim.Native.Nat.{ℕ, zero, suc, _-_, _<_}
-use native.Mathlib.Omega.{arith}
-use mathlib.Core.Path.{_≡_, refl, sym, ap, _∙_}
-use mathlib.Core.Bool.{true, false}
+use Prim.Native.Nat.{ℕ, zero, suc, _-_}
 use mathlib.Core.List.{List, [], _∷_}
 use lib.Dec.{ltb}
 use Rattle.answer.specs.declared.Refusal.{Refusal}
-use Rattle.answer.specs.Refusals.{refusal}
 use Rattle.answer.specs.Answers.{Answer, ok, refused, need}
 use Rattle.plane.specs.declared.I32Point.{I32Point}
 use Rattle.tzb_core.specs.Varint.{atEnd}
@@ -43,42 +39,3 @@ walkOf w s n = follow w (need 32 (ltb 0 n) (firstOf s)) (λ t. w .point (t .0) (
 unfoldable pub overFrom : {R : Type 0} → Walker R → I32Point → List I32Point → R
 overFrom w q [] = w .last q
 overFrom w q (t ∷ l) = reach w q t (overFrom w t l)
-
--- ---- what the code's steps answer
--- from q on, where the answer to what comes next is a
-unfoldable pub alongBy : {R : Type 0} → Walker R → List ℕ → ℕ → I32Point → ℕ → Answer (I32Point × ℕ) → R
-alongBy w s zero q k a = follow w (need 43 (atEnd s k) (ok q)) (w .last)
-alongBy w s (suc n) q k a = follow w a (λ t. reach w q (t .0) (along w s n (t .0) (t .1)))
-
-module _ {R : Type 0} (w : Walker R) (s : List ℕ) (q : I32Point) where
-  pub along-by : (n k : ℕ) → alongBy w s n q k (nextAt s q k) ≡ along w s n q k
-  unfolding alongBy along
-  along-by zero k = refl
-  along-by (suc n) k = refl
-
-  module _ (n k : ℕ) (a : Answer (I32Point × ℕ)) where
-    pub by-left : n ≡ 0 → atEnd s k ≡ false → w .stop (refusal 43) ≡ alongBy w s n q k a
-    unfolding alongBy
-    by-left z h = rw (z, h)
-
-    pub by-end : n ≡ 0 → atEnd s k ≡ true → w .last q ≡ alongBy w s n q k a
-    unfolding alongBy
-    by-end z h = rw (z, h)
-
-    module _ (h : 0 < n) where
-      by-one : alongBy w s n q k a ≡ follow w a (λ t. reach w q (t .0) (along w s (n - 1) (t .0) (t .1)))
-      unfolding alongBy
-      by-one = let one : n ≡ suc (n - 1) = omega arith in ap (λ (j : ℕ). alongBy w s j q k a) one
-
-      pub by-no : (r : Refusal) → refused r ≡ a → w .stop r ≡ alongBy w s n q k a
-      by-no r e = rw (by-one, ← e)
-
-      pub by-to : (t : I32Point) (m : ℕ) → ok (t, m) ≡ a → reach w q t (along w s (n - 1) t m) ≡ alongBy w s n q k a
-      by-to t m e = rw (by-one, ← e)
-
-  -- the place itself does not matter while points are left
-  pub by-there : (n k m : ℕ) (a b : Answer (I32Point × ℕ)) → 0 < n → b ≡ a → alongBy w s n q m b ≡ alongBy w s n q k a
-  by-there n k m a b h e =
-      by-one n m b h
-      ∙ ap (λ (c : Answer (I32Point × ℕ)). follow w c (λ t. reach w q (t .0) (along w s (n - 1) (t .0) (t .1)))) e
-      ∙ sym (by-one n k a h)

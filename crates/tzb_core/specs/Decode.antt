@@ -1,14 +1,13 @@
 -- Document 01, "Chunk bytes": a chunk decodes into lent i32s, two a point: 32 for a count of 0, 46 for room, then the rest; what lies behind is unchanged. On a refusal all lent memory stays unchanged.
 -- Assumes nothing.
-use Prim.Native.Nat.{ℕ, zero, suc, _+_, _*_}
+use Prim.Native.Nat.{ℕ, _*_}
 use mathlib.Core.List.{List, [], _∷_}
-use lib.ListN.{length, set}
+use lib.ListN.{length}
 use lib.Dec.{ltb, leb}
 use lib.IntN.{ℤ}
 use Rattle.answer.specs.Answers.{left, Answer, ok, refused, _then_, need, Check, outcome}
 use Rattle.plane.specs.declared.I32Point.{I32Point}
-use Rattle.tzb_core.specs.Points.{nextAt}
-use Rattle.tzb_core.specs.Along.{Walker, along, walkOf}
+use Rattle.tzb_core.specs.Along.{Walker, walkOf}
 
 -- q, and behind it the points of an answer
 abbrev pub led : I32Point → Answer (List I32Point) → Answer (List I32Point)
@@ -17,10 +16,6 @@ led q x = x then λ l. ok (q ∷ l)
 -- who decodes: every point is taken
 abbrev pub decoder : Walker (Answer (List I32Point))
 decoder = record { stop = refused; last = λ q. ok []; point = led; segment = λ q t x. x }
-
--- the n points after q, whose bytes stand at k
-unfoldable pub pointsFrom : List ℕ → ℕ → I32Point → ℕ → Answer (List I32Point)
-pointsFrom s n q k = along decoder s n q k
 
 -- all points of a chunk of n points
 unfoldable pub pointsOf : List ℕ → ℕ → Answer (List I32Point)
@@ -44,18 +39,3 @@ decodeOf s n out = outcome (intoRoom s n out)
 
 abbrev pub decoded : List ℕ → ℕ → List ℤ → List ℤ
 decoded s n out = filled out (intoRoom s n out)
-
--- ---- what the code's steps answer
--- the points after q, n at most, as far as they can be read
-unfoldable pub readFrom : List ℕ → ℕ → I32Point → ℕ → List I32Point
-readFrom s zero q k = []
-readFrom s (suc n) q k = readOn (nextAt s q k) (λ t. readFrom s n (t .0) (t .1))
-  where
-    readOn : Answer (I32Point × ℕ) → (I32Point × ℕ → List I32Point) → List I32Point
-    readOn (ok t) f = t .0 ∷ f t
-    readOn (refused r) f = []
-
--- points written from place i on
-unfoldable pub put : List ℤ → ℕ → List I32Point → List ℤ
-put out i [] = out
-put out i (q ∷ l) = put (set (set out i (q .x)) (i + 1) (q .y)) (i + 2) l

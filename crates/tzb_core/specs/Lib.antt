@@ -7,3 +7,4 @@ pub mod Along
 pub mod Scan
 pub mod Decode
 pub mod Trace
+pub mod Steps

@@ -9,8 +9,6 @@ use lib.IntN.{ℤ, pos, negsuc}
 use Rattle.answer.specs.Answers.{Answer, ok, refused, _then_, need}
 use Rattle.tzb_core.specs.declared.varint.Read.{Read}
 use Rattle.tzb_core.specs.declared.varint.Read.the-variants as R
-use Rattle.tzb_core.specs.declared.varint.Digits.{Digits}
-use Rattle.tzb_core.specs.declared.varint.Digits.the-variants as D
 
 -- zigzag: 0, -1, 1, -2, .. are 0, 1, 2, 3, ..
 abbrev pub zig : ℤ → ℕ
@@ -65,12 +63,3 @@ shortestDigits (suc k) n = cond (ltb n 128) (n ∷ []) ((n % 128 + 128) ∷ shor
 -- the shortest encoding of z
 unfoldable pub encode : ℤ → List ℕ
 encode z = shortestDigits 4 (zig z)
-
--- ---- what the code's steps answer
-abbrev pub digitsTold : Digits → Answer (ℕ × ℕ)
-digitsTold (D.Of n q) = ok (n, q .at)
-digitsTold (D.Refused r) = refused r
-
--- the digits from p on with the n that was read before them, where the next digit's unit is u and k more may follow it
-unfoldable pub rest : ℕ → ℕ → ℕ → List ℕ → ℕ → Answer (ℕ × ℕ)
-rest n u k s p = below n u (digits k false s p)

@@ -3,7 +3,8 @@ ghost use mathlib.Core.Path.{_≡_};
 ghost use mathlib.Core.Bool.{true};
 ghost use Prim.Native.Nat.{_<_};
 ghost use Rattle.answer.specs.Answers.{ok, no};
-ghost use Rattle.tzb_core.specs.Varint.{unzig, digits, numberAt, digitsTold, atEnd, rest, readTold};
+ghost use Rattle.tzb_core.specs.Varint.{unzig, digits, numberAt, atEnd, readTold};
+ghost use Rattle.tzb_core.specs.Steps.{digitsTold, rest};
 use answer::Refusal;
 
 // Where the next number starts.

@@ -5,7 +5,7 @@ use mathlib.Core.List.{List}
 use Prim.Native.Nat.{ℕ, _+_, _*_, _<_}
 use native.Mathlib.Omega.{arith}
 use lib.ListN.{length-replicate}
-use Rattle.reader_table.specs.Shared.{Split}
+use Rattle.reader_table.specs.Steps.{Split}
 use Rattle.reader_table.proofs.units.split_in.Statement.{statement}
 use Rattle.reader_table.proofs.units.split_in.Tie as tie
 

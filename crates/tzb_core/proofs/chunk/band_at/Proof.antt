@@ -6,11 +6,11 @@ use lib.IntN.{ℤ}
 use lib.Ieee.{ofBits, neg}
 use mir.Syntax.{w32, w64}
 use mir.ValLaws.{toZ-ofZ}
-use Rattle.tzb_core.specs.Scan.{Around}
 use Rattle.basics.specs.Signed.{back}
 use Rattle.tzb_core.proofs.Skips.{around-cut, around-all, within-fits}
 use Rattle.tzb_core.proofs.chunk.band_at.Statement.{statement}
 use Rattle.tzb_core.proofs.chunk.band_at.Tie as tie
+use Rattle.tzb_core.specs.Steps.{Around}
 
 truncating-f64-to-i64-requires : tie.Need-truncating-f64-to-i64-requires
 unfolding ofBits neg

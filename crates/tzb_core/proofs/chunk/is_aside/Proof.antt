@@ -6,10 +6,10 @@ use lib.IntN.{ℤ}
 use lib.Signed.{ltZ}
 use mir.Syntax.{w32}
 use mir.Val.{toZ, ofZ}
-use Rattle.tzb_core.specs.Scan.{aside, bothBelow, bothAbove}
 use Rattle.basics.specs.Signed.{back}
 use Rattle.tzb_core.proofs.chunk.is_aside.Statement.{statement}
 use Rattle.tzb_core.proofs.chunk.is_aside.Tie as tie
+use Rattle.tzb_core.specs.Steps.{aside, bothBelow, bothAbove}
 
 -- a test that is asked where another holds
 where-true : (a b : Bool) → b ≡ true → a ≡ a && b

@@ -3,11 +3,11 @@
 use mathlib.Core.Path.{sym, ap, _∙_}
 use mir.Syntax.{w32}
 use borrow.Author.Needs.{needs}
-use Rattle.tzb_core.specs.Varint.{digitsTold}
 use Rattle.basics.specs.Signed.{back}
 use Rattle.tzb_core.proofs.varint.Place.varint.Statement.{statement}
 use Rattle.tzb_core.proofs.varint.Place.varint.Tie as tie
 use Rattle.tzb_core.proofs.VarintLaws.{number-ok, number-no}
+use Rattle.tzb_core.specs.Steps.{digitsTold}
 
 varint-digits-requires : tie.Need-varint-digits-requires
 varint-digits-requires c κs = search needs
