@@ -11,7 +11,7 @@ use mathlib.Core.List.{List, [], _∷_, _++_}
 use lib.ListN.{length, getD, take, drop, take-append-drop}
 use lib.Seq.{drop-cons, drop-length, drop-drop, take-add}
 use Rattle.fields.specs.Le.{le}
-use Rattle.fields.proofs.Join.{unit}
+use Rattle.fields.specs.Stores.{unit}
 use Rattle.crc.specs.Crc32.{tap, step, steps, bytes}
 use Rattle.crc.proofs.Xor.{xor-assoc, xor4, xor-half, xor-odd}
 

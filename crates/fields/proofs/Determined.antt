@@ -3,7 +3,7 @@
 use mathlib.Core.Path.{_≡_, refl, sym, _∙_}
 use Prim.Native.Nat.{ℕ}
 use lib.IntN.{ℤ}
-use Rattle.basics.specs.Determined.{Determined}
+use Rattle.basics.specs.Determined.{Determined, DeterminedMemory}
 use Rattle.answer.proofs.AnswersLaws.{readBack, one-answer}
 use Rattle.answer.specs.Answers.{Answer}
 use Rattle.fields.proofs.u16_le.Reads as u16-le-reads
@@ -32,6 +32,8 @@ use Rattle.fields.proofs.half.Reads as half-reads
 use Rattle.fields.proofs.word.Reads as word-reads
 use Rattle.fields.proofs.wide16.Reads as wide16-reads
 use Rattle.fields.proofs.bits16.Reads as bits16-reads
+use Rattle.fields.proofs.store.Reads as store-reads
+use Rattle.fields.proofs.store_row.Reads as store-row-reads
 
 one16 : (a b : Loaded16) (x : Answer ℕ) → told16 a ≡ x → told16 b ≡ x → a ≡ b
 one16 = one-answer told16 L16.Value L16.Refused back
@@ -112,3 +114,10 @@ wide16 κ a r r' e e' p q = p .0 ∙ sym (q .0)
 
 pub bits16 : Determined bits16-reads.Learnt
 bits16 κ a r r' e e' p q = p ∙ sym q
+
+-- the lent bytes at exit
+pub store-memory : DeterminedMemory store-reads.Learnt (λ κ e. e .0 .now)
+store-memory κ a r r' e e' p q = p .is ∙ sym (q .is)
+
+pub store-row-memory : DeterminedMemory store-row-reads.Learnt (λ κ e. e .0 .now)
+store-row-memory κ a r r' e e' p q = p .is ∙ sym (q .is)

@@ -10,11 +10,7 @@ use lib.ListN.{getD}
 use mir.Syntax.{Width}
 use mir.Val.{toZ, bits}
 use Rattle.fields.specs.Le.{le}
-
--- 256 ^ m, by one factor after the other
-abbrev pub unit : ℕ → ℕ
-unit zero = 1
-unit (suc m) = 256 * unit m
+use Rattle.fields.specs.Stores.{unit}
 
 pub join : (m n : ℕ) (s : List ℕ) (p : ℕ) → le (m + n) s p ≡ le m s p + unit m * le n s (p + m)
 unfolding le

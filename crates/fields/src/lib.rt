@@ -6,6 +6,7 @@ ghost use mir.Syntax.{w16, w32};
 ghost use mir.Val.{toZ, ofZ};
 ghost use Rattle.fields.specs.Le.{le};
 ghost use Rattle.fields.specs.Stores.{toLe, Laid};
+ghost use Rattle.fields.specs.Row.{rowWide, rowBytes};
 ghost use Rattle.fields.specs.Loads.{inside, loadAt, signedAt, told16, told32, told64, toldI16, toldI32};
 use answer::Refusal;
 
@@ -203,6 +204,21 @@ pub fn store(out: &mut [u8], at: usize, width: usize, number: u64)
     while i < width {
         out[at + i] = (rest % 256) as u8;
         rest = rest / 256;
+        i += 1;
+    }
+}
+
+// A row of numbers, each at its width, each behind the one before it.
+pub fn store_row(out: &mut [u8], at: usize, widths: &[usize], numbers: &[u64])
+    requires { ⌜ (at + rowWide (now widths) ≤ length (now out)) × (length (now numbers) ≡ length (now widths)) ⌝ }
+    ensures { λ _. ⌜ Laid (now (out .entry)) at (rowBytes (now (widths .entry)) (now (numbers .entry))) (now (out .exit)) ⌝ }
+{
+    let mut place = at;
+    let mut i = 0;
+    while i < widths.len() {
+        let width = widths[i];
+        store(out, place, width, numbers[i]);
+        place = place + width;
         i += 1;
     }
 }

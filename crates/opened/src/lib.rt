@@ -34,3 +34,14 @@ pub struct Opened {
     pub points: Section,
     pub grid: Grid,
 }
+
+// How many bytes a record of each directory takes (specs/Widths).
+pub const LIST_WIDE: usize = 24;
+
+pub const RING_WIDE: usize = 28;
+
+pub const OP_WIDE: usize = 4;
+
+pub const GROUP_WIDE: usize = 44;
+
+pub const CHUNK_WIDE: usize = 24;

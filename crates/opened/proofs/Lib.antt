@@ -1,0 +1,2 @@
+-- What follows from the widths.
+pub mod WidthsLaws
