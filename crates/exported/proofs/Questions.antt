@@ -30,6 +30,7 @@ use Rattle.tzb_core.specs.Ray.{rayOf}
 use Rattle.opened.specs.declared.Directory.{Directory}
 use Rattle.opened.specs.declared.Grid.{Grid}
 use Rattle.opened.specs.declared.Opened.{Opened}
+use Rattle.opened.specs.Widths.{listWide, ringWide, opWide, groupWide, chunkWide}
 use Rattle.reader_names.specs.Names.{edge}
 use Rattle.reader_names.specs.Asked.{boundsAt, nameAt}
 use Rattle.reader_grid.specs.Asked.{onEarth, inGrid, cellCandidates, candidatesOf, zoneBelow, candidateAt}
@@ -111,24 +112,24 @@ ruled-35 at read rule h = then-t _ _ h (λ p. need-t 35 (rule (read p)) _ refl (
 
 list : (s : List ℕ) (d : Directory) (below i : ℕ) → Q (listAt s d below i)
 unfolding listAt
-list s d below i = ruled-34 _ _ _ (record-at s d 24 i)
+list s d below i = ruled-34 _ _ _ (record-at s d listWide i)
 
 module _ (o : Opened) (s : List ℕ) (i : ℕ) where
   ring : Q (ringAt o s i)
   unfolding ringAt
-  ring = ruled-34 _ _ _ (record-at s (o .rings) 28 i)
+  ring = ruled-34 _ _ _ (record-at s (o .rings) ringWide i)
 
   op : Q (opAt o s i)
   unfolding opAt
-  op = ruled-35 _ _ _ (record-at s (o .ops) 4 i)
+  op = ruled-35 _ _ _ (record-at s (o .ops) opWide i)
 
   group : Q (groupAt o s i)
   unfolding groupAt
-  group = ruled-34 _ _ _ (record-at s (o .groups) 44 i)
+  group = ruled-34 _ _ _ (record-at s (o .groups) groupWide i)
 
   chunk : Q (chunkAt o s i)
   unfolding chunkAt
-  chunk = ruled-34 _ _ _ (record-at s (o .chunks) 24 i)
+  chunk = ruled-34 _ _ _ (record-at s (o .chunks) chunkWide i)
 
 -- ---- numbers and points
 digit : (k : ℕ) (only : Bool) (s : List ℕ) (p : ℕ) → Q (digits k only s p)

@@ -45,3 +45,5 @@ pub const OP_WIDE: usize = 4;
 pub const GROUP_WIDE: usize = 44;
 
 pub const CHUNK_WIDE: usize = 24;
+// And GRID's first bytes.
+pub const GRID_WIDE: usize = 12;

@@ -10,6 +10,7 @@ use Rattle.answer.specs.Answers.{ok, need, fine, outcome}
 use Rattle.fields.specs.Part.{part}
 use Rattle.fields.specs.Loads.{inside}
 use Rattle.opened.specs.declared.Opened.{Opened}
+use Rattle.opened.specs.Widths.{chunkWide}
 use Rattle.reader_records.specs.declared.ChunkRecord.{ChunkRecord}
 use Rattle.reader_records.specs.Records.{place, recordAt, ruled, chunkIn, chunkRule, chunkAt}
 use Rattle.reader_chunks.specs.Chunks.{span, startOf, endOf}
@@ -30,8 +31,8 @@ span-fine s a e h = let f = outcome-fine (span s a e) h in span-in s a e (f .0) 
 pub chunk-inside : (o : Opened) (s : List ℕ) (i : ℕ) (n : ChunkRecord) → ok n ≡ chunkAt o s i → i < o .chunks .count
 unfolding chunkAt ruled recordAt
 chunk-inside o s i n e =
-    let h = then-inv (recordAt s (o .chunks) 24 i) (λ p. need 34 (chunkRule (chunkIn s p)) (ok (chunkIn s p))) n e in
-    let g = need-inv 34 (ltb i (o .chunks .count)) (need 44 (inside 24 s (place (o .chunks) 24 i)) (ok (place (o .chunks) 24 i))) (h .0) (h .1) in
+    let h = then-inv (recordAt s (o .chunks) chunkWide i) (λ p. need 34 (chunkRule (chunkIn s p)) (ok (chunkIn s p))) n e in
+    let g = need-inv 34 (ltb i (o .chunks .count)) (need 44 (inside chunkWide s (place (o .chunks) chunkWide i)) (ok (place (o .chunks) chunkWide i))) (h .0) (h .1) in
     ltb-true i (o .chunks .count) (g .0)
 
 pub end-next : (o : Opened) (s : List ℕ) (i : ℕ) (n : ChunkRecord) → ok n ≡ chunkAt o s (i + 1) → ok (startOf o n) ≡ endOf o s i

@@ -10,6 +10,7 @@ use mathlib.Core.List.{List}
 use Rattle.answer.proofs.CheckLaws.{fine-one, fine-rest, fine-claim, at-le, below-lt, same-eq, each-at}
 use Rattle.answer.specs.Answers.{ok, fine}
 use Rattle.opened.specs.declared.Opened.{Opened}
+use Rattle.opened.specs.Widths.{groupWide, chunkWide}
 use Rattle.reader_records.specs.Records.{chunkAt, chunkIn, chunkRule, groupAt, groupIn, groupRule}
 use Rattle.reader_dirs.specs.Dirs.{chunkOf, groupOf, chunkCheck, chunkCheckAt, chunksCheck, leastOff, countAt, groupCheck, groupCheckAt, groupsCheck, Room}
 use Rattle.basics.specs.Total.{total}
@@ -28,7 +29,7 @@ module _ (s : List ℕ) (o : Opened) (room : Room s o) (passes : chunksCheck s o
     -- the question by its index is answered
     pub chunk-found : ok (chunkOf s (o .chunks) i) ≡ chunkAt o s i
     unfolding chunkAt
-    chunk-found = ruled-there s (o .chunks) 24 i 34 (chunkIn s) chunkRule h (omega (arith, room .chunks .fits)) chunk-kept
+    chunk-found = ruled-there s (o .chunks) chunkWide i 34 (chunkIn s) chunkRule h (omega (arith, room .chunks .fits)) chunk-kept
 
     -- it has points
     pub chunk-some : 0 < chunkOf s (o .chunks) i .count
@@ -71,7 +72,7 @@ module _ (s : List ℕ) (o : Opened) (room : Room s o) (passes : groupsCheck s o
   -- the question by its index is answered
   pub group-found : ok (groupOf s (o .groups) i) ≡ groupAt o s i
   unfolding groupAt
-  group-found = ruled-there s (o .groups) 44 i 34 (groupIn s) (groupRule (o .chunks .count)) h (omega (arith, room .groups .fits)) group-kept
+  group-found = ruled-there s (o .groups) groupWide i 34 (groupIn s) (groupRule (o .chunks .count)) h (omega (arith, room .groups .fits)) group-kept
 
   -- its chunks' counts add to its point count
   pub group-sum : total (countAt s (o .chunks)) (groupOf s (o .groups) i .count) (groupOf s (o .groups) i .first) ≡ groupOf s (o .groups) i .points

@@ -7,6 +7,7 @@ use Rattle.answer.specs.Answers.{Check}
 use Rattle.answer.specs.Checks.{claim, first, each, atMost, below, same}
 use Rattle.opened.specs.declared.Directory.{Directory}
 use Rattle.opened.specs.declared.Opened.{Opened}
+use Rattle.opened.specs.Widths.{groupWide, chunkWide}
 use Rattle.reader_records.specs.declared.ChunkRecord.{ChunkRecord}
 use Rattle.reader_records.specs.declared.GroupRecord.{GroupRecord}
 use Rattle.reader_records.specs.Records.{place, chunkIn, chunkRule, groupIn, groupRule}
@@ -14,10 +15,10 @@ use Rattle.basics.specs.Total.{total}
 
 -- chunk i and group i of a directory
 abbrev pub chunkOf : List ℕ → Directory → ℕ → ChunkRecord
-chunkOf s d i = chunkIn s (place d 24 i)
+chunkOf s d i = chunkIn s (place d chunkWide i)
 
 abbrev pub groupOf : List ℕ → Directory → ℕ → GroupRecord
-groupOf s d i = groupIn s (place d 44 i)
+groupOf s d i = groupIn s (place d groupWide i)
 
 -- Each chunk: record rule (34); count above 0, offset below the POINTS length and at least so much (32).
 unfoldable pub chunkCheck : ChunkRecord → ℕ → ℕ → Check
@@ -63,5 +64,5 @@ pub record Lies (s : List ℕ) (d : Directory) (w : ℕ) : Type 0 where
 
 -- what is known before chunks and groups are checked
 pub record Room (s : List ℕ) (o : Opened) : Type 0 where
-  pub chunks : Lies s (o .chunks) 24
-  pub groups : Lies s (o .groups) 44
+  pub chunks : Lies s (o .chunks) chunkWide
+  pub groups : Lies s (o .groups) groupWide

@@ -5,6 +5,7 @@ ghost use Rattle.answer.specs.Answers.{checkedTold};
 ghost use Rattle.answer.specs.Checks.{each};
 ghost use Rattle.reader_dirs.specs.Dirs.{chunkOf, groupOf, chunkCheck, chunkCheckAt, chunksCheck, countAt, groupCheck, groupCheckAt, groupsCheck, Lies, Room};
 ghost use Rattle.basics.specs.Total.{total};
+ghost use Rattle.opened.specs.Widths.{groupWide, chunkWide};
 use answer::Checked;
 use opened::Directory;
 use opened::Opened;
@@ -32,14 +33,14 @@ fn chunk(v: ChunkRecord, points: u32, least: usize) -> Checked
 
 // Chunk i of the directory.
 fn chunk_no(s: &[u8], d: Directory, i: usize) -> ChunkRecord
-    requires { ⌜ Lies (now s) d 24 × (i < d .count) ⌝ }
+    requires { ⌜ Lies (now s) d chunkWide × (i < d .count) ⌝ }
     ensures { λ r. ⌜ r ≡ chunkOf (now (s .entry)) d i ⌝ }
 {
-    reader_records::chunk_in(s, fields::wide(d.off) + i * 24)
+    reader_records::chunk_in(s, fields::wide(d.off) + i * opened::CHUNK_WIDE)
 }
 
 fn chunks_of(s: &[u8], d: Directory, points: u32) -> Checked
-    requires { ⌜ Lies (now s) d 24 ⌝ }
+    requires { ⌜ Lies (now s) d chunkWide ⌝ }
     ensures { λ r. ⌜ checkedTold r ≡ each (chunkCheckAt (now (s .entry)) d points) (d .count) 0 ⌝ }
 {
     let n = fields::wide(d.count);
@@ -68,16 +69,16 @@ pub fn chunks(o: Opened, s: &[u8]) -> Checked
 
 // The point count of chunk i.
 fn count_at(s: &[u8], d: Directory, i: usize) -> usize
-    requires { ⌜ Lies (now s) d 24 × (i < d .count) ⌝ }
+    requires { ⌜ Lies (now s) d chunkWide × (i < d .count) ⌝ }
     ensures { λ r. ⌜ (r ≡ countAt (now (s .entry)) d i) × (r < 0x1_0000) ⌝ }
 {
-    let at = fields::wide(d.off) + i * 24;
+    let at = fields::wide(d.off) + i * opened::CHUNK_WIDE;
     fields::wide16(fields::u16_at(s, at + 4))
 }
 
 // The point counts of the chunks from `from` on and before `to`, added.
 fn points_of(s: &[u8], d: Directory, from: usize, to: usize) -> usize
-    requires { ⌜ Lies (now s) d 24 × (from ≤ to) × (to ≤ d .count) × (to < from + 0x1_0000) ⌝ }
+    requires { ⌜ Lies (now s) d chunkWide × (from ≤ to) × (to ≤ d .count) × (to < from + 0x1_0000) ⌝ }
     ensures { λ r. ⌜ r ≡ total (countAt (now (s .entry)) d) (to - from) from ⌝ }
 {
     let mut sum = 0;
@@ -91,15 +92,15 @@ fn points_of(s: &[u8], d: Directory, from: usize, to: usize) -> usize
 
 // Group i of the directory.
 fn group_no(s: &[u8], g: Directory, i: usize) -> GroupRecord
-    requires { ⌜ Lies (now s) g 44 × (i < g .count) ⌝ }
+    requires { ⌜ Lies (now s) g groupWide × (i < g .count) ⌝ }
     ensures { λ r. ⌜ r ≡ groupOf (now (s .entry)) g i ⌝ }
 {
-    reader_records::group_in(s, fields::wide(g.off) + i * 44)
+    reader_records::group_in(s, fields::wide(g.off) + i * opened::GROUP_WIDE)
 }
 
 // 34 and 33 of a group, whose chunks are in the directory d.
 fn group(s: &[u8], d: Directory, v: GroupRecord) -> Checked
-    requires { ⌜ Lies (now s) d 24 ⌝ }
+    requires { ⌜ Lies (now s) d chunkWide ⌝ }
     ensures { λ r. ⌜ checkedTold r ≡ groupCheck (now (s .entry)) d v ⌝ }
 {
     if !reader_records::group_rule(d.count, v) {
@@ -114,7 +115,7 @@ fn group(s: &[u8], d: Directory, v: GroupRecord) -> Checked
 }
 
 fn groups_of(s: &[u8], g: Directory, d: Directory) -> Checked
-    requires { ⌜ Lies (now s) g 44 × Lies (now s) d 24 ⌝ }
+    requires { ⌜ Lies (now s) g groupWide × Lies (now s) d chunkWide ⌝ }
     ensures { λ r. ⌜ checkedTold r ≡ each (groupCheckAt (now (s .entry)) g d) (g .count) 0 ⌝ }
 {
     let n = fields::wide(g.count);

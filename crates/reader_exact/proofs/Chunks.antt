@@ -23,6 +23,7 @@ use Rattle.tzb_core.proofs.Neighbours.{scan-list, first-list, domain-list, neve
 use Rattle.shapes.specs.Shapes.{Chunk, chunkInDomain}
 use Rattle.shapes.specs.Walk.{floatTests, chunkWalk}
 use Rattle.opened.specs.declared.Opened.{Opened}
+use Rattle.opened.specs.Widths.{chunkWide}
 use Rattle.reader_records.specs.declared.ChunkRecord.{ChunkRecord}
 use Rattle.reader_records.specs.Records.{recordAt, chunkIn, chunkRule, chunkAt}
 use Rattle.reader_chunks.specs.Chunks.{startOf, endOf, span, bytesOf, firstIn, scanIn, firstAt, chunkPoints}
@@ -90,7 +91,7 @@ module _ (o : Opened) (s : List ℕ) (i : ℕ) (h : Holds o s i) where
   chunk-in =
       let c = chunkShape o s i in
       and-i (boxInDomain (c .box)) (every inDomain (c .first ∷ c .rest))
-      (ap boxInDomain (sym (h .box-is)) ∙ ruled-kept (recordAt s (o .chunks) 24 i) (chunkIn s) chunkRule 34 (h .found) (h .there))
+      (ap boxInDomain (sym (h .box-is)) ∙ ruled-kept (recordAt s (o .chunks) chunkWide i) (chunkIn s) chunkRule 34 (h .found) (h .there))
       (domain-list (h .bytes) (h .found .count) (c .first) (c .rest) (h .decodes))
 
   -- its first point, read alone

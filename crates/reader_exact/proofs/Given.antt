@@ -12,7 +12,8 @@ use Rattle.fields.specs.Le.{le}
 use Rattle.boxes.specs.Box.{boxInDomain}
 use Rattle.shapes.specs.Layout.{Span, Names}
 use Rattle.opened.specs.declared.Opened.{Opened}
-use Rattle.reader_records.specs.Records.{recordAt, ruled, listIn, listRule, listAt, zoneAt, polyAt, ringIn, ringRule, ringAt, opRule, opAt, groupIn, groupRule, groupAt, fitsBelow}
+use Rattle.reader_records.specs.Records.{recordAt, ruled, listIn, listRule, listAt, zoneAt, polyAt, ringIn, ringRule, ringAt, opRule, opAt, groupIn, groupRule, groupAt, fitsBelow, within}
+use Rattle.opened.specs.Widths.{listWide, ringWide, opWide, groupWide}
 use Rattle.reader_exact.specs.Directories.{noList, noRing, noGroup, listSpan, ringSpan, groupSpan, zoneRecord, polyRecord, ringRecord, opWord, opGroup, groupRecord}
 use Rattle.reader_exact.specs.Sound.{Sound}
 use Rattle.answer.proofs.AnswersLaws.{zero-one, then-inv, need-inv, ok-inv}
@@ -56,7 +57,7 @@ module _ (o : Opened) (s : List ℕ) (k : Sound o s) (i : ℕ) where
 
     pub zone-ruled : Ruled (listSpan (zoneRecord o s i)) (o .polys .count)
     unfolding listAt listRule
-    zone-ruled = is-ruled (listSpan (zoneRecord o s i)) (o .polys .count) (ruled-kept (recordAt s (o .zones) 24 i) (listIn s) (listRule (o .polys .count)) 34 (zoneRecord o s i) zone-is)
+    zone-ruled = is-ruled (listSpan (zoneRecord o s i)) (o .polys .count) (ruled-kept (recordAt s (o .zones) listWide i) (listIn s) (listRule (o .polys .count)) 34 (zoneRecord o s i) zone-is)
 
   -- ---- polygons
   module _ (h : i < o .polys .count) where
@@ -66,7 +67,7 @@ module _ (o : Opened) (s : List ℕ) (k : Sound o s) (i : ℕ) where
 
     pub poly-ruled : Ruled (listSpan (polyRecord o s i)) (o .rings .count)
     unfolding listAt listRule
-    poly-ruled = is-ruled (listSpan (polyRecord o s i)) (o .rings .count) (ruled-kept (recordAt s (o .polys) 24 i) (listIn s) (listRule (o .rings .count)) 34 (polyRecord o s i) poly-is)
+    poly-ruled = is-ruled (listSpan (polyRecord o s i)) (o .rings .count) (ruled-kept (recordAt s (o .polys) listWide i) (listIn s) (listRule (o .rings .count)) 34 (polyRecord o s i) poly-is)
 
   -- ---- rings
   module _ (h : i < o .rings .count) where
@@ -76,7 +77,7 @@ module _ (o : Opened) (s : List ℕ) (k : Sound o s) (i : ℕ) where
 
     pub ring-ruled : Ruled (ringSpan (ringRecord o s i)) (o .ops .count)
     unfolding ringAt ringRule
-    ring-ruled = is-ruled (ringSpan (ringRecord o s i)) (o .ops .count) (ruled-kept (recordAt s (o .rings) 28 i) (ringIn s) (ringRule (o .ops .count)) 34 (ringRecord o s i) ring-is)
+    ring-ruled = is-ruled (ringSpan (ringRecord o s i)) (o .ops .count) (ruled-kept (recordAt s (o .rings) ringWide i) (ringIn s) (ringRule (o .ops .count)) 34 (ringRecord o s i) ring-is)
 
   -- ---- ring ops
   module _ (h : i < o .ops .count) where
@@ -86,7 +87,7 @@ module _ (o : Opened) (s : List ℕ) (k : Sound o s) (i : ℕ) where
 
     pub op-named : opGroup o s i < o .groups .count
     unfolding opAt opRule
-    op-named = ltb-true (opGroup o s i) (o .groups .count) (ruled-kept (recordAt s (o .ops) 4 i) (le 4 s) (opRule (o .groups .count)) 35 (opWord o s i) op-is)
+    op-named = ltb-true (opGroup o s i) (o .groups .count) (ruled-kept (recordAt s (o .ops) opWide i) (le 4 s) (opRule (o .groups .count)) 35 (opWord o s i) op-is)
 
   -- ---- groups
   module _ (h : i < o .groups .count) where
@@ -96,7 +97,7 @@ module _ (o : Opened) (s : List ℕ) (k : Sound o s) (i : ℕ) where
 
     kept : groupRule (o .chunks .count) (groupRecord o s i) ≡ true
     unfolding groupAt
-    kept = ruled-kept (recordAt s (o .groups) 44 i) (groupIn s) (groupRule (o .chunks .count)) 34 (groupRecord o s i) group-is
+    kept = ruled-kept (recordAt s (o .groups) groupWide i) (groupIn s) (groupRule (o .chunks .count)) 34 (groupRecord o s i) group-is
 
     pub group-ruled : Ruled (groupSpan (groupRecord o s i)) (o .chunks .count)
     unfolding groupRule

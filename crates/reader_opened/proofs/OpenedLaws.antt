@@ -19,6 +19,7 @@ use Rattle.reader_opened.specs.declared.Sections.{Sections}
 use Rattle.opened.specs.declared.Directory.{Directory}
 use Rattle.opened.specs.declared.Grid.{Grid}
 use Rattle.opened.specs.Within.{Within}
+use Rattle.opened.specs.Widths.{listWide, ringWide, opWide, groupWide, chunkWide}
 use Rattle.reader_opened.specs.Opened.{sectionsOf, noGrid, gridOf, directoryOf, openedOf, Tabled}
 
 placed-in : (s : List ℕ) (k : ℕ) → entryCheck s k ≡ fine → offAt s k + lenAt s k ≤ length s - 4
@@ -55,8 +56,8 @@ unfolding sectionsOf
 sections-are s f z p1 p2 p3 p4 p5 p6 p7 p8 p9 ef ez e1 e2 e3 e4 e5 e6 e7 e8 e9 = rw (ef, ez, e1, e2, e3, e4, e5, e6, e7, e8, e9)
 
 module _ (p : Sections) (g : Grid) where
-  pub opened-is : (p3 p4 p5 p6 p7 : Directory) → p3 ≡ directoryOf (p .polydir) 24 → p4 ≡ directoryOf (p .ringdir) 28 → p5 ≡ directoryOf (p .ringops) 4
-      → p6 ≡ directoryOf (p .groupdir) 44 → p7 ≡ directoryOf (p .chunkdir) 24
+  pub opened-is : (p3 p4 p5 p6 p7 : Directory) → p3 ≡ directoryOf (p .polydir) listWide → p4 ≡ directoryOf (p .ringdir) ringWide → p5 ≡ directoryOf (p .ringops) opWide
+      → p6 ≡ directoryOf (p .groupdir) groupWide → p7 ≡ directoryOf (p .chunkdir) chunkWide
       → record { flags = p .flags; names = p .names; zones = record { off = p .tzdir .off; count = p .zones }; polys = p3; rings = p4; ops = p5; groups = p6; chunks = p7; points = p .points; grid = g } ≡ openedOf p g
   unfolding openedOf
   opened-is p3 p4 p5 p6 p7 e3 e4 e5 e6 e7 = rw (e3, e4, e5, e6, e7)

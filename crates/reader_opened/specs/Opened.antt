@@ -17,6 +17,7 @@ use Rattle.reader_opened.specs.declared.Sections.{Sections}
 use Rattle.opened.specs.declared.Directory.{Directory}
 use Rattle.opened.specs.declared.Grid.{Grid}
 use Rattle.opened.specs.declared.Opened.{Opened}
+use Rattle.opened.specs.Widths.{listWide, ringWide, opWide, groupWide, chunkWide, gridWide}
 
 -- Types 1 to 7 and 9 present (17);
 unfoldable pub presentAt : List ℕ → ℕ → Check
@@ -35,27 +36,27 @@ flagCheck s = first (claim 18 (same (le 4 s 8 % 2) (bit (has s 8 (sections s))))
 
 -- TZDIR is 24 times the zone count, POLYDIR and CHUNKDIR multiples of 24, RINGDIR of 28, RINGOPS of 4, GROUPDIR of 44 (19);
 unfoldable pub zonesCheck : Sections → Check
-zonesCheck o = first (claim 19 (same (o .tzdir .len) (24 * o .zones)) ∷ [])
+zonesCheck o = first (claim 19 (same (o .tzdir .len) (listWide * o .zones)) ∷ [])
 
 unfoldable pub lengthsCheck : Sections → Check
 lengthsCheck o =
     first
-    (claim 19 (same (o .polydir .len % 24) 0)
-    ∷ claim 19 (same (o .ringdir .len % 28) 0)
-    ∷ claim 19 (same (o .ringops .len % 4) 0)
-    ∷ claim 19 (same (o .groupdir .len % 44) 0)
-    ∷ claim 19 (same (o .chunkdir .len % 24) 0)
+    (claim 19 (same (o .polydir .len % listWide) 0)
+    ∷ claim 19 (same (o .ringdir .len % ringWide) 0)
+    ∷ claim 19 (same (o .ringops .len % opWide) 0)
+    ∷ claim 19 (same (o .groupdir .len % groupWide) 0)
+    ∷ claim 19 (same (o .chunkdir .len % chunkWide) 0)
     ∷ [])
 
 -- the other five have at least one record (20).
 unfoldable pub countsCheck : Sections → Check
 countsCheck o =
     first
-    (claim 20 (atMost 24 (o .polydir .len))
-    ∷ claim 20 (atMost 28 (o .ringdir .len))
-    ∷ claim 20 (atMost 4 (o .ringops .len))
-    ∷ claim 20 (atMost 44 (o .groupdir .len))
-    ∷ claim 20 (atMost 24 (o .chunkdir .len))
+    (claim 20 (atMost listWide (o .polydir .len))
+    ∷ claim 20 (atMost ringWide (o .ringdir .len))
+    ∷ claim 20 (atMost opWide (o .ringops .len))
+    ∷ claim 20 (atMost groupWide (o .groupdir .len))
+    ∷ claim 20 (atMost chunkWide (o .chunkdir .len))
     ∷ [])
 
 -- what the table says of a file
@@ -81,7 +82,7 @@ noGrid = record { off = 0; lng = pos 0; lat = pos 0; cols = 0; rows = 0; total =
 
 unfoldable pub gridOf : List ℕ → Section → Grid
 gridOf s p =
-    cond (atMost 12 (p .len))
+    cond (atMost gridWide (p .len))
     (record {
       off = p .off;
       lng = toZ w16 (le 2 s (p .off));
@@ -103,11 +104,11 @@ openedOf p g =
       flags = p .flags;
       names = p .names;
       zones = record { off = p .tzdir .off; count = p .zones };
-      polys = directoryOf (p .polydir) 24;
-      rings = directoryOf (p .ringdir) 28;
-      ops = directoryOf (p .ringops) 4;
-      groups = directoryOf (p .groupdir) 44;
-      chunks = directoryOf (p .chunkdir) 24;
+      polys = directoryOf (p .polydir) listWide;
+      rings = directoryOf (p .ringdir) ringWide;
+      ops = directoryOf (p .ringops) opWide;
+      groups = directoryOf (p .groupdir) groupWide;
+      chunks = directoryOf (p .chunkdir) chunkWide;
       points = p .points;
       grid = g;
     }

@@ -84,11 +84,24 @@ pub fn flag(s: &[u8]) -> Checked
     Checked::Fine
 }
 
+// How many bytes a record of each directory takes, as a section's length counts them.
+const LIST: u32 = opened::LIST_WIDE as u32;
+
+const RING: u32 = opened::RING_WIDE as u32;
+
+const OP: u32 = opened::OP_WIDE as u32;
+
+const GROUP: u32 = opened::GROUP_WIDE as u32;
+
+const CHUNK: u32 = opened::CHUNK_WIDE as u32;
+
+const GRID: u32 = opened::GRID_WIDE as u32;
+
 // 19.
 pub fn zone_length(o: Sections) -> Checked
     ensures { λ r. ⌜ checkedTold r ≡ zonesCheck o ⌝ }
 {
-    if fields::wide(o.tzdir.len) != 24 * fields::wide(o.zones) {
+    if fields::wide(o.tzdir.len) != opened::LIST_WIDE * fields::wide(o.zones) {
         return answer::fail(19);
     }
     Checked::Fine
@@ -97,19 +110,19 @@ pub fn zone_length(o: Sections) -> Checked
 pub fn lengths(o: Sections) -> Checked
     ensures { λ r. ⌜ checkedTold r ≡ lengthsCheck o ⌝ }
 {
-    if o.polydir.len % 24 != 0 {
+    if o.polydir.len % LIST != 0 {
         return answer::fail(19);
     }
-    if o.ringdir.len % 28 != 0 {
+    if o.ringdir.len % RING != 0 {
         return answer::fail(19);
     }
-    if o.ringops.len % 4 != 0 {
+    if o.ringops.len % OP != 0 {
         return answer::fail(19);
     }
-    if o.groupdir.len % 44 != 0 {
+    if o.groupdir.len % GROUP != 0 {
         return answer::fail(19);
     }
-    if o.chunkdir.len % 24 != 0 {
+    if o.chunkdir.len % CHUNK != 0 {
         return answer::fail(19);
     }
     Checked::Fine
@@ -119,19 +132,19 @@ pub fn lengths(o: Sections) -> Checked
 pub fn counts(o: Sections) -> Checked
     ensures { λ r. ⌜ checkedTold r ≡ countsCheck o ⌝ }
 {
-    if o.polydir.len < 24 {
+    if o.polydir.len < LIST {
         return answer::fail(20);
     }
-    if o.ringdir.len < 28 {
+    if o.ringdir.len < RING {
         return answer::fail(20);
     }
-    if o.ringops.len < 4 {
+    if o.ringops.len < OP {
         return answer::fail(20);
     }
-    if o.groupdir.len < 44 {
+    if o.groupdir.len < GROUP {
         return answer::fail(20);
     }
-    if o.chunkdir.len < 24 {
+    if o.chunkdir.len < CHUNK {
         return answer::fail(20);
     }
     Checked::Fine
@@ -142,7 +155,7 @@ pub fn grid_of(s: &[u8], p: Section) -> Grid
     requires { ⌜ Within (now s) p ⌝ }
     ensures { λ r. ⌜ r ≡ gridOf (now (s .entry)) p ⌝ }
 {
-    if p.len < 12 {
+    if p.len < GRID {
         return Grid {
             off: 0,
             lng: 0,
@@ -213,11 +226,11 @@ pub fn opened_of(p: Sections, grid: Grid) -> Opened
         off: tzdir.off,
         count: p.zones,
     };
-    let polys = records_of(p.polydir, 24);
-    let rings = records_of(p.ringdir, 28);
-    let ops = records_of(p.ringops, 4);
-    let groups = records_of(p.groupdir, 44);
-    let chunks = records_of(p.chunkdir, 24);
+    let polys = records_of(p.polydir, LIST);
+    let rings = records_of(p.ringdir, RING);
+    let ops = records_of(p.ringops, OP);
+    let groups = records_of(p.groupdir, GROUP);
+    let chunks = records_of(p.chunkdir, CHUNK);
     let points = p.points;
     Opened {
         flags: p.flags,

@@ -16,6 +16,7 @@ use Rattle.fields.specs.Loads.{inside}
 use Rattle.boxes.specs.Box.{boxInDomain}
 use Rattle.opened.specs.declared.Directory.{Directory}
 use Rattle.opened.specs.declared.Opened.{Opened}
+use Rattle.opened.specs.Widths.{groupWide}
 use Rattle.reader_records.specs.declared.GroupRecord.{GroupRecord}
 use Rattle.reader_records.specs.Records.{place, recordAt, ruled, groupIn, groupRule, groupPlace, groupAt, fitsBelow}
 
@@ -89,17 +90,17 @@ module _ {A : Type 0} (read : ℕ → A) (rule : A → Bool) (n : ℕ) where
 module _ (o : Opened) (s : List ℕ) (i : ℕ) where
   pub place-none : (k : Refusal) → refused k ≡ groupPlace o s i → refused k ≡ groupAt o s i
   unfolding groupPlace groupAt
-  place-none k e = placed-no (groupIn s) (groupRule (o .chunks .count)) 34 (recordAt s (o .groups) 44 i) k e
+  place-none k e = placed-no (groupIn s) (groupRule (o .chunks .count)) 34 (recordAt s (o .groups) groupWide i) k e
 
   module _ (p : ℕ) (e : ok p ≡ groupPlace o s i) where
     pub place-group : ok (groupIn s p) ≡ groupAt o s i
     unfolding groupPlace groupAt
-    place-group = placed-is (groupIn s) (groupRule (o .chunks .count)) 34 (recordAt s (o .groups) 44 i) p e .1
+    place-group = placed-is (groupIn s) (groupRule (o .chunks .count)) 34 (recordAt s (o .groups) groupWide i) p e .1
 
     -- all its bytes are there
-    pub place-room : p + 44 ≤ length s
+    pub place-room : p + groupWide ≤ length s
     unfolding groupPlace
-    place-room = record-room s (o .groups) 44 i p (placed-is (groupIn s) (groupRule (o .chunks .count)) 34 (recordAt s (o .groups) 44 i) p e .0)
+    place-room = record-room s (o .groups) groupWide i p (placed-is (groupIn s) (groupRule (o .chunks .count)) 34 (recordAt s (o .groups) groupWide i) p e .0)
 
 -- what the rules tell
 module _ (first count below : ℕ) (h : fitsBelow first count below ≡ true) where

@@ -17,6 +17,7 @@ use Rattle.boxes.specs.declared.BBox.{BBox}
 use Rattle.boxes.specs.Box.{boxInDomain}
 use Rattle.opened.specs.declared.Directory.{Directory}
 use Rattle.opened.specs.declared.Opened.{Opened}
+use Rattle.opened.specs.Widths.{listWide, ringWide, opWide, groupWide, chunkWide}
 use Rattle.reader_records.specs.declared.ListRecord.{ListRecord}
 use Rattle.reader_records.specs.declared.RingRecord.{RingRecord}
 use Rattle.reader_records.specs.declared.GroupRecord.{GroupRecord}
@@ -97,7 +98,7 @@ unfoldable pub listRule : ℕ → ListRecord → Bool
 listRule below v = boxInDomain (v .bbox) && fitsBelow (v .first) (v .count) below
 
 unfoldable pub listAt : List ℕ → Directory → ℕ → ℕ → Answer ListRecord
-listAt s d below i = ruled (recordAt s d 24 i) (listIn s) (listRule below) 34
+listAt s d below i = ruled (recordAt s d listWide i) (listIn s) (listRule below) 34
 
 abbrev pub zoneAt : Opened → List ℕ → ℕ → Answer ListRecord
 zoneAt o s i = listAt s (o .zones) (o .polys .count) i
@@ -113,7 +114,7 @@ unfoldable pub ringRule : ℕ → RingRecord → Bool
 ringRule below v = boxInDomain (v .bbox) && fitsBelow (v .first) (v .count) below
 
 unfoldable pub ringAt : Opened → List ℕ → ℕ → Answer RingRecord
-ringAt o s i = ruled (recordAt s (o .rings) 28 i) (ringIn s) (ringRule (o .ops .count)) 34
+ringAt o s i = ruled (recordAt s (o .rings) ringWide i) (ringIn s) (ringRule (o .ops .count)) 34
 
 -- its groups' point counts, less the number of groups, add to its point count
 unfoldable pub countRule : RingRecord → ℕ → Bool
@@ -130,7 +131,7 @@ unfoldable pub opRule : ℕ → ℕ → Bool
 opRule below word = ltb (groupIndex word) below
 
 unfoldable pub opAt : Opened → List ℕ → ℕ → Answer ℕ
-opAt o s i = ruled (recordAt s (o .ops) 4 i) (le 4 s) (opRule (o .groups .count)) 35
+opAt o s i = ruled (recordAt s (o .ops) opWide i) (le 4 s) (opRule (o .groups .count)) 35
 
 -- groups with their chunks; entry and exit in the same domain
 unfoldable pub groupIn : List ℕ → ℕ → GroupRecord
@@ -149,10 +150,10 @@ groupRule below v = (boxInDomain (v .bbox) && fitsBelow (v .first) (v .count) be
 
 -- where group i stands, if its record keeps the rule
 unfoldable pub groupPlace : Opened → List ℕ → ℕ → Answer ℕ
-groupPlace o s i = ruled (recordAt s (o .groups) 44 i) (λ p. p) (λ p. groupRule (o .chunks .count) (groupIn s p)) 34
+groupPlace o s i = ruled (recordAt s (o .groups) groupWide i) (λ p. p) (λ p. groupRule (o .chunks .count) (groupIn s p)) 34
 
 unfoldable pub groupAt : Opened → List ℕ → ℕ → Answer GroupRecord
-groupAt o s i = ruled (recordAt s (o .groups) 44 i) (groupIn s) (groupRule (o .chunks .count)) 34
+groupAt o s i = ruled (recordAt s (o .groups) groupWide i) (groupIn s) (groupRule (o .chunks .count)) 34
 
 -- chunks: of the rule, the box alone
 unfoldable pub chunkIn : List ℕ → ℕ → ChunkRecord
@@ -162,4 +163,4 @@ unfoldable pub chunkRule : ChunkRecord → Bool
 chunkRule v = boxInDomain (v .bbox)
 
 unfoldable pub chunkAt : Opened → List ℕ → ℕ → Answer ChunkRecord
-chunkAt o s i = ruled (recordAt s (o .chunks) 24 i) (chunkIn s) chunkRule 34
+chunkAt o s i = ruled (recordAt s (o .chunks) chunkWide i) (chunkIn s) chunkRule 34

@@ -2,7 +2,8 @@
 ghost use mathlib.Core.Path.{_≡_};
 ghost use Prim.Native.Nat.{_+_, _≤_, _<_};
 ghost use lib.ListN.{length};
-ghost use Rattle.reader_records.specs.Records.{toldPlace, toldList, toldRing, toldOp, toldGroup, toldChunk, directory, recordAt, boxIn, pointIn, listIn, listRule, listAt, zoneAt, polyAt, ringIn, ringRule, ringAt, countRule, opRule, opAt, groupIn, groupRule, groupPlace, groupAt, chunkIn, chunkRule, chunkAt, fitsBelow};
+ghost use Rattle.reader_records.specs.Records.{toldPlace, toldList, toldRing, toldOp, toldGroup, toldChunk, directory, recordAt, boxIn, pointIn, listIn, listRule, listAt, zoneAt, polyAt, ringIn, ringRule, ringAt, countRule, opRule, opAt, groupIn, groupRule, groupPlace, groupAt, chunkIn, chunkRule, chunkAt, fitsBelow, within};
+ghost use Rattle.opened.specs.Widths.{listWide, ringWide, groupWide, chunkWide};
 use answer::Refusal;
 use boxes::BBox;
 use opened::Opened;
@@ -114,7 +115,7 @@ fn is_within(first: u32, count: u16, below: u32) -> bool
 }
 
 fn list_in(s: &[u8], at: usize) -> ListRecord
-    requires { ⌜ at + 24 ≤ length (now s) ⌝ }
+    requires { ⌜ at + listWide ≤ length (now s) ⌝ }
     ensures { λ r. ⌜ r ≡ listIn (now (s .entry)) at ⌝ }
 {
     ListRecord {
@@ -135,7 +136,7 @@ fn list_rule(below: u32, v: ListRecord) -> bool
 pub fn list_at(s: &[u8], off: u32, count: u32, below: u32, index: usize) -> ListAt
     ensures { λ r. ⌜ toldList r ≡ listAt (now (s .entry)) (directory off count) below index ⌝ }
 {
-    let t = record_at(s, off, count, 24, index);
+    let t = record_at(s, off, count, opened::LIST_WIDE, index);
     match t {
         RecordPlace::Refused(r) => ListAt::Refused(r),
         RecordPlace::At(at) => {
@@ -162,7 +163,7 @@ pub fn poly_at(o: Opened, s: &[u8], index: usize) -> ListAt
 }
 
 fn ring_in(s: &[u8], at: usize) -> RingRecord
-    requires { ⌜ at + 28 ≤ length (now s) ⌝ }
+    requires { ⌜ at + ringWide ≤ length (now s) ⌝ }
     ensures { λ r. ⌜ r ≡ ringIn (now (s .entry)) at ⌝ }
 {
     RingRecord {
@@ -183,7 +184,7 @@ fn ring_rule(below: u32, v: RingRecord) -> bool
 pub fn ring_at(o: Opened, s: &[u8], index: usize) -> RingAt
     ensures { λ r. ⌜ toldRing r ≡ ringAt o (now (s .entry)) index ⌝ }
 {
-    let t = record_at(s, o.rings.off, o.rings.count, 28, index);
+    let t = record_at(s, o.rings.off, o.rings.count, opened::RING_WIDE, index);
     match t {
         RecordPlace::Refused(r) => RingAt::Refused(r),
         RecordPlace::At(at) => {
@@ -214,7 +215,7 @@ fn op_rule(below: u32, word: usize) -> bool
 pub fn op_at(o: Opened, s: &[u8], index: usize) -> OpAt
     ensures { λ r. ⌜ toldOp r ≡ opAt o (now (s .entry)) index ⌝ }
 {
-    let t = record_at(s, o.ops.off, o.ops.count, 4, index);
+    let t = record_at(s, o.ops.off, o.ops.count, opened::OP_WIDE, index);
     match t {
         RecordPlace::Refused(r) => OpAt::Refused(r),
         RecordPlace::At(at) => {
@@ -230,7 +231,7 @@ pub fn op_at(o: Opened, s: &[u8], index: usize) -> OpAt
 
 // The group record that stands at a tested place.
 pub fn group_in(s: &[u8], at: usize) -> GroupRecord
-    requires { ⌜ at + 44 ≤ length (now s) ⌝ }
+    requires { ⌜ at + groupWide ≤ length (now s) ⌝ }
     ensures { λ r. ⌜ r ≡ groupIn (now (s .entry)) at ⌝ }
 {
     GroupRecord {
@@ -257,7 +258,7 @@ pub fn group_rule(below: u32, v: GroupRecord) -> bool
 pub fn group_place(o: Opened, s: &[u8], index: usize) -> RecordPlace
     ensures { λ r. ⌜ toldPlace r ≡ groupPlace o (now (s .entry)) index ⌝ }
 {
-    let t = record_at(s, o.groups.off, o.groups.count, 44, index);
+    let t = record_at(s, o.groups.off, o.groups.count, opened::GROUP_WIDE, index);
     match t {
         RecordPlace::Refused(r) => RecordPlace::Refused(r),
         RecordPlace::At(at) => {
@@ -283,7 +284,7 @@ pub fn group_at(o: Opened, s: &[u8], index: usize) -> GroupAt
 
 // The chunk record that stands at a tested place.
 pub fn chunk_in(s: &[u8], at: usize) -> ChunkRecord
-    requires { ⌜ at + 24 ≤ length (now s) ⌝ }
+    requires { ⌜ at + chunkWide ≤ length (now s) ⌝ }
     ensures { λ r. ⌜ r ≡ chunkIn (now (s .entry)) at ⌝ }
 {
     ChunkRecord {
@@ -303,7 +304,7 @@ pub fn chunk_rule(v: ChunkRecord) -> bool
 pub fn chunk_at(o: Opened, s: &[u8], index: usize) -> ChunkAt
     ensures { λ r. ⌜ toldChunk r ≡ chunkAt o (now (s .entry)) index ⌝ }
 {
-    let t = record_at(s, o.chunks.off, o.chunks.count, 24, index);
+    let t = record_at(s, o.chunks.off, o.chunks.count, opened::CHUNK_WIDE, index);
     match t {
         RecordPlace::Refused(r) => ChunkAt::Refused(r),
         RecordPlace::At(at) => {

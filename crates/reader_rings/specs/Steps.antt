@@ -14,6 +14,7 @@ use Rattle.reader_rings.specs.declared.Round.{Round}
 use Rattle.reader_rings.specs.declared.Rounds.{Rounds}
 use Rattle.reader_rings.specs.declared.Rounds.the-variants as R
 use Rattle.reader_rings.specs.Rings.{turnOf}
+use Rattle.opened.specs.Widths.{groupWide}
 
 -- what the enums of the code say
 abbrev pub rounds : Rounds → Walk Round
@@ -33,5 +34,5 @@ legTold s (L.At w p) = ok (turnOf w (groupIn s p))
 legTold s (L.Refused k) = refused k
 
 abbrev pub LegRoom : List ℕ → LegAt → Type 0
-LegRoom s (L.At w p) = p + 44 ≤ length s
+LegRoom s (L.At w p) = p + groupWide ≤ length s
 LegRoom s (L.Refused k) = One

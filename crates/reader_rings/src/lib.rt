@@ -9,6 +9,7 @@ ghost use lib.ListN.{length};
 ghost use Rattle.reader_rings.specs.Rings.{turnOf, turnedAt, jointOf, groupWalk, turnWalk, opStep, opsFrom, ringEnd, ringRest, ringOf, ringContains};
 ghost use Rattle.replies.specs.Replies.{verdictTold};
 ghost use Rattle.reader_rings.specs.Steps.{legTold, LegRoom, rounds, sumAfter};
+ghost use Rattle.opened.specs.Widths.{groupWide};
 use answer::Refusal;
 use opened::Opened;
 use plane::I32Point;
@@ -66,7 +67,7 @@ fn leg_at(o: Opened, s: &[u8], i: usize) -> LegAt
 
 // The group at a tested place, as the op's word has it: the top bit turns it round.
 fn turned_in(s: &[u8], w: usize, at: usize) -> Turned
-    requires { ⌜ at + 44 ≤ length (now s) ⌝ }
+    requires { ⌜ at + groupWide ≤ length (now s) ⌝ }
     ensures { λ r. ⌜ r ≡ turnOf w (groupIn (now (s .entry)) at) ⌝ }
 {
     let g = reader_records::group_in(s, at);

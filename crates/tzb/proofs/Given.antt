@@ -31,6 +31,7 @@ use Rattle.reader_dirs.specs.Dirs.{chunkOf, groupOf, chunksCheck, groupsCheck, 
 use Rattle.reader_dirs.proofs.Accepted.{chunk-kept, chunk-found, chunk-some, chunk-inside, rises, group-kept, group-found, group-sum}
 use Rattle.tzb.specs.Opening.{tableCheck, sizesCheck, namesIn, gridIn, contentsCheck, gridIs, openedIs, openOf}
 use Rattle.opened.specs.Within.{Within}
+use Rattle.opened.specs.Widths.{listWide, ringWide, opWide, groupWide, chunkWide}
 use Rattle.basics.specs.Total.{total}
 use Rattle.answer.proofs.AnswersLaws.{zero-one, ok-inv}
 use Rattle.reader_opened.proofs.OpenedLaws.{within}
@@ -61,12 +62,12 @@ pub record Answered (file : List ℕ) (o : Opened) : Type 0 where
 
 -- all the directories' records lie in the file, and no directory is empty
 pub record DirectoriesThere (file : List ℕ) (o : Opened) : Type 0 where
-  pub zones : Lies file (o .zones) 24
-  pub polys : Lies file (o .polys) 24
-  pub rings : Lies file (o .rings) 28
-  pub ops : Lies file (o .ops) 4
-  pub groups : Lies file (o .groups) 44
-  pub chunks : Lies file (o .chunks) 24
+  pub zones : Lies file (o .zones) listWide
+  pub polys : Lies file (o .polys) listWide
+  pub rings : Lies file (o .rings) ringWide
+  pub ops : Lies file (o .ops) opWide
+  pub groups : Lies file (o .groups) groupWide
+  pub chunks : Lies file (o .chunks) chunkWide
   pub zones-some : 1 ≤ o .zones .count
   pub polys-some : 1 ≤ o .polys .count
   pub rings-some : 1 ≤ o .rings .count
@@ -172,7 +173,7 @@ module _ (file : List ℕ) (o : Opened) (opened : ok o ≡ openOf file) where
   zones-few = omega (arith, zone-count, leb-true (le 4 file 40) 65_535 (and-r (leb 1 (le 4 file 40)) (leb (le 4 file 40) 65_535) counted))
 
   -- TZDIR is 24 times that number, and lies in the file
-  pub zones-size : sectionOf file 2 .len ≡ 24 * o .zones .count
+  pub zones-size : sectionOf file 2 .len ≡ listWide * o .zones .count
   unfolding sizesCheck zonesCheck sectionsOf
   zones-size = rw zone-count (same-eq _ _ (fine-claim _ _ (fine-one _ _ (fine-one _ _ sizes-fine))))
 
@@ -180,7 +181,7 @@ module _ (file : List ℕ) (o : Opened) (opened : ok o ≡ openOf file) where
   unfolding openedOf sectionsOf
   zones-begin = ap (λ (x : Opened). x .zones .off) opened-is
 
-  pub zones-lie : Lies file (o .zones) 24
+  pub zones-lie : Lies file (o .zones) listWide
   zones-lie = record { fits = omega (arith, zones-size, zones-begin, within file is-tabled 2 .fits) }
 
   -- ---- the directories below, and the points

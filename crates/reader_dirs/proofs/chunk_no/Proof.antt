@@ -6,6 +6,7 @@ use Rattle.reader_records.specs.Records.{chunkIn}
 use borrow.Author.Needs.{needs}
 use Rattle.reader_dirs.proofs.chunk_no.Statement.{statement}
 use Rattle.reader_dirs.proofs.chunk_no.Tie as tie
+use Rattle.opened.specs.Widths.{chunkWide}
 
 wide-requires : tie.Need-wide-requires
 wide-requires c κs = search needs
@@ -22,7 +23,7 @@ chunk-in-requires c κs = search needs
 returns : tie.Need-returns
 returns c =
     let a = c .before .before .before .args in
-    c .chunk-in .ensures ∙ ap (λ (x : ℕ). chunkIn (a .s .now) (x + a .i * 24)) (c .before .wide .ensures .0)
+    c .chunk-in .ensures ∙ ap (λ (x : ℕ). chunkIn (a .s .now) (x + a .i * chunkWide)) (c .before .wide .ensures .0)
 
 pub chunk-no-spec : {M : Type 1} → statement M
 chunk-no-spec =

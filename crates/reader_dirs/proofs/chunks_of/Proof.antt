@@ -11,9 +11,10 @@ use Rattle.reader_dirs.proofs.Loops.{least-first, least-next, chunk-che
 use borrow.Author.Needs.{needs}
 use Rattle.reader_dirs.proofs.chunks_of.Statement.{statement}
 use Rattle.reader_dirs.proofs.chunks_of.Tie as tie
+use Rattle.opened.specs.Widths.{chunkWide}
 
 abbrev Inv-loop : tie.InvT-loop
-Inv-loop s d points n least₀ i₀ least i = (i ≤ n) × (n ≡ d .count) × (n < 0x1_0000_0000) × Lies s d 24 × (least ≡ leastOff s d i) × (each (chunkCheckAt s d points) (n - i) i ≡ each (chunkCheckAt s d points) (d .count) 0)
+Inv-loop s d points n least₀ i₀ least i = (i ≤ n) × (n ≡ d .count) × (n < 0x1_0000_0000) × Lies s d chunkWide × (least ≡ leastOff s d i) × (each (chunkCheckAt s d points) (n - i) i ≡ each (chunkCheckAt s d points) (d .count) 0)
 
 abbrev μ-loop : tie.MeasureT-loop
 μ-loop s d points n least₀ i₀ least i = n - i

@@ -8,6 +8,7 @@ use Rattle.reader_dirs.specs.Dirs.{countAt}
 use borrow.Author.Needs.{needs}
 use Rattle.reader_dirs.proofs.count_at.Statement.{statement}
 use Rattle.reader_dirs.proofs.count_at.Tie as tie
+use Rattle.opened.specs.Widths.{chunkWide}
 
 wide-requires : tie.Need-wide-requires
 wide-requires c κs = search needs
@@ -31,7 +32,7 @@ returns : tie.Need-returns
 unfolding countAt chunkIn
 returns c =
     let a = c .before .before .before .before .args in
-    (c .wide16 .ensures .0 ∙ c .before .u16-at .ensures ∙ ap (λ (x : ℕ). le 2 (a .s .now) (x + a .i * 24 + 4)) (c .before .before .wide .ensures .0), c .wide16 .ensures .1)
+    (c .wide16 .ensures .0 ∙ c .before .u16-at .ensures ∙ ap (λ (x : ℕ). le 2 (a .s .now) (x + a .i * chunkWide + 4)) (c .before .before .wide .ensures .0), c .wide16 .ensures .1)
 
 pub count-at-spec : {M : Type 1} → statement M
 count-at-spec =

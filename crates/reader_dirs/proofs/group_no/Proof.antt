@@ -6,6 +6,7 @@ use Rattle.reader_records.specs.Records.{groupIn}
 use borrow.Author.Needs.{needs}
 use Rattle.reader_dirs.proofs.group_no.Statement.{statement}
 use Rattle.reader_dirs.proofs.group_no.Tie as tie
+use Rattle.opened.specs.Widths.{groupWide}
 
 wide-requires : tie.Need-wide-requires
 wide-requires c κs = search needs
@@ -22,7 +23,7 @@ group-in-requires c κs = search needs
 returns : tie.Need-returns
 returns c =
     let a = c .before .before .before .args in
-    c .group-in .ensures ∙ ap (λ (x : ℕ). groupIn (a .s .now) (x + a .i * 44)) (c .before .wide .ensures .0)
+    c .group-in .ensures ∙ ap (λ (x : ℕ). groupIn (a .s .now) (x + a .i * groupWide)) (c .before .wide .ensures .0)
 
 pub group-no-spec : {M : Type 1} → statement M
 group-no-spec =

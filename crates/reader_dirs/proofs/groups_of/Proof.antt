@@ -11,9 +11,10 @@ use Rattle.reader_dirs.proofs.Loops.{group-checked}
 use borrow.Author.Needs.{needs}
 use Rattle.reader_dirs.proofs.groups_of.Statement.{statement}
 use Rattle.reader_dirs.proofs.groups_of.Tie as tie
+use Rattle.opened.specs.Widths.{groupWide, chunkWide}
 
 abbrev Inv-loop : tie.InvT-loop
-Inv-loop s g d n i₀ i = (i ≤ n) × (n ≡ g .count) × (n < 0x1_0000_0000) × Lies s g 44 × Lies s d 24 × (each (groupCheckAt s g d) (n - i) i ≡ each (groupCheckAt s g d) (g .count) 0)
+Inv-loop s g d n i₀ i = (i ≤ n) × (n ≡ g .count) × (n < 0x1_0000_0000) × Lies s g groupWide × Lies s d chunkWide × (each (groupCheckAt s g d) (n - i) i ≡ each (groupCheckAt s g d) (g .count) 0)
 
 abbrev μ-loop : tie.MeasureT-loop
 μ-loop s g d n i₀ i = n - i

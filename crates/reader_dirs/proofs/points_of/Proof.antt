@@ -9,9 +9,10 @@ use borrow.Author.Needs.{needs}
 use Rattle.reader_dirs.proofs.points_of.Statement.{statement}
 use Rattle.reader_dirs.proofs.points_of.Tie as tie
 use Rattle.basics.specs.Total.{total}
+use Rattle.opened.specs.Widths.{chunkWide}
 
 abbrev Inv-loop : tie.InvT-loop
-Inv-loop s d from to sum₀ j₀ sum j = (from ≤ j) × (j ≤ to) × (to < from + 0x1_0000) × Lies s d 24 × (to ≤ d .count) × (sum ≤ 65_535 * (j - from)) × (sum + total (countAt s d) (to - j) j ≡ total (countAt s d) (to - from) from)
+Inv-loop s d from to sum₀ j₀ sum j = (from ≤ j) × (j ≤ to) × (to < from + 0x1_0000) × Lies s d chunkWide × (to ≤ d .count) × (sum ≤ 65_535 * (j - from)) × (sum + total (countAt s d) (to - j) j ≡ total (countAt s d) (to - from) from)
 
 abbrev μ-loop : tie.MeasureT-loop
 μ-loop s d from to sum₀ j₀ sum j = to - j

@@ -7,6 +7,7 @@ use borrow.Author.Needs.{needs}
 use Rattle.reader_records.proofs.chunk_at.Statement.{statement}
 use Rattle.reader_records.proofs.chunk_at.Tie as tie
 use Rattle.reader_records.proofs.RecordsLaws.{record-room, ruled-no, ruled-bad, ruled-ok}
+use Rattle.opened.specs.Widths.{chunkWide}
 
 record-at-requires : tie.Need-record-at-requires
 record-at-requires c κs = search needs
@@ -18,7 +19,7 @@ enum-known-t-2 : tie.Need-enum-known-t-2
 enum-known-t-2 c = search needs
 
 chunk-in-requires : tie.Need-chunk-in-requires
-chunk-in-requires c κs = record-room _ _ 24 _ _ (sym (ap toldPlace (c .before .t2 .given .1)) ∙ c .before .before .before .record-at .ensures)
+chunk-in-requires c κs = record-room _ _ chunkWide _ _ (sym (ap toldPlace (c .before .t2 .given .1)) ∙ c .before .before .before .record-at .ensures)
 
 chunk-rule-requires : tie.Need-chunk-rule-requires
 chunk-rule-requires c κs = search needs

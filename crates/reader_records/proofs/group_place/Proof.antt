@@ -7,6 +7,7 @@ use borrow.Author.Needs.{needs}
 use Rattle.reader_records.proofs.group_place.Statement.{statement}
 use Rattle.reader_records.proofs.group_place.Tie as tie
 use Rattle.reader_records.proofs.RecordsLaws.{record-room, ruled-no, ruled-bad, ruled-ok}
+use Rattle.opened.specs.Widths.{groupWide}
 
 record-at-requires : tie.Need-record-at-requires
 record-at-requires c κs = search needs
@@ -18,7 +19,7 @@ enum-known-t-2 : tie.Need-enum-known-t-2
 enum-known-t-2 c = search needs
 
 group-in-requires : tie.Need-group-in-requires
-group-in-requires c κs = record-room _ _ 44 _ _ (sym (ap toldPlace (c .before .t2 .given .1)) ∙ c .before .before .before .record-at .ensures)
+group-in-requires c κs = record-room _ _ groupWide _ _ (sym (ap toldPlace (c .before .t2 .given .1)) ∙ c .before .before .before .record-at .ensures)
 
 group-rule-requires : tie.Need-group-rule-requires
 group-rule-requires c κs = search needs

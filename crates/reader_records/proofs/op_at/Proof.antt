@@ -7,6 +7,7 @@ use borrow.Author.Needs.{needs}
 use Rattle.reader_records.proofs.op_at.Statement.{statement}
 use Rattle.reader_records.proofs.op_at.Tie as tie
 use Rattle.reader_records.proofs.RecordsLaws.{record-room, ruled-no, ruled-bad, ruled-ok}
+use Rattle.opened.specs.Widths.{opWide}
 
 record-at-requires : tie.Need-record-at-requires
 record-at-requires c κs = search needs
@@ -18,7 +19,7 @@ enum-known-t-2 : tie.Need-enum-known-t-2
 enum-known-t-2 c = search needs
 
 word-requires : tie.Need-word-requires
-word-requires c κs = record-room _ _ 4 _ _ (sym (ap toldPlace (c .before .t2 .given .1)) ∙ c .before .before .before .record-at .ensures)
+word-requires c κs = record-room _ _ opWide _ _ (sym (ap toldPlace (c .before .t2 .given .1)) ∙ c .before .before .before .record-at .ensures)
 
 op-rule-requires : tie.Need-op-rule-requires
 op-rule-requires c κs = search needs

@@ -7,6 +7,7 @@ use borrow.Author.Needs.{needs}
 use Rattle.reader_records.proofs.ring_at.Statement.{statement}
 use Rattle.reader_records.proofs.ring_at.Tie as tie
 use Rattle.reader_records.proofs.RecordsLaws.{record-room, ruled-no, ruled-bad, ruled-ok}
+use Rattle.opened.specs.Widths.{ringWide}
 
 record-at-requires : tie.Need-record-at-requires
 record-at-requires c κs = search needs
@@ -18,7 +19,7 @@ enum-known-t-2 : tie.Need-enum-known-t-2
 enum-known-t-2 c = search needs
 
 ring-in-requires : tie.Need-ring-in-requires
-ring-in-requires c κs = record-room _ _ 28 _ _ (sym (ap toldPlace (c .before .t2 .given .1)) ∙ c .before .before .before .record-at .ensures)
+ring-in-requires c κs = record-room _ _ ringWide _ _ (sym (ap toldPlace (c .before .t2 .given .1)) ∙ c .before .before .before .record-at .ensures)
 
 ring-rule-requires : tie.Need-ring-rule-requires
 ring-rule-requires c κs = search needs
