@@ -14,12 +14,11 @@ use borrow.Author.Tests.{leb-true, leb-false}
 use Rattle.plane.specs.Domain.{inDomain}
 use Rattle.answer.specs.Refusals.{refusal}
 use Rattle.answer.specs.Answers.{Answer, ok, refused, no}
-use Rattle.answer.proofs.CheckLaws.{le-at}
 use Rattle.opened.specs.declared.Opened.{Opened}
 use Rattle.reader_zones.specs.Zones.{zoneOf, containsAt}
 use Rattle.reader_lookup.specs.Asking.{lookupOf}
 use Rattle.reader_check.specs.FullCheck.{lowestBroken}
-use Rattle.tzb_record.specs.Layout.{bytesOf, openedIn, recordOf, written}
+use Rattle.tzb_record.specs.Layout.{bytesOf, openedIn, recordOf}
 use Rattle.tzb_asked.specs.Asked.{containsAsked, lookupAsked}
 use Rattle.tzb.specs.Opening.{openOf, openedIs}
 use Rattle.tzb_codes.specs.Codes.{doneCode, insideCode, zoneCode, checkCode, ruleOf}
@@ -37,11 +36,11 @@ use Rattle.exported.proofs.Codes.{apart, same-refusing, inside-tells, z
 use Rattle.exported.proofs.Demand1.{once-tabled}
 use Rattle.exported.proofs.Demand3 as Three
 use Rattle.plane.specs.Places.{point, pointOf}
-use Rattle.answer.proofs.AnswersLaws.{then-ok, then-no, zero-one}
+use Rattle.answer.proofs.AnswersLaws.{then-ok, then-no, zero-one, left-no, left-is}
 use Rattle.reader_zones.proofs.ZonesLaws.{whole-over, whole-off, whole-is}
-use Rattle.tzb_record.proofs.LayoutLaws.{record-none, record-is}
+use Rattle.tzb_record.proofs.LayoutLaws.{record-none, record-is, record-long}
 use Rattle.tzb_codes.proofs.CodesLaws.{code-small}
-use Rattle.tzb_c.proofs.OpensLaws.{open-barred, kept-is, kept-no, once-barred, once-asked}
+use Rattle.tzb_c.proofs.OpensLaws.{open-barred, once-barred, once-asked}
 
 never-both : {B : Type 0} (x : Answer Opened) (o : Opened) (n : ℕ) → ok o ≡ x → no n ≡ x → B
 never-both x o n e f = let z : _≡_ {A = ℕ} 0 1 = cc in absurd (zero-one z)
@@ -127,11 +126,11 @@ room-or-not n = go (leb 84 n) refl
 module _ (file memory : List ℕ) (r : ℤ) (after : List ℕ) (c : Tzb-open file memory r after) where
   by-refusal : (n : ℕ) → n < 1000 → no n ≡ openInto file memory → (r ≡ refusing n) × (after ≡ memory)
   by-refusal n l e =
-      (open-answer c ∙ sym (ap doneCode e) ∙ sym (code-small (refusal n) l), open-memory c ∙ sym (kept-no memory (openInto file memory) (refusal n) e))
+      (open-answer c ∙ sym (ap doneCode e) ∙ sym (code-small (refusal n) l), open-memory c ∙ sym (left-no (openInto file memory) (refusal n) e memory))
 
-  in-room : (o : Opened) → 84 ≤ length memory → written o memory ≡ bytesOf o ++ drop 84 memory
-  unfolding written
-  in-room o h = rw (le-at 84 (length memory) h)
+  -- the bytes that were kept, and what lies behind them
+  in-room : (o : Opened) → bytesOf o ++ drop (length (bytesOf o)) memory ≡ bytesOf o ++ drop 84 memory
+  in-room o = ap (λ (k : ℕ). bytesOf o ++ drop k memory) (record-long o)
 
   abbrev M : Type 0
   M = Kept file memory r after
@@ -142,7 +141,7 @@ module _ (file memory : List ℕ) (r : ℤ) (after : List ℕ) (c : Tzb-open fil
       by : ok (openedIs file) ≡ openOf file → (84 ≤ length memory) ⊎ (length memory < 84) → M
       by e (inl h) =
           let f = room-in file memory (openedIs file) e h in
-          kept e h (open-answer c ∙ sym (ap doneCode f)) (open-memory c ∙ sym (kept-is memory (openInto file memory) (openedIs file) f) ∙ in-room (openedIs file) h)
+          kept e h (open-answer c ∙ sym (ap doneCode f)) (open-memory c ∙ sym (left-is (openInto file memory) (bytesOf (openedIs file)) f memory) ∙ in-room (openedIs file))
       by e (inr h) =
           let t = by-refusal 46 (omega arith) (room-short file memory (openedIs file) e h) in
           short e h (t .0) (t .1)

@@ -25,7 +25,7 @@ use Rattle.tzb_asked.proofs.Zones.{found-below}
 use Rattle.tzb.specs.Opening.{openedIs}
 use Rattle.tzb.specs.FullCheck.{fullCheckOf}
 use Rattle.tzb_codes.specs.Codes.{refusalCode, doneCode, zoneCode, checkCode, ruleOf}
-use Rattle.tzb_c.specs.Opens.{openInto, keptIn, lookupOnce}
+use Rattle.tzb_c.specs.Opens.{openInto, lookupOnce}
 use Rattle.tzb_c.specs.Exports.{numberCode}
 use Rattle.tzb_c.proofs.Kept.{once-small}
 use Rattle.exported.specs.Words.{Refuses}
@@ -88,9 +88,8 @@ module _ (held file : List ℕ) where
   candidate-tabled place = asked held _ (λ o. candidate-q o file place)
 
 -- ---- a refusal leaves lent memory as it was
-kept-told : (memory : List ℕ) (x : Answer Opened) → Tabled 47 x → DoneOrAsItWas (doneCode x) memory (keptIn memory x)
-unfolding keptIn
-kept-told memory (ok o) h = inl refl
+kept-told : (memory : List ℕ) (x : Answer (List ℕ)) → Tabled 47 x → DoneOrAsItWas (doneCode x) memory (left memory x)
+kept-told memory (ok l) h = inl refl
 kept-told memory (refused k) h = inr (refuses k (h .by), refl)
 
 ends-told : (ends : List ℕ) (x : Answer (ℕ × ℕ)) → Tabled 47 x → DoneOrAsItWas (doneCode x) ends (endsAfter ends x)

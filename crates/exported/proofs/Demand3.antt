@@ -7,7 +7,7 @@ use mathlib.Core.Bool.{Bool, true, false, false≢true}
 use mathlib.Core.List.{List}
 use mathlib.Core.Logic.{_↔_, _⊎_, inl, inr}
 use lib.IntN.{ℤ, pos}
-use lib.ListN.{take}
+use lib.ListN.{length, take}
 use Rattle.plane.specs.Segment.{seg}
 use Rattle.answer.specs.Refusals.{refusal}
 use Rattle.answer.specs.Answers.{Answer, ok, refused}
@@ -31,7 +31,7 @@ use Rattle.tzb_c.proofs.Kept.{record-kept}
 use Rattle.exported.specs.Calls.{Tzb-open, Tzb-full-check, Tzb-zone-count, Tzb-contains}
 use Rattle.exported.specs.Words.{refusing, Bytes, shapeOf}
 use Rattle.exported.specs.Demand3.{OneOrZero, Demand3}
-use Rattle.exported.proofs.Room.{into-opened}
+use Rattle.tzb_c.proofs.OpensLaws.{into-inv}
 use Rattle.exported.proofs.Codes.{refusal-below, same-number}
 use Rattle.exported.proofs.Meaning.{open-answer, open-memory, full-check-answer, zone-count-answer, contains-answer}
 use Rattle.plane.specs.Places.{point}
@@ -67,17 +67,18 @@ module _ (file : List ℕ) where
     abbrev o : Opened
     o = openedIs file
 
-    into : ok o ≡ openInto file memory
+    -- it opens, and there was room
+    into : (p : Opened) × (ok p ≡ openOf file) × (84 ≤ length memory)
     into =
         let t = done-by (openInto file memory) (open-answer opened) in
-        sym (ap ok (opened-is file (t .0) (into-opened file memory (t .0) (t .1)))) ∙ t .1
+        into-inv file memory (t .0) (t .1)
 
     pub opens : ok o ≡ openOf file
-    opens = into-opened file memory o into
+    opens = sym (ap ok (opened-is file (into .0) (into .1))) ∙ into .1
 
     -- its record is read back from there
     pub held : ok o ≡ recordOf (take 84 after)
-    held = record-kept file memory byte o into ∙ ap (λ (m : List ℕ). recordOf (take 84 m)) (sym (open-memory opened))
+    held = record-kept file memory byte o opens (into .2) ∙ ap (λ (m : List ℕ). recordOf (take 84 m)) (sym (open-memory opened))
 
     -- as many zones as it has
     count : (zones : ℕ) → Tzb-zone-count (take 84 after) (pos zones) → zones ≡ o .zones .count

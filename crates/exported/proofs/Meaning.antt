@@ -10,7 +10,7 @@ use Rattle.tzb.specs.FullCheck.{fullCheckOf}
 use Rattle.tzb_core.specs.Decode.{filled}
 use Rattle.tzb_asked.specs.Asked.{zonesAsked, nameAsked, endsAsked, endsAfter, choiceAsked, candidateAsked, containsAsked, decodeAsked, lookupAsked, listAsked}
 use Rattle.tzb_codes.specs.Codes.{doneCode, kindCode, insideCode, zoneCode, checkCode, ruleOf}
-use Rattle.tzb_c.specs.Opens.{openInto, keptIn, lookupOnce}
+use Rattle.tzb_c.specs.Opens.{openInto, lookupOnce}
 use Rattle.tzb_c.specs.Exports.{numberCode, startCode, endCode}
 use Rattle.exported.specs.Calls.{Call, Tzb-open, Tzb-full-check, Tzb-full-check-rule, Tzb-zone-count, Tzb-contains, Tzb-lookup, Tzb-ask, Tzb-ask-all, Tzb-decode, Tzb-name, Tzb-name-start, Tzb-name-end, Tzb-choice, Tzb-candidate}
 use Rattle.plane.specs.Places.{point}
@@ -26,8 +26,8 @@ module _ {file : List ℕ} where
     pub open-answer : Tzb-open file memory r after → r ≡ doneCode (openInto file memory)
     open-answer c = by-contract (λ (v : List ℕ × List ℕ × ℤ × List ℕ). v .2 ≡ doneCode (openInto (v .0) (v .1))) (λ κ a r e p. p .0) c
 
-    pub open-memory : Tzb-open file memory r after → after ≡ keptIn memory (openInto file memory)
-    open-memory c = by-contract (λ (v : List ℕ × List ℕ × ℤ × List ℕ). v .3 ≡ keptIn (v .1) (openInto (v .0) (v .1))) (λ κ a r e p. p .1) c
+    pub open-memory : Tzb-open file memory r after → after ≡ left memory (openInto file memory)
+    open-memory c = by-contract (λ (v : List ℕ × List ℕ × ℤ × List ℕ). v .3 ≡ left (v .1) (openInto (v .0) (v .1))) (λ κ a r e p. p .1) c
 
   pub full-check-answer : {r : ℤ} → Tzb-full-check file r → r ≡ checkCode (fullCheckOf file)
   full-check-answer c = by-contract (λ (v : List ℕ × ℤ). v .1 ≡ checkCode (fullCheckOf (v .0))) (λ κ a r e p. p) c

@@ -1,6 +1,6 @@
 -- Laws of specs/Row, as proofs cite them: lengths, both round trips, a row in parts, a row stored. Nothing here need be believed.
 -- Assumes nothing.
-use Prim.Native.Nat.{ℕ, suc, _+_, _≤_, _<_}
+use Prim.Native.Nat.{ℕ, _+_, _≤_, _<_}
 use native.Mathlib.Omega.{arith}
 use mathlib.Core.Path.{_≡_, refl, sym, ap, ap₂, _∙_}
 use mathlib.Core.List.{List, [], _∷_, _++_, append-assoc, append-nil}
@@ -8,7 +8,7 @@ use lib.ListN.{length, take, drop, getD, length-append, take-append-drop}
 use lib.Seq.{take-suc, take-length, take-add, drop-drop, length-take-le}
 use native.Mathlib.Numerals.{add-one}
 use Rattle.fields.specs.Le.{le}
-use Rattle.fields.specs.Stores.{toLe, laid, Laid, unit}
+use Rattle.fields.specs.Stores.{toLe, laid, Laid}
 use Rattle.fields.specs.Row.{rowWide, rowBytes, rowIn, Held, none, one}
 use Rattle.fields.proofs.Join.{fits}
 use Rattle.fields.proofs.Digits.{number-back, bytes-again}

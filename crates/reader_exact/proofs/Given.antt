@@ -12,7 +12,7 @@ use Rattle.fields.specs.Le.{le}
 use Rattle.boxes.specs.Box.{boxInDomain}
 use Rattle.shapes.specs.Layout.{Span, Names}
 use Rattle.opened.specs.declared.Opened.{Opened}
-use Rattle.reader_records.specs.Records.{recordAt, ruled, listIn, listRule, listAt, zoneAt, polyAt, ringIn, ringRule, ringAt, opRule, opAt, groupIn, groupRule, groupAt, fitsBelow, within}
+use Rattle.reader_records.specs.Records.{recordAt, ruled, listIn, listRule, listAt, zoneAt, polyAt, ringIn, ringRule, ringAt, opRule, opAt, groupIn, groupRule, groupAt, fitsBelow}
 use Rattle.opened.specs.Widths.{listWide, ringWide, opWide, groupWide}
 use Rattle.reader_exact.specs.Directories.{noList, noRing, noGroup, listSpan, ringSpan, groupSpan, zoneRecord, polyRecord, ringRecord, opWord, opGroup, groupRecord}
 use Rattle.reader_exact.specs.Sound.{Sound}

@@ -2,7 +2,7 @@
 ghost use mathlib.Core.Path.{_≡_};
 ghost use Prim.Native.Nat.{_+_, _≤_, _<_};
 ghost use lib.ListN.{length};
-ghost use Rattle.reader_records.specs.Records.{toldPlace, toldList, toldRing, toldOp, toldGroup, toldChunk, directory, recordAt, boxIn, pointIn, listIn, listRule, listAt, zoneAt, polyAt, ringIn, ringRule, ringAt, countRule, opRule, opAt, groupIn, groupRule, groupPlace, groupAt, chunkIn, chunkRule, chunkAt, fitsBelow, within};
+ghost use Rattle.reader_records.specs.Records.{toldPlace, toldList, toldRing, toldOp, toldGroup, toldChunk, directory, recordAt, boxIn, pointIn, listIn, listRule, listAt, zoneAt, polyAt, ringIn, ringRule, ringAt, countRule, opRule, opAt, groupIn, groupRule, groupPlace, groupAt, chunkIn, chunkRule, chunkAt, fitsBelow};
 ghost use Rattle.opened.specs.Widths.{listWide, ringWide, groupWide, chunkWide};
 use answer::Refusal;
 use boxes::BBox;

@@ -12,7 +12,6 @@ use Rattle.boxes.specs.Box.{contains, relevant, right}
 use Rattle.tzb_core.specs.Ray.{rayOf, parityOf}
 use Rattle.tzb_core.specs.Scan.{past}
 use Rattle.opened.specs.declared.Opened.{Opened}
-use Rattle.opened.specs.Widths.{groupWide}
 use Rattle.reader_records.specs.declared.GroupRecord.{GroupRecord}
 use Rattle.reader_records.specs.declared.RingRecord.{RingRecord}
 use Rattle.reader_records.specs.Records.{groupIndex, turnsRound, opAt, groupAt, ringAt, countRule}

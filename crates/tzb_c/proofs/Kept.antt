@@ -2,31 +2,26 @@
 -- Assumes nothing.
 use Prim.Native.Nat.{ℕ, _≤_, _<_}
 use native.Mathlib.Omega.{arith}
-use mathlib.Core.Path.{_≡_, refl, sym, ap, _∙_}
+use mathlib.Core.Path.{_≡_, sym, ap, _∙_}
 use mathlib.Core.List.{List}
 use lib.ListN.{length, take, getD}
 use lib.Ieee.{Float}
-use Rattle.answer.specs.declared.Refusal.{Refusal}
-use Rattle.answer.proofs.CheckLaws.{fine-claim, at-le}
-use Rattle.answer.specs.Answers.{Answer, ok, refused, _then_, _before_, Check, fine}
+use Rattle.answer.specs.Answers.{Answer, ok, _then_, left}
 use Rattle.opened.specs.declared.Opened.{Opened}
 use Rattle.reader_names.specs.Asked as N
 use Rattle.reader_names.proofs.Places.{bounds-good}
 use Rattle.reader_lookup.specs.Asking.{lookupOf}
-use Rattle.tzb_record.specs.Layout.{recordOf, roomFor, Held}
+use Rattle.tzb_record.specs.Layout.{recordWide, recordOf, Held}
 use Rattle.tzb_record.proofs.RoundTrip.{written-back}
-use Rattle.tzb_record.proofs.Widths.{opened-held}
 use Rattle.tzb.specs.Opening.{openOf}
 use Rattle.tzb.proofs.Given.{opened-is, zones-few}
 use Rattle.tzb_asked.specs.Asked.{nameAsked, lookupAsked}
 use Rattle.tzb_asked.proofs.Zones.{found-below}
-use Rattle.tzb_c.specs.Opens.{openInto, keptIn, lookupOnce}
+use Rattle.tzb_c.specs.Opens.{openInto, lookupOnce}
 use Rattle.replies.specs.Replies.{inZone}
 use Rattle.answer.proofs.AnswersLaws.{then-ok, then-inv}
-use Rattle.tzb_c.proofs.OpensLaws.{kept-is}
-
-never : {A : Type 0} {B : Type 0} (a : A) (k : Refusal) → ok a ≡ refused k → B
-never a k e = let no : _≡_ {A = ℕ} 0 1 = cc in absurd (omega arith)
+use Rattle.tzb_c.proofs.OpensLaws.{open-into}
+use Rattle.tzb_c.proofs.OpenedHeld.{opened-held}
 
 -- a name that is given lies in the file
 pub name-inside : (b s : List ℕ) (zone from to : ℕ) → ok (from, to) ≡ nameAsked b s zone → (from ≤ to) × (to ≤ length s)
@@ -35,39 +30,20 @@ name-inside b s zone from to e =
     let t = then-inv (recordOf b) (λ o. N.boundsAt s (o .names .off) (o .zones .count) zone) (from, to) e in
     bounds-good s (t .0 .names .off) (t .0 .zones .count) zone from to (t .2)
 
--- opening into lent memory refuses nothing: neither does opening, and there was room
-into-opened : (s room : List ℕ) (o : Opened) → ok o ≡ openInto s room → ok o ≡ openOf s
-unfolding openInto
-into-opened s room o e = go (openOf s) (roomFor room) e
-  where
-    go : (x : Answer Opened) (c : Check) → ok o ≡ (x then λ p. c before ok p) → ok o ≡ x
-    go (ok p) (ok u) f = f
-    go (ok p) (refused k) f = never _ _ f
-    go (refused k) c f = never _ _ f
-
-into-room : (s room : List ℕ) (o : Opened) → ok o ≡ openInto s room → 84 ≤ length room
-unfolding openInto roomFor
-into-room s room o e = at-le _ _ (fine-claim _ _ (go (openOf s) (roomFor room) e))
-  where
-    go : (x : Answer Opened) (c : Check) → ok o ≡ (x then λ p. c before ok p) → c ≡ fine
-    go (ok p) (ok u) f = refl
-    go (ok p) (refused k) f = never _ _ f
-    go (refused k) c f = never _ _ f
-
--- a file of bytes, each below 256, opened into lent memory
-module _ (s room : List ℕ) (byte : (i : ℕ) → getD s i 0 < 256) (o : Opened) (opened : ok o ≡ openInto s room) where
-  -- the first 84 bytes of that memory are read as opening's own record
-  pub record-kept : ok o ≡ recordOf (take 84 (keptIn room (openInto s room)))
+-- a file of bytes, each below 256, opened into lent memory that has room for its record
+module _ (s room : List ℕ) (byte : (i : ℕ) → getD s i 0 < 256) (o : Opened) (opened : ok o ≡ openOf s) (fits : recordWide ≤ length room) where
+  -- the first bytes of that memory, as many as a record's, are read as opening's own record
+  pub record-kept : ok o ≡ recordOf (take recordWide (left room (openInto s room)))
   record-kept =
-      let held : Held o = rw (opened-is s o (into-opened s room o opened)) (opened-held s byte) in
-      written-back o room held (into-room s room o opened) ∙ ap (λ (m : List ℕ). recordOf (take 84 m)) (kept-is room (openInto s room) o opened)
+      let held : Held o = rw (opened-is s o opened) (opened-held s byte) in
+      written-back o room held fits ∙ ap (λ (x : Answer (List ℕ)). recordOf (take recordWide (left room x))) (open-into s room o opened)
 
   -- so every question that is asked with them is asked of it
-  pub asked-once : {A : Type 0} (f : Opened → Answer A) → (recordOf (take 84 (keptIn room (openInto s room))) then f) ≡ (openOf s then f)
-  asked-once f = sym (then-ok _ f o record-kept) ∙ then-ok _ f o (into-opened s room o opened)
+  pub asked-once : {A : Type 0} (f : Opened → Answer A) → (recordOf (take recordWide (left room (openInto s room))) then f) ≡ (openOf s then f)
+  asked-once f = sym (then-ok _ f o record-kept) ∙ then-ok _ f o opened
 
   -- and the zone of a position is that of opening and asking at once
-  pub lookup-kept : (lng lat : Float) → lookupAsked (take 84 (keptIn room (openInto s room))) s lng lat ≡ lookupOnce s lng lat
+  pub lookup-kept : (lng lat : Float) → lookupAsked (take recordWide (left room (openInto s room))) s lng lat ≡ lookupOnce s lng lat
   unfolding lookupAsked lookupOnce
   lookup-kept lng lat = asked-once (λ o. lookupOf o s lng lat)
 

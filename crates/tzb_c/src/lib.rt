@@ -12,7 +12,7 @@ ghost use Rattle.tzb_core.specs.Decode.{filled};
 ghost use Rattle.tzb.specs.FullCheck.{fullCheckOf};
 ghost use Rattle.tzb_asked.specs.Asked.{zonesAsked, nameAsked, endsAsked, endsAfter, choiceAsked, candidateAsked, containsAsked, decodeAsked, lookupAsked, listAsked};
 ghost use Rattle.tzb_codes.specs.Codes.{bitOf, doneCode, kindCode, listedOf, insideCode, zoneCode, checkCode, ruleOf, seenCode};
-ghost use Rattle.tzb_c.specs.Opens.{openInto, keptIn, lookupOnce};
+ghost use Rattle.tzb_c.specs.Opens.{openInto, lookupOnce};
 ghost use Rattle.tzb_c.specs.Exports.{numberCode, startCode, endCode, numberOf, lengthFrom, boxOf};
 ghost use Rattle.plane.specs.Places.{point, position};
 ghost use Rattle.replies.specs.Replies.{foundTold};
@@ -37,7 +37,7 @@ use tzb_record::RecordRead;
 #[no_mangle]
 pub extern "C" fn tzb_open(file: &[u8], record: &mut [u8]) -> i32
     ensures { λ r. ⌜ r ≡ doneCode (openInto (now (file .entry)) (now («record» .entry))) ⌝ }
-    ensures memory { λ r. ⌜ now («record» .exit) ≡ keptIn (now («record» .entry)) (openInto (now (file .entry)) (now («record» .entry))) ⌝ }
+    ensures memory { λ r. ⌜ now («record» .exit) ≡ left (now («record» .entry)) (openInto (now (file .entry)) (now («record» .entry))) ⌝ }
 {
     let a = tzb::open(file);
     match a {

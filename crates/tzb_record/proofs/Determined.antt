@@ -4,12 +4,12 @@ use mathlib.Core.Path.{_≡_, sym, _∙_}
 use Rattle.basics.specs.Determined.{Determined, DeterminedMemory}
 use Rattle.answer.specs.Answers.{Answer}
 use Rattle.opened.specs.declared.Opened.{Opened}
+use Rattle.tzb_record.specs.Layout.{recordTold}
 use Rattle.tzb_record.specs.declared.RecordRead.{RecordRead}
 use Rattle.tzb_record.specs.declared.RecordRead.the-variants as R
 use Rattle.tzb_record.proofs.read_record.Reads as read-record-reads
 use Rattle.tzb_record.proofs.write_record.Reads as write-record-reads
 use Rattle.answer.proofs.AnswersLaws.{checked-one}
-use Rattle.tzb_record.specs.Layout.{recordTold}
 
 one-record : (a b : RecordRead) (x : Answer Opened) → recordTold a ≡ x → recordTold b ≡ x → a ≡ b
 one-record (R.Is p) (R.Is q) x e f = cc

@@ -1,5 +1,4 @@
 -- What follows from the layout, and laws for the code.
 pub mod LayoutLaws
 pub mod RoundTrip
-pub mod Widths
 pub mod Determined

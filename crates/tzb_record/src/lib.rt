@@ -2,11 +2,9 @@
 ghost use mathlib.Core.Path.{_≡_};
 ghost use Prim.Native.Nat.{_+_, _≤_};
 ghost use lib.ListN.{length};
-ghost use mir.Syntax.{w16};
-ghost use mir.Val.{ofZ};
-ghost use Rattle.answer.specs.Answers.{checkedTold};
-ghost use Rattle.fields.specs.Stores.{toLe, Laid};
-ghost use Rattle.tzb_record.specs.Layout.{pairBytes, directoriesBytes, gridBytes, bytesOf, sectionIn, directoryIn, gridIn, openedIn, recordOf, roomFor, written, recordTold};
+ghost use Rattle.fields.specs.Le.{le};
+ghost use Rattle.answer.specs.Answers.{checkedTold, outcome, left};
+ghost use Rattle.tzb_record.specs.Layout.{recordWide, numbersOf, openedIn, recordOf, recordInto, recordTold};
 use answer::Checked;
 use answer::Refusal;
 use opened::Directory;
@@ -20,11 +18,11 @@ pub enum RecordRead {
     Refused(Refusal),
 }
 
-// ---- from bytes
+// ---- from bytes: each field is loaded where it stands
 
 fn section_in(s: &[u8], at: usize) -> Section
     requires { ⌜ at + 8 ≤ length (now s) ⌝ }
-    ensures { λ r. ⌜ r ≡ sectionIn (now (s .entry)) at ⌝ }
+    ensures { λ r. ⌜ (r .off ≡ le 4 (now (s .entry)) at) × (r .len ≡ le 4 (now (s .entry)) (at + 4)) ⌝ }
 {
     Section {
         off: fields::u32_at(s, at),
@@ -34,7 +32,7 @@ fn section_in(s: &[u8], at: usize) -> Section
 
 fn directory_in(s: &[u8], at: usize) -> Directory
     requires { ⌜ at + 8 ≤ length (now s) ⌝ }
-    ensures { λ r. ⌜ r ≡ directoryIn (now (s .entry)) at ⌝ }
+    ensures { λ r. ⌜ (r .off ≡ le 4 (now (s .entry)) at) × (r .count ≡ le 4 (now (s .entry)) (at + 4)) ⌝ }
 {
     Directory {
         off: fields::u32_at(s, at),
@@ -42,22 +40,22 @@ fn directory_in(s: &[u8], at: usize) -> Directory
     }
 }
 
-fn grid_in(s: &[u8], at: usize) -> Grid
-    requires { ⌜ at + 16 ≤ length (now s) ⌝ }
-    ensures { λ r. ⌜ r ≡ gridIn (now (s .entry)) at ⌝ }
+fn grid_in(s: &[u8]) -> Grid
+    requires { ⌜ length (now s) ≡ recordWide ⌝ }
+    ensures { λ r. ⌜ r ≡ openedIn (now (s .entry)) .grid ⌝ }
 {
     Grid {
-        off: fields::u32_at(s, at),
-        lng: fields::i16_at(s, at + 4),
-        lat: fields::i16_at(s, at + 6),
-        cols: fields::u16_at(s, at + 8),
-        rows: fields::u16_at(s, at + 10),
-        total: fields::u32_at(s, at + 12),
+        off: fields::u32_at(s, 68),
+        lng: fields::i16_at(s, 72),
+        lat: fields::i16_at(s, 74),
+        cols: fields::u16_at(s, 76),
+        rows: fields::u16_at(s, 78),
+        total: fields::u32_at(s, 80),
     }
 }
 
 fn opened_in(s: &[u8]) -> Opened
-    requires { ⌜ length (now s) ≡ 84 ⌝ }
+    requires { ⌜ length (now s) ≡ recordWide ⌝ }
     ensures { λ r. ⌜ r ≡ openedIn (now (s .entry)) ⌝ }
 {
     let flags = fields::u32_at(s, 0);
@@ -69,7 +67,7 @@ fn opened_in(s: &[u8]) -> Opened
     let groups = directory_in(s, 44);
     let chunks = directory_in(s, 52);
     let points = section_in(s, 60);
-    let grid = grid_in(s, 68);
+    let grid = grid_in(s);
     Opened {
         flags,
         names,
@@ -84,92 +82,88 @@ fn opened_in(s: &[u8]) -> Opened
     }
 }
 
-// The record that stands in the bytes, or 44 where they are not 84.
+// How many bytes a record takes: the sum of the widths.
+const RECORD_WIDE: usize = 84;
+
+// The record that stands in the bytes, or 44 where they are not as many as a record's.
 pub fn read_record(bytes: &[u8]) -> RecordRead
     ensures { λ r. ⌜ recordTold r ≡ recordOf (now (bytes .entry)) ⌝ }
 {
-    if bytes.len() != 84 {
+    if bytes.len() != RECORD_WIDE {
         return RecordRead::Refused(answer::refuse(44));
     }
     RecordRead::Is(opened_in(bytes))
 }
 
-// ---- to bytes
+// ---- to bytes: the numbers, then a row of them
 
-fn put32(out: &mut [u8], at: usize, x: u32)
-    requires { ⌜ at + 4 ≤ length (now out) ⌝ }
-    ensures { λ _. ⌜ Laid (now (out .entry)) at (toLe 4 x) (now (out .exit)) ⌝ }
-{
-    fields::store(out, at, 4, x as u64);
-}
+const FIELDS: usize = 23;
 
-fn put16(out: &mut [u8], at: usize, x: u16)
-    requires { ⌜ at + 2 ≤ length (now out) ⌝ }
-    ensures { λ _. ⌜ Laid (now (out .entry)) at (toLe 2 x) (now (out .exit)) ⌝ }
-{
-    fields::store(out, at, 2, x as u64);
-}
+const WIDTHS: [usize; FIELDS] = [
+    4,
+    4,
+    4,
+    4,
+    4,
+    4,
+    4,
+    4,
+    4,
+    4,
+    4,
+    4,
+    4,
+    4,
+    4,
+    4,
+    4,
+    4,
+    2,
+    2,
+    2,
+    2,
+    4,
+];
 
-fn put_i16(out: &mut [u8], at: usize, z: i16)
-    requires { ⌜ at + 2 ≤ length (now out) ⌝ }
-    ensures { λ _. ⌜ Laid (now (out .entry)) at (toLe 2 (ofZ w16 z)) (now (out .exit)) ⌝ }
+fn numbers(o: Opened) -> [u64; FIELDS]
+    ensures { λ r. ⌜ r ≡ numbersOf o ⌝ }
 {
-    put16(out, at, fields::bits16(z));
-}
-
-// Two numbers of 32 bits, as a section or a directory has them.
-fn put_pair(out: &mut [u8], at: usize, a: u32, b: u32)
-    requires { ⌜ at + 8 ≤ length (now out) ⌝ }
-    ensures { λ _. ⌜ Laid (now (out .entry)) at (pairBytes a b) (now (out .exit)) ⌝ }
-{
-    put32(out, at, a);
-    put32(out, at + 4, b);
-}
-
-fn put_grid(out: &mut [u8], at: usize, g: Grid)
-    requires { ⌜ at + 16 ≤ length (now out) ⌝ }
-    ensures { λ _. ⌜ Laid (now (out .entry)) at (gridBytes g) (now (out .exit)) ⌝ }
-{
-    put32(out, at, g.off);
-    put_i16(out, at + 4, g.lng);
-    put_i16(out, at + 6, g.lat);
-    put16(out, at + 8, g.cols);
-    put16(out, at + 10, g.rows);
-    put32(out, at + 12, g.total);
-}
-
-// The six directories.
-fn put_directories(out: &mut [u8], o: Opened)
-    requires { ⌜ 60 ≤ length (now out) ⌝ }
-    ensures { λ _. ⌜ Laid (now (out .entry)) 12 (directoriesBytes o) (now (out .exit)) ⌝ }
-{
-    put_pair(out, 12, o.zones.off, o.zones.count);
-    put_pair(out, 20, o.polys.off, o.polys.count);
-    put_pair(out, 28, o.rings.off, o.rings.count);
-    put_pair(out, 36, o.ops.off, o.ops.count);
-    put_pair(out, 44, o.groups.off, o.groups.count);
-    put_pair(out, 52, o.chunks.off, o.chunks.count);
-}
-
-fn put_opened(out: &mut [u8], o: Opened)
-    requires { ⌜ 84 ≤ length (now out) ⌝ }
-    ensures { λ _. ⌜ Laid (now (out .entry)) 0 (bytesOf o) (now (out .exit)) ⌝ }
-{
-    put32(out, 0, o.flags);
-    put_pair(out, 4, o.names.off, o.names.len);
-    put_directories(out, o);
-    put_pair(out, 60, o.points.off, o.points.len);
-    put_grid(out, 68, o.grid);
+    [
+        o.flags as u64,
+        o.names.off as u64,
+        o.names.len as u64,
+        o.zones.off as u64,
+        o.zones.count as u64,
+        o.polys.off as u64,
+        o.polys.count as u64,
+        o.rings.off as u64,
+        o.rings.count as u64,
+        o.ops.off as u64,
+        o.ops.count as u64,
+        o.groups.off as u64,
+        o.groups.count as u64,
+        o.chunks.off as u64,
+        o.chunks.count as u64,
+        o.points.off as u64,
+        o.points.len as u64,
+        o.grid.off as u64,
+        fields::bits16(o.grid.lng) as u64,
+        fields::bits16(o.grid.lat) as u64,
+        o.grid.cols as u64,
+        o.grid.rows as u64,
+        o.grid.total as u64,
+    ]
 }
 
 // The record's bytes into lent memory; 46 where there is no room for them, and then nothing is written. What lies behind is never touched.
 pub fn write_record(o: Opened, out: &mut [u8]) -> Checked
-    ensures { λ r. ⌜ checkedTold r ≡ roomFor (now (out .entry)) ⌝ }
-    ensures memory { λ r. ⌜ now (out .exit) ≡ written o (now (out .entry)) ⌝ }
+    ensures { λ r. ⌜ checkedTold r ≡ outcome (recordInto o (now (out .entry))) ⌝ }
+    ensures memory { λ r. ⌜ now (out .exit) ≡ left (now (out .entry)) (recordInto o (now (out .entry))) ⌝ }
 {
-    if out.len() < 84 {
+    if out.len() < RECORD_WIDE {
         return answer::fail(46);
     }
-    put_opened(out, o);
+    let ns = numbers(o);
+    fields::store_row(out, 0, &WIDTHS, &ns);
     Checked::Fine
 }

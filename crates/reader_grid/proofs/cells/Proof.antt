@@ -1,11 +1,10 @@
 -- `cells` meets its contract. The loop's invariant: what is left of the cells answers as all of them do.
 -- Assumes nothing.
-use Prim.Native.Nat.{_≤_, _<_, _-_, _+_}
+use Prim.Native.Nat.{_≤_, _<_, _-_, _+_, _*_}
 use mathlib.Core.Path.{_≡_, _∙_, sym, ap}
 use Rattle.answer.specs.Answers.{checkedTold}
 use Rattle.answer.specs.Checks.{each}
 use Rattle.answer.proofs.CheckLaws.{each-start, each-stop, each-fine, each-end}
-use Prim.Native.Nat.{_*_}
 use lib.ListN.{length}
 use Rattle.reader_grid.specs.Grid.{cellCheck}
 use native.Mathlib.Omega.{arith}

@@ -4,7 +4,6 @@ use mathlib.Core.Path.{_∙_}
 use mir.Syntax.{w16}
 use mir.ValLaws.{toZ-ofZ}
 use native.Mathlib.Omega.{arith}
-use native.Mathlib.Omega.{arith}
 use borrow.Author.Needs.{needs}
 use Rattle.reader_opened.proofs.grid_of.Statement.{statement}
 use Rattle.reader_opened.proofs.grid_of.Tie as tie

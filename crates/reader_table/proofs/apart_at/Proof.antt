@@ -1,13 +1,12 @@
 -- `reader_table::apart_at` meets its contract.
 -- Assumes nothing.
 use mathlib.Core.Path.{ap, _∙_, _≡_}
-use Rattle.reader_table.specs.Table.{apartAt}
+use Rattle.reader_table.specs.Table.{apartAt, apart}
 use Rattle.answer.specs.Checks.{claim}
 use borrow.Author.Needs.{needs}
 use Rattle.reader_table.proofs.apart_at.Statement.{statement}
 use Rattle.reader_table.proofs.apart_at.Tie as tie
 use Prim.Native.Nat.{ℕ}
-use Rattle.reader_table.specs.Table.{apart}
 
 same-parts : (a m b n a' m' b' n' : ℕ) → a ≡ a' → m ≡ m' → b ≡ b' → n ≡ n' → apart a m b n ≡ apart a' m' b' n'
 same-parts a m b n a' m' b' n' p q r t = rw (p, q, r, t)

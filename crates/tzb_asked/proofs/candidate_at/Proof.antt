@@ -1,12 +1,12 @@
 -- `candidate_at` meets its contract: the record first, then the question.
 -- Assumes nothing.
 use mathlib.Core.Path.{sym, ap, _∙_}
+use Rattle.tzb_record.specs.Layout.{recordTold}
 use Rattle.tzb_asked.specs.Asked.{candidateAsked}
 use borrow.Author.Needs.{needs}
 use Rattle.tzb_asked.proofs.candidate_at.Statement.{statement}
 use Rattle.tzb_asked.proofs.candidate_at.Tie as tie
 use Rattle.tzb_asked.proofs.AskedLaws.{barred, asked}
-use Rattle.tzb_record.specs.Layout.{recordTold}
 
 read-record-requires : tie.Need-read-record-requires
 read-record-requires c κs = search needs

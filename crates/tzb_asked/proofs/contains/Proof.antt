@@ -5,13 +5,13 @@ use lib.IntN.{ℤ}
 use mir.Syntax.{w32}
 use mir.ValLaws.{toZ-ofZ}
 use Rattle.reader_zones.specs.Zones.{containsAt}
+use Rattle.tzb_record.specs.Layout.{recordTold}
 use Rattle.tzb_asked.specs.Asked.{containsAsked}
 use borrow.Author.Needs.{needs}
 use Rattle.tzb_asked.proofs.contains.Statement.{statement}
 use Rattle.tzb_asked.proofs.contains.Tie as tie
 use Rattle.plane.specs.Places.{point}
 use Rattle.tzb_asked.proofs.AskedLaws.{barred, asked}
-use Rattle.tzb_record.specs.Layout.{recordTold}
 
 read-record-requires : tie.Need-read-record-requires
 read-record-requires c κs = search needs

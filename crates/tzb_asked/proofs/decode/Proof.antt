@@ -2,13 +2,13 @@
 -- Assumes nothing.
 use mathlib.Core.Path.{sym, ap, _∙_}
 use Rattle.tzb_core.specs.Decode.{filled}
+use Rattle.tzb_record.specs.Layout.{recordTold}
 use borrow.Author.Needs.{needs}
 use Rattle.tzb_asked.proofs.decode.Statement.{statement}
 use Rattle.tzb_asked.proofs.decode.Tie as tie
 use Rattle.answer.specs.Answers.{howMany}
 use Rattle.tzb_asked.proofs.AskedLaws.{decode-barred, decode-asked}
 use Rattle.answer.proofs.AnswersLaws.{many-no}
-use Rattle.tzb_record.specs.Layout.{recordTold}
 
 read-record-requires : tie.Need-read-record-requires
 read-record-requires c κs = search needs

@@ -1,12 +1,12 @@
 -- `lookup` meets its contract: the record first, then the question.
 -- Assumes nothing.
 use mathlib.Core.Path.{sym, ap, _∙_}
+use Rattle.tzb_record.specs.Layout.{recordTold}
 use Rattle.tzb_asked.specs.Asked.{lookupAsked}
 use borrow.Author.Needs.{needs}
 use Rattle.tzb_asked.proofs.lookup.Statement.{statement}
 use Rattle.tzb_asked.proofs.lookup.Tie as tie
 use Rattle.tzb_asked.proofs.AskedLaws.{barred, asked}
-use Rattle.tzb_record.specs.Layout.{recordTold}
 
 read-record-requires : tie.Need-read-record-requires
 read-record-requires c κs = search needs

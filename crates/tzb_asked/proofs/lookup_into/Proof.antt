@@ -2,13 +2,13 @@
 -- Assumes nothing.
 use mathlib.Core.Path.{sym, ap, _∙_}
 use lib.ListN.{length}
+use Rattle.tzb_record.specs.Layout.{recordTold}
 use borrow.Author.Needs.{needs}
 use Rattle.tzb_asked.proofs.lookup_into.Statement.{statement}
 use Rattle.tzb_asked.proofs.lookup_into.Tie as tie
 use Rattle.answer.specs.Answers.{left, howMany}
 use Rattle.tzb_asked.proofs.AskedLaws.{list-barred, list-asked}
 use Rattle.answer.proofs.AnswersLaws.{many-no}
-use Rattle.tzb_record.specs.Layout.{recordTold}
 
 read-record-requires : tie.Need-read-record-requires
 read-record-requires c κs = search needs

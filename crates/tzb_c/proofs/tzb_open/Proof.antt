@@ -10,7 +10,9 @@ use Rattle.tzb_c.proofs.tzb_open.Statement.{statement}
 use Rattle.tzb_c.proofs.tzb_open.Tie as tie
 use Rattle.replies.specs.Replies.{openingTold}
 use Rattle.tzb_codes.proofs.CodesLaws.{done-outcome}
-use Rattle.tzb_c.proofs.OpensLaws.{open-barred, open-room, kept-no, kept-room}
+use Rattle.answer.specs.Answers.{outcome, left}
+use Rattle.answer.proofs.AnswersLaws.{left-no}
+use Rattle.tzb_c.proofs.OpensLaws.{open-barred, open-into}
 
 open-requires : tie.Need-open-requires
 open-requires c κs = search needs
@@ -35,7 +37,7 @@ returns c =
     let o = c .before .before .before .before in
     let a = o .before .before .before .args in
     let e = open-barred (a .file .now) (a .«record» .now) _ (sym (ap openingTold (c .before .before .a .given .1)) ∙ o .«open» .ensures) in
-    (back w32 _ (c .refusal-code .ok) ∙ c .refusal-code .ensures ∙ ap doneCode e, kept-no _ _ _ e)
+    (back w32 _ (c .refusal-code .ok) ∙ c .refusal-code .ensures ∙ ap doneCode e, left-no _ _ e _)
 
 same-length : tie.Need-same-length
 same-length c = search needs
@@ -48,8 +50,8 @@ returns-2 c =
     let room = o .before .before .before .args .«record» .now in
     let opened = sym (ap openingTold (w .before .before .before .a2 .given .1)) ∙ o .«open» .ensures in (
       back w32 _ (c .done-code .ok) ∙ c .done-code .ensures
-          ∙ ap doneCode (w .write-record .ensures .0 ∙ open-room s room _ opened) ∙ done-outcome (openInto s room),
-      w .write-record .ensures .1 ∙ kept-room s room _ opened,
+          ∙ ap doneCode (w .write-record .ensures .0 ∙ ap outcome (open-into s room _ opened)) ∙ done-outcome (openInto s room),
+      w .write-record .ensures .1 ∙ ap (left room) (open-into s room _ opened),
     )
 
 pub tzb-open-spec : {M : Type 1} → statement M

@@ -11,32 +11,17 @@ use Rattle.tzb_record.proofs.LayoutLaws.{grid-is}
 u32-at-requires : tie.Need-u32-at-requires
 u32-at-requires c κs = search needs
 
-add-i16-at : tie.Need-add-i16-at
-add-i16-at c = search needs
-
 i16-at-requires : tie.Need-i16-at-requires
 i16-at-requires c κs = search needs
-
-add-i16-at-2 : tie.Need-add-i16-at-2
-add-i16-at-2 c = search needs
 
 i16-at-requires-2 : tie.Need-i16-at-requires-2
 i16-at-requires-2 c κs = search needs
 
-add-u16-at : tie.Need-add-u16-at
-add-u16-at c = search needs
-
 u16-at-requires : tie.Need-u16-at-requires
 u16-at-requires c κs = search needs
 
-add-u16-at-2 : tie.Need-add-u16-at-2
-add-u16-at-2 c = search needs
-
 u16-at-requires-2 : tie.Need-u16-at-requires-2
 u16-at-requires-2 c κs = search needs
-
-add-u32-at : tie.Need-add-u32-at
-add-u32-at c = search needs
 
 u32-at-requires-2 : tie.Need-u32-at-requires-2
 u32-at-requires-2 c κs = search needs
@@ -46,7 +31,7 @@ returns c =
     let lat = c .before .before .before in
     let x = lat .before .i16-at in
     let y = lat .i16-at2 in
-    grid-is _ _ _ _ _ _ _ _ (lat .before .before .u32-at .ensures)
+    grid-is _ _ _ _ _ _ _ (lat .before .before .u32-at .ensures)
     (toZ-ofZ w16 (x .result) (record { sfits = x .ok }) ∙ x .ensures) (toZ-ofZ w16 (y .result) (record { sfits = y .ok }) ∙ y .ensures)
     (c .before .before .u16-at .ensures) (c .before .u16-at2 .ensures) (c .u32-at2 .ensures)
 
@@ -55,14 +40,9 @@ grid-in-spec =
     tie.close
     (tie.spec
     u32-at-requires
-    add-i16-at
     i16-at-requires
-    add-i16-at-2
     i16-at-requires-2
-    add-u16-at
     u16-at-requires
-    add-u16-at-2
     u16-at-requires-2
-    add-u32-at
     u32-at-requires-2
     returns)
