@@ -20,9 +20,10 @@ use Rattle.reader_names.proofs.Accepted.{NameGiven}
 use Rattle.reader_grid.specs.Asked.{candidateAt}
 use Rattle.reader_grid.proofs.Accepted.{ListedZone, AllZones}
 use Rattle.reader_zones.specs.Zones.{zoneOf}
-use Rattle.reader_lookup.specs.Asking.{scaled, candidateOf, hitAt, orElse, firstHit, also, allHits, unlooked, lookupAmong, hitsAmong, namesRead}
+use Rattle.reader_lookup.specs.Asking.{scaled, candidateOf, hitAt, orElse, firstHit, unlooked, lookupAmong}
 use Rattle.demands.specs.Lookups.{zoneListed, candidateZones, firstThat, allThat, shortcut}
 use Rattle.replies.specs.Replies.{Chosen, none, all, listed, Sought, nowhere, inZone}
+use Rattle.reader_listing.specs.All.{also, allHits, hitsAmong, namesRead}
 
 -- ---- a row of candidates
 abbrev hitOf : (ℕ → Bool) → ℕ → Sought

@@ -16,7 +16,7 @@ use Rattle.reader_order.specs.Order.{ordered}
 use Rattle.reader_grid.specs.Asked.{candidatesOf}
 use Rattle.reader_grid.proofs.Accepted.{AllZones}
 use Rattle.reader_zones.specs.Zones.{zoneOf}
-use Rattle.reader_lookup.specs.Asking.{scaled, unlooked, lookupOf, hitsOf, placed, listFor, listOf}
+use Rattle.reader_lookup.specs.Asking.{scaled, unlooked, lookupOf}
 use Rattle.reader_exact.proofs.Exact.{walk-exact}
 use Rattle.tzb.specs.Opening.{openOf}
 use Rattle.tzb.specs.FullCheck.{fullCheckOf}
@@ -30,6 +30,7 @@ use Rattle.demands.proofs.Hits.{candidates-known, kept-known, hits-amon
 use Rattle.plane.specs.Places.{pointOf}
 use Rattle.replies.specs.Replies.{Chosen, listed, inZone, accepted}
 use Rattle.answer.proofs.AnswersLaws.{ok-inv}
+use Rattle.reader_listing.specs.All.{hitsOf, placed, listFor, listOf}
 
 -- ---- for any test that the zones' answers are
 module _ (file : List ℕ) (o : Opened) (opened : ok o ≡ openOf file) (lng lat : Float) (c : Chosen) (chosen : ok c ≡ candidatesOf o file lng lat) where

@@ -24,7 +24,7 @@ use Rattle.reader_dirs.specs.Dirs.{chunkOf}
 use Rattle.reader_chunks.specs.Chunks.{chunkPoints, decodeIn}
 use Rattle.reader_zones.specs.Zones.{zoneOf}
 use Rattle.reader_order.specs.Order.{ordered}
-use Rattle.reader_lookup.specs.Asking.{scaled, unlooked, lookupOf, hitsOf, listOf}
+use Rattle.reader_lookup.specs.Asking.{scaled, unlooked, lookupOf}
 use Rattle.reader_exact.specs.Directories.{directories}
 use Rattle.reader_exact.specs.Sound.{Sound}
 use Rattle.reader_exact.proofs.Chunks.{first-given}
@@ -41,6 +41,7 @@ use Rattle.demands.proofs.Demand3.{contains-is}
 use Rattle.demands.proofs.Lookups.{first-zone, all-zones, zones-into, lookup-short}
 use Rattle.replies.specs.Replies.{Chosen, none, all, listed, accepted}
 use Rattle.answer.proofs.AnswersLaws.{need-met, ok-inv}
+use Rattle.reader_listing.specs.All.{hitsOf, listOf}
 
 gives : {A : Type 0} (x : Answer A) (a : A) → x ≡ ok a → Given x
 gives x a e = record { value = a; is = sym e }

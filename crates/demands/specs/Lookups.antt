@@ -23,9 +23,10 @@ use Rattle.opened.specs.declared.Opened.{Opened}
 use Rattle.reader_names.specs.Asked.{nameOr}
 use Rattle.reader_grid.specs.Asked.{candidateAt}
 use Rattle.reader_order.specs.Order.{ordered}
-use Rattle.reader_lookup.specs.Asking.{unlooked, lookupOf, listOf}
+use Rattle.reader_lookup.specs.Asking.{unlooked, lookupOf}
 use Rattle.reader_exact.specs.Directories.{directories}
 use Rattle.replies.specs.Replies.{Chosen, none, all, listed, Sought, nowhere, inZone}
+use Rattle.reader_listing.specs.All.{listOf}
 
 -- the zone contains the point exactly
 abbrev pub exactlyIn : Opened → List ℕ → I32Point → ℕ → Bool

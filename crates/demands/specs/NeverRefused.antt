@@ -17,8 +17,9 @@ use Rattle.reader_records.specs.declared.ChunkRecord.{ChunkRecord}
 use Rattle.reader_records.specs.Records.{zoneAt, polyAt, ringAt, opAt, groupAt, chunkAt}
 use Rattle.reader_chunks.specs.Chunks.{firstAt, chunkPoints, decodeIn}
 use Rattle.reader_zones.specs.Zones.{zoneOf, containsAt}
-use Rattle.reader_lookup.specs.Asking.{lookupOf, hitsOf, listOf}
+use Rattle.reader_lookup.specs.Asking.{lookupOf}
 use Rattle.replies.specs.Replies.{listed}
+use Rattle.reader_listing.specs.All.{hitsOf, listOf}
 
 pub record NeverRefused (file : List ℕ) (o : Opened) : Type 0 where
   -- records

@@ -9,8 +9,7 @@ use lib.IntN.{pos, negsuc}
 use Rattle.answer.specs.declared.Refusal.{Refusal}
 use Rattle.answer.specs.Refusals.{refusal}
 use Rattle.answer.specs.Answers.{Answer, ok, refused, no}
-use Rattle.tzb_codes.specs.Codes.{refusalCode, doneCode, kindCode, insideCode, zoneCode}
-use Rattle.tzb_c.specs.Exports.{numberCode, startCode, endCode}
+use Rattle.tzb_codes.specs.Codes.{refusalCode, doneCode, kindCode, insideCode, zoneCode, numberCode, startCode, endCode}
 use Rattle.exported.specs.Words.{refusing, Refuses}
 use Rattle.exported.specs.Words as W
 use Rattle.exported.specs.Demand1.{NumberOrRefusal}

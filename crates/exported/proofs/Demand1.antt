@@ -24,9 +24,8 @@ use Rattle.tzb_asked.specs.Asked.{zonesAsked, nameAsked, endsAsked, endsAfter, 
 use Rattle.tzb_asked.proofs.Zones.{found-below}
 use Rattle.tzb.specs.Opening.{openedIs}
 use Rattle.tzb.specs.FullCheck.{fullCheckOf}
-use Rattle.tzb_codes.specs.Codes.{refusalCode, doneCode, zoneCode, checkCode, ruleOf}
+use Rattle.tzb_codes.specs.Codes.{refusalCode, doneCode, zoneCode, checkCode, ruleOf, numberCode}
 use Rattle.tzb_c.specs.Opens.{openInto, lookupOnce}
-use Rattle.tzb_c.specs.Exports.{numberCode}
 use Rattle.tzb_c.proofs.Kept.{once-small}
 use Rattle.exported.specs.Words.{Refuses}
 use Rattle.exported.specs.Demand1.{NumberOrRefusal, NumberOrAsItWas, DoneOrAsItWas, ZoneNoneOrRefusal, Demand1}

@@ -24,9 +24,8 @@ use Rattle.demands.specs.Words.{InZone}
 use Rattle.demands.proofs.Accepted.{accepts-exactly}
 use Rattle.demands.proofs.Demand3.{contains-is}
 use Rattle.demands.proofs.Words.{zone-in-words}
-use Rattle.tzb_codes.specs.Codes.{doneCode, insideCode, checkCode}
+use Rattle.tzb_codes.specs.Codes.{doneCode, insideCode, checkCode, numberCode}
 use Rattle.tzb_c.specs.Opens.{openInto}
-use Rattle.tzb_c.specs.Exports.{numberCode}
 use Rattle.tzb_c.proofs.Kept.{record-kept}
 use Rattle.exported.specs.Calls.{Tzb-open, Tzb-full-check, Tzb-zone-count, Tzb-contains}
 use Rattle.exported.specs.Words.{refusing, Bytes, shapeOf}

@@ -9,9 +9,8 @@ use lib.ListN.{length}
 use Rattle.tzb.specs.FullCheck.{fullCheckOf}
 use Rattle.tzb_core.specs.Decode.{filled}
 use Rattle.tzb_asked.specs.Asked.{zonesAsked, nameAsked, endsAsked, endsAfter, choiceAsked, candidateAsked, containsAsked, decodeAsked, lookupAsked, listAsked}
-use Rattle.tzb_codes.specs.Codes.{doneCode, kindCode, insideCode, zoneCode, checkCode, ruleOf}
+use Rattle.tzb_codes.specs.Codes.{doneCode, kindCode, insideCode, zoneCode, checkCode, ruleOf, numberCode, startCode, endCode}
 use Rattle.tzb_c.specs.Opens.{openInto, lookupOnce}
-use Rattle.tzb_c.specs.Exports.{numberCode, startCode, endCode}
 use Rattle.exported.specs.Calls.{Call, Tzb-open, Tzb-full-check, Tzb-full-check-rule, Tzb-zone-count, Tzb-contains, Tzb-lookup, Tzb-ask, Tzb-ask-all, Tzb-decode, Tzb-name, Tzb-name-start, Tzb-name-end, Tzb-choice, Tzb-candidate}
 use Rattle.plane.specs.Places.{point}
 use Rattle.answer.specs.Answers.{left, howMany}

@@ -44,11 +44,12 @@ use Rattle.reader_rings.specs.declared.Turned.{Turned}
 use Rattle.reader_rings.specs.declared.Round.{Round}
 use Rattle.reader_rings.specs.Rings.{turnedAt, jointOf, groupWalk, turnWalk, opStep, opsFrom, ringEnd, ringRest, ringOf, ringContains}
 use Rattle.reader_zones.specs.Zones.{polyOf, zoneOf, containsAt, firstSo}
-use Rattle.reader_lookup.specs.Asking.{scaled, unlooked, candidateOf, hitAt, orElse, firstHit, lookupAmong, lookupOf, allHits, hitsAmong, hitsOf, namesRead, placed, listFor, listOf}
+use Rattle.reader_lookup.specs.Asking.{scaled, unlooked, candidateOf, hitAt, orElse, firstHit, lookupAmong, lookupOf}
 use Rattle.tzb_record.specs.Layout.{recordOf}
 use Rattle.exported.proofs.Tabled.{Numbered, Tabled, TabledWalk, given, need-t, then-t, either-way, walked, must-t, past-t, verdict-t, go-t, yields-t, fine-t, and-t, outcome-t, before-t}
 use Rattle.plane.specs.Places.{pointOf}
 use Rattle.replies.specs.Replies.{Chosen, none, all, listed, Sought, nowhere, inZone}
+use Rattle.reader_listing.specs.All.{allHits, hitsAmong, hitsOf, namesRead, placed, listFor, listOf}
 
 -- 1 to 46
 abbrev Q : {A : Type 0} → Answer A → Type 0

@@ -4,18 +4,16 @@ use Prim.Native.Nat.{ℕ, suc, _+_, _-_, _≤_, _<_}
 use native.Mathlib.Omega.{arith}
 use mathlib.Core.Path.{_≡_, refl, ap, _∙_}
 use mathlib.Core.Bool.{Bool, true, false}
-use mathlib.Core.List.{List, []}
+use mathlib.Core.List.{List}
 use lib.Ieee.{Float}
 use Rattle.plane.specs.declared.Point.{Point}
 use Rattle.answer.specs.declared.Refusal.{Refusal}
 use Rattle.answer.specs.Answers.{Answer, ok, refused, _then_}
-use Rattle.answer.proofs.CheckLaws.{le-at}
 use Rattle.opened.specs.declared.Opened.{Opened}
-use Rattle.reader_order.specs.Order.{ordered, insertAll}
 use Rattle.reader_grid.specs.Asked.{candidatesOf, candidateAt}
 use Rattle.reader_zones.specs.Zones.{zoneOf}
 use Rattle.replies.specs.Replies.{Chosen, none, all, listed, Sought, nowhere, inZone}
-use Rattle.reader_lookup.specs.Asking.{scaled, candidateOf, hitAt, orElse, firstHit, unlooked, lookupAmong, lookupOf, allHits, hitsAmong, hitsOf, namesRead, placed, listFor, listOf}
+use Rattle.reader_lookup.specs.Asking.{scaled, candidateOf, hitAt, orElse, firstHit, unlooked, lookupAmong, lookupOf}
 
 module _ (o : Opened) (s : List ℕ) (grid : Bool) (place : ℕ) where
   pub candidate-listed : grid ≡ true → candidateAt o s place ≡ candidateOf o s grid place
@@ -97,22 +95,3 @@ module _ (o : Opened) (s : List ℕ) (lng lat : Float) where
   pub lookup-by : (c : Chosen) (x : Answer Sought) → ok c ≡ candidatesOf o s lng lat → x ≡ lookupAmong o s lng lat c → x ≡ lookupOf o s lng lat
   unfolding lookupOf
   lookup-by c x h e = rw (← h) e
-
-  -- all zones that contain the point, into that many places
-  module _ (places : ℕ) where
-    pub into-no : (k : Refusal) → refused k ≡ candidatesOf o s lng lat → refused k ≡ listOf o s lng lat places
-    unfolding listOf hitsOf
-    into-no k h = rw (← h)
-
-    pub into-none : ok none ≡ candidatesOf o s lng lat → ok [] ≡ listOf o s lng lat places
-    unfolding listOf hitsOf hitsAmong listFor namesRead placed ordered insertAll
-    into-none h = rw (← h, le-at 0 places (omega arith))
-
-    module _ (p : Point) (e : p ≡ scaled lng lat) (n : ℕ) where
-      pub into-all : ok (all n) ≡ candidatesOf o s lng lat → (allHits (hitAt o s p false) n 0 then listFor o s places) ≡ listOf o s lng lat places
-      unfolding listOf hitsOf hitsAmong
-      into-all h = rw (← h, e)
-
-      pub into-listed : (place : ℕ) → ok (listed n place) ≡ candidatesOf o s lng lat → (allHits (hitAt o s p true) n place then listFor o s places) ≡ listOf o s lng lat places
-      unfolding listOf hitsOf hitsAmong
-      into-listed place h = rw (← h, e)

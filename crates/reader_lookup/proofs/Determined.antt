@@ -1,17 +1,17 @@
 -- Any two answers that a promise allows are equal, and so is the lent memory: stated over the contracts themselves. Two values of an enum that tell the same are the same.
 -- Assumes nothing.
 use mathlib.Core.Path.{sym, _∙_}
-use Rattle.basics.specs.Determined.{Determined, DeterminedMemory}
+use Rattle.basics.specs.Determined.{Determined}
 use Rattle.reader_lookup.proofs.lookup.Reads as lookup-reads
-use Rattle.reader_lookup.proofs.lookup_into.Reads as lookup-into-reads
-use Rattle.replies.proofs.One.{one-found, one-listing}
+use Rattle.replies.proofs.One.{one-found}
+use Rattle.reader_lookup.proofs.scaled_at.Reads as scaled-at-reads
+use Rattle.reader_lookup.proofs.hit_at.Reads as hit-at-reads
 
 pub lookup : Determined lookup-reads.Learnt
 lookup κ a r r' e e' p q = one-found r r' _ p q
 
-pub lookup-into : Determined lookup-into-reads.Learnt
-lookup-into κ a r r' e e' p q = one-listing r r' _ (p .0) (q .0)
+pub scaled-at : Determined scaled-at-reads.Learnt
+scaled-at κ a r r' e e' p q = p ∙ sym q
 
--- the lent zones at exit
-pub lookup-into-memory : DeterminedMemory lookup-into-reads.Learnt (λ κ e. e .1 .1 .1 .1 .0 .now)
-lookup-into-memory κ a r r' e e' p q = p .1 ∙ sym (q .1)
+pub hit-at : Determined hit-at-reads.Learnt
+hit-at κ a r r' e e' p q = one-found r r' _ p q

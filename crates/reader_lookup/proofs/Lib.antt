@@ -1,8 +1,4 @@
--- Laws of the two questions.
+-- Laws of the question.
 pub mod AskingLaws
 pub mod Listed
-pub mod Named
-pub mod Gathered
-pub mod Placed
-pub mod Meaning
 pub mod Determined

@@ -1,17 +1,14 @@
--- Document 01, "Asking": which zone a position lies in, and all zones that it lies in. For any opened record and any bytes.
+-- Document 01, "Asking": which zone a position lies in. For any opened record and any bytes.
 -- Assumes nothing.
 use Prim.Native.Nat.{ℕ, zero, suc, _+_, _/_, _%_}
 use mathlib.Core.Bool.{Bool, true, false, _&&_, cond}
-use mathlib.Core.List.{List, [], _∷_}
+use mathlib.Core.List.{List}
 use lib.IntN.{pos, negℤ}
 use lib.Ieee.{Float, binary64, ofInt, lt, mul}
-use lib.ListN.{length}
 use Rattle.plane.specs.declared.Point.{Point}
-use Rattle.answer.specs.Answers.{Answer, ok, need, _then_, _before_, Check, fine, outcome}
-use Rattle.answer.specs.Checks.{andThen, atMost, same}
+use Rattle.answer.specs.Answers.{Answer, ok, _then_}
+use Rattle.answer.specs.Checks.{same}
 use Rattle.opened.specs.declared.Opened.{Opened}
-use Rattle.reader_names.specs.Asked.{nameAt, nameOr}
-use Rattle.reader_order.specs.Order.{ordered}
 use Rattle.reader_grid.specs.Asked.{candidatesOf, candidateAt}
 use Rattle.reader_zones.specs.Zones.{zoneOf}
 use Rattle.replies.specs.Replies.{Chosen, none, all, listed, Sought, nowhere, inZone}
@@ -57,37 +54,3 @@ lookupAmong o s lng lat (listed n place) =
 
 unfoldable pub lookupOf : Opened → List ℕ → Float → Float → Answer Sought
 lookupOf o s lng lat = candidatesOf o s lng lat then lookupAmong o s lng lat
-
--- ---- lookup_into
--- `lookup_into` tests every candidate, never the shortcut: those of n candidates from place i on that contain the point, in this order
-abbrev pub also : Sought → List ℕ → List ℕ
-also nowhere l = l
-also (inZone zone) l = zone ∷ l
-
-unfoldable pub allHits : (ℕ → Answer Sought) → ℕ → ℕ → Answer (List ℕ)
-allHits hit zero i = ok []
-allHits hit (suc n) i = hit i then λ z. allHits hit n (i + 1) then λ l. ok (also z l)
-
-unfoldable pub hitsAmong : Opened → List ℕ → Point → Chosen → Answer (List ℕ)
-hitsAmong o s p none = ok []
-hitsAmong o s p (all n) = allHits (hitAt o s p false) n 0
-hitsAmong o s p (listed n place) = allHits (hitAt o s p true) n place
-
-unfoldable pub hitsOf : Opened → List ℕ → Float → Float → Answer (List ℕ)
-hitsOf o s lng lat = candidatesOf o s lng lat then hitsAmong o s (scaled lng lat)
-
--- Listed zones' names, one alone too, are read in candidate order after all tests.
-unfoldable pub namesRead : Opened → List ℕ → List ℕ → Check
-namesRead o s [] = fine
-namesRead o s (zone ∷ l) = andThen (outcome (nameAt o s zone)) (namesRead o s l)
-
--- 46 exactly when there are more zones than places; listed by name bytes, equal names in candidate order
-unfoldable pub placed : Opened → List ℕ → ℕ → List ℕ → Answer (List ℕ)
-placed o s places l = need 46 (atMost (length l) places) (ok (ordered (nameOr o s) l))
-
--- Any other refusal comes before 46.
-unfoldable pub listFor : Opened → List ℕ → ℕ → List ℕ → Answer (List ℕ)
-listFor o s places l = namesRead o s l before placed o s places l
-
-unfoldable pub listOf : Opened → List ℕ → Float → Float → ℕ → Answer (List ℕ)
-listOf o s lng lat places = hitsOf o s lng lat then listFor o s places

@@ -1,3 +1,2 @@
--- The two questions for a position.
+-- Which zone a position lies in.
 pub mod Asking
-pub mod Steps

@@ -131,7 +131,7 @@ fn list(o: Opened, s: &[u8], q: &[u8], out: &mut [u32], places: usize) -> Listin
     if out.len() < places {
         return Listing::Zones(0xffff_ffff);
     }
-    reader_lookup::lookup_into(o, s, float(q, 16), float(q, 24), &mut out[0..places])
+    reader_listing::lookup_into(o, s, float(q, 16), float(q, 24), &mut out[0..places])
 }
 
 fn is_listed(o: Opened, s: &[u8], q: &[u8]) -> bool {

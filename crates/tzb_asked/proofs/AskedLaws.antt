@@ -14,10 +14,10 @@ use Rattle.opened.specs.declared.Opened.{Opened}
 use Rattle.reader_records.specs.declared.ChunkRecord.{ChunkRecord}
 use Rattle.reader_records.specs.Records.{chunkAt}
 use Rattle.reader_chunks.specs.Chunks.{decodeIn}
-use Rattle.reader_lookup.specs.Asking.{listOf}
 use Rattle.tzb_record.specs.Layout.{recordOf}
 use Rattle.tzb_asked.specs.Asked.{nameAsked, endsAsked, decodeAsked, listAsked}
 use Rattle.tzb_asked.specs.Steps.{chunkCount}
+use Rattle.reader_listing.specs.All.{listOf}
 
 -- ---- the record is refused, or the question is asked of it
 module _ {A : Type 0} (b : List ℕ) (f : Opened → Answer A) where

@@ -12,9 +12,10 @@ use Rattle.reader_names.specs.Asked as N
 use Rattle.reader_grid.specs.Asked as G
 use Rattle.reader_chunks.specs.Chunks.{decodeIn}
 use Rattle.reader_zones.specs.Zones.{containsAt}
-use Rattle.reader_lookup.specs.Asking.{lookupOf, listOf}
+use Rattle.reader_lookup.specs.Asking.{lookupOf}
 use Rattle.tzb_record.specs.Layout.{recordOf}
 use Rattle.replies.specs.Replies.{Chosen, Sought}
+use Rattle.reader_listing.specs.All.{listOf}
 
 -- ---- questions
 -- how many zones

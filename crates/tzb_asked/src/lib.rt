@@ -138,6 +138,6 @@ pub fn lookup_into(record: &[u8], file: &[u8], lng: f64, lat: f64, zones: &mut [
     let a = tzb_record::read_record(record);
     match a {
         RecordRead::Refused(k) => Listing::Refused(k),
-        RecordRead::Is(o) => reader_lookup::lookup_into(o, file, lng, lat, zones),
+        RecordRead::Is(o) => reader_listing::lookup_into(o, file, lng, lat, zones),
     }
 }

@@ -6,7 +6,7 @@ use mathlib.Core.Path.{_≡_, refl, ap}
 use lib.IntN.{negsuc}
 use Rattle.answer.specs.declared.Refusal.{Refusal}
 use Rattle.answer.specs.Answers.{Answer, ok, refused, outcome}
-use Rattle.tzb_codes.specs.Codes.{refusalCode, doneCode}
+use Rattle.tzb_codes.specs.Codes.{refusalCode, doneCode, numberCode, startCode, endCode}
 
 module _ (r : Refusal) where
   pub code-small : r .number < 1000 → negsuc (999 + r .number) ≡ refusalCode r
@@ -21,3 +21,13 @@ module _ (r : Refusal) where
 pub done-outcome : {A : Type 0} (x : Answer A) → doneCode (outcome x) ≡ doneCode x
 done-outcome (ok a) = refl
 done-outcome (refused k) = refl
+
+-- a number is told as it is, and of a name's two ends the one that is asked for
+pub number-told : (n : ℕ) → pos n ≡ numberCode (ok n)
+number-told n = refl
+
+pub start-told : (from to : ℕ) → pos from ≡ startCode (ok (from, to))
+start-told from to = refl
+
+pub end-told : (from to : ℕ) → pos to ≡ endCode (ok (from, to))
+end-told from to = refl

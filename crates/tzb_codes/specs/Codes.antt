@@ -23,6 +23,20 @@ abbrev pub doneCode : {A : Type 0} → Answer A → ℤ
 doneCode (ok a) = pos 0
 doneCode (refused k) = refusalCode k
 
+-- a count, a zone or a place
+abbrev pub numberCode : Answer ℕ → ℤ
+numberCode (ok n) = pos n
+numberCode (refused k) = refusalCode k
+
+-- where a name starts, and where it ends
+abbrev pub startCode : Answer (ℕ × ℕ) → ℤ
+startCode (ok b) = pos (b .0)
+startCode (refused k) = refusalCode k
+
+abbrev pub endCode : Answer (ℕ × ℕ) → ℤ
+endCode (ok b) = pos (b .1)
+endCode (refused k) = refusalCode k
+
 -- 0 none, 1 all zones, 2 those listed for a cell
 abbrev pub kindCode : Answer Chosen → ℤ
 kindCode (ok none) = pos 0

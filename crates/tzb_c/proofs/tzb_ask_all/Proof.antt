@@ -5,11 +5,11 @@ use mathlib.Core.Path.{sym, ap, _∙_}
 use mir.Syntax.{w64}
 use mir.ValLaws.{toZ-pos}
 use Rattle.basics.specs.Signed.{back}
-use Rattle.tzb_c.specs.Exports.{numberCode}
 use borrow.Author.Needs.{needs}
 use Rattle.tzb_c.proofs.tzb_ask_all.Statement.{statement}
 use Rattle.tzb_c.proofs.tzb_ask_all.Tie as tie
 use Rattle.replies.specs.Replies.{listingTold}
+use Rattle.tzb_codes.specs.Codes.{numberCode}
 
 lookup-into-requires : tie.Need-lookup-into-requires
 lookup-into-requires c κs = search needs

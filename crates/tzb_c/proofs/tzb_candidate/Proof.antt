@@ -5,11 +5,11 @@ use mathlib.Core.Path.{sym, ap, _∙_}
 use mir.Syntax.{w64}
 use mir.ValLaws.{toZ-pos}
 use Rattle.basics.specs.Signed.{back}
-use Rattle.tzb_c.specs.Exports.{numberCode}
 use borrow.Author.Needs.{needs}
 use Rattle.tzb_c.proofs.tzb_candidate.Statement.{statement}
 use Rattle.tzb_c.proofs.tzb_candidate.Tie as tie
 use Rattle.replies.specs.Replies.{candidateTold}
+use Rattle.tzb_codes.specs.Codes.{numberCode}
 
 candidate-at-requires : tie.Need-candidate-at-requires
 candidate-at-requires c κs = search needs

@@ -5,12 +5,12 @@ use mathlib.Core.Path.{sym, ap, _∙_}
 use mir.Syntax.{w64}
 use mir.ValLaws.{toZ-pos}
 use Rattle.basics.specs.Signed.{back}
-use Rattle.tzb_c.specs.Exports.{endCode}
 use Rattle.tzb_c.proofs.Kept.{name-inside}
 use borrow.Author.Needs.{needs}
 use Rattle.tzb_c.proofs.tzb_name_end.Statement.{statement}
 use Rattle.tzb_c.proofs.tzb_name_end.Tie as tie
 use Rattle.replies.specs.Replies.{boundsTold}
+use Rattle.tzb_codes.specs.Codes.{endCode}
 
 name-bounds-requires : tie.Need-name-bounds-requires
 name-bounds-requires c κs = search needs

@@ -7,11 +7,11 @@ use mir.ValLaws.{toZ-pos}
 use Rattle.basics.specs.Signed.{back}
 use Rattle.tzb_record.specs.Layout.{recordTold}
 use Rattle.tzb_asked.specs.Asked.{zonesAsked}
-use Rattle.tzb_c.specs.Exports.{numberCode}
 use borrow.Author.Needs.{needs}
 use Rattle.tzb_c.proofs.tzb_zone_count.Statement.{statement}
 use Rattle.tzb_c.proofs.tzb_zone_count.Tie as tie
 use Rattle.tzb_asked.proofs.AskedLaws.{barred, asked}
+use Rattle.tzb_codes.specs.Codes.{numberCode}
 
 read-record-requires : tie.Need-read-record-requires
 read-record-requires c κs = search needs

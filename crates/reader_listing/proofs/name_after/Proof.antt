@@ -2,10 +2,10 @@
 -- Assumes nothing.
 use mathlib.Core.Path.{ap, _∙_}
 use Rattle.answer.specs.Answers.{checkedTold}
-use Rattle.reader_lookup.proofs.Named.{after-fine, after-bad}
+use Rattle.reader_listing.proofs.Named.{after-fine, after-bad}
 use borrow.Author.Needs.{needs}
-use Rattle.reader_lookup.proofs.name_after.Statement.{statement}
-use Rattle.reader_lookup.proofs.name_after.Tie as tie
+use Rattle.reader_listing.proofs.name_after.Statement.{statement}
+use Rattle.reader_listing.proofs.name_after.Tie as tie
 
 enum-told : tie.Need-enum-told
 enum-told c = search needs

@@ -1,10 +1,10 @@
 -- `name_read` meets its contract: a name that has bounds can be read.
 -- Assumes nothing.
 use mathlib.Core.Path.{sym, ap, _∙_}
-use Rattle.reader_lookup.proofs.Named.{name-fine, name-bad}
+use Rattle.reader_listing.proofs.Named.{name-fine, name-bad}
 use borrow.Author.Needs.{needs}
-use Rattle.reader_lookup.proofs.name_read.Statement.{statement}
-use Rattle.reader_lookup.proofs.name_read.Tie as tie
+use Rattle.reader_listing.proofs.name_read.Statement.{statement}
+use Rattle.reader_listing.proofs.name_read.Tie as tie
 use Rattle.replies.specs.Replies.{boundsTold}
 
 name-bounds-requires : tie.Need-name-bounds-requires

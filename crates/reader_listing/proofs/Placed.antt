@@ -14,10 +14,10 @@ use Rattle.opened.specs.declared.Opened.{Opened}
 use Rattle.reader_names.specs.Asked.{nameOr}
 use Rattle.reader_order.specs.Order.{ordered}
 use Rattle.reader_order.proofs.Sorted.{same-length}
-use Rattle.reader_lookup.specs.Asking.{also, allHits, namesRead, placed, listFor}
 use Rattle.replies.specs.Replies.{Sought}
 use Rattle.answer.proofs.AnswersLaws.{need-met, need-not, then-inv, ok-inv, zero-one}
-use Rattle.reader_lookup.specs.Steps.{seen, seenOn, tally, Kept}
+use Rattle.reader_listing.specs.Steps.{seen, seenOn, tally, Kept}
+use Rattle.reader_listing.specs.All.{also, allHits, namesRead, placed, listFor}
 
 -- what an answer after a check was made of
 pub before-inv : {A : Type 0} (c : Check) (x : Answer A) (a : A) → ok a ≡ (c before x) → (c ≡ fine) × (ok a ≡ x)

@@ -6,8 +6,8 @@ use lib.ListN.{set}
 use lib.Seq.{set-out}
 use native.Mathlib.Omega.{arith}
 use borrow.Author.Needs.{needs}
-use Rattle.reader_lookup.proofs.keep.Statement.{statement}
-use Rattle.reader_lookup.proofs.keep.Tie as tie
+use Rattle.reader_listing.proofs.keep.Statement.{statement}
+use Rattle.reader_listing.proofs.keep.Tie as tie
 
 wide-requires : tie.Need-wide-requires
 wide-requires c κs = search needs

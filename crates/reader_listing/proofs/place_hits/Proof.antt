@@ -3,11 +3,11 @@
 use mathlib.Core.Path.{sym, ap, _∙_}
 use lib.Seq.{length-take-le}
 use Rattle.answer.specs.Answers.{refused, howMany, left}
-use Rattle.reader_lookup.proofs.Placed.{kept-by, place-short, place-count, place-memory}
+use Rattle.reader_listing.proofs.Placed.{kept-by, place-short, place-count, place-memory}
 use native.Mathlib.Omega.{arith}
 use borrow.Author.Needs.{needs}
-use Rattle.reader_lookup.proofs.place_hits.Statement.{statement}
-use Rattle.reader_lookup.proofs.place_hits.Tie as tie
+use Rattle.reader_listing.proofs.place_hits.Statement.{statement}
+use Rattle.reader_listing.proofs.place_hits.Tie as tie
 
 wide-requires : tie.Need-wide-requires
 wide-requires c κs = search needs

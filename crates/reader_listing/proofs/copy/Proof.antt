@@ -4,8 +4,8 @@ use Prim.Native.Nat.{_-_}
 use mathlib.Core.Path.{refl}
 use Rattle.tzb_core.proofs.Copied.{Copying, copy-start, copy-on, copy-end}
 use borrow.Author.Needs.{needs}
-use Rattle.reader_lookup.proofs.copy.Statement.{statement}
-use Rattle.reader_lookup.proofs.copy.Tie as tie
+use Rattle.reader_listing.proofs.copy.Statement.{statement}
+use Rattle.reader_listing.proofs.copy.Tie as tie
 
 abbrev Inv-loop : tie.InvT-loop
 Inv-loop held n out₀ i₀ out i = Copying held out₀ out n i

@@ -8,8 +8,8 @@ use lib.ListN.{length, take}
 use Rattle.answer.specs.Answers.{Answer, ok, refused, _then_, _before_, Check}
 use Rattle.answer.specs.Checks.{andThen}
 use Rattle.opened.specs.declared.Opened.{Opened}
-use Rattle.reader_lookup.specs.Asking.{also, namesRead}
 use Rattle.replies.specs.Replies.{Sought}
+use Rattle.reader_listing.specs.All.{also, namesRead}
 
 -- of n candidates from place i on, up to the first refusal
 abbrev pub seenOn : Answer Sought → List ℕ → List ℕ

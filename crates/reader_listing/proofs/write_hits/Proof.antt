@@ -1,9 +1,9 @@
 -- `write_hits` meets its contract: from the zones kept, or by asking again.
 -- Assumes nothing.
-use Rattle.reader_lookup.proofs.Placed.{from-held, from-again}
+use Rattle.reader_listing.proofs.Placed.{from-held, from-again}
 use borrow.Author.Needs.{needs}
-use Rattle.reader_lookup.proofs.write_hits.Statement.{statement}
-use Rattle.reader_lookup.proofs.write_hits.Tie as tie
+use Rattle.reader_listing.proofs.write_hits.Statement.{statement}
+use Rattle.reader_listing.proofs.write_hits.Tie as tie
 
 copy-requires : tie.Need-copy-requires
 copy-requires c κs =

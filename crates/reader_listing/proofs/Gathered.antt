@@ -12,9 +12,9 @@ use Rattle.answer.specs.Answers.{Answer, ok, refused, _then_, _before_, Check, 
 use Rattle.answer.specs.Checks.{andThen}
 use Rattle.opened.specs.declared.Opened.{Opened}
 use Rattle.reader_names.specs.Asked.{nameAt}
-use Rattle.reader_lookup.specs.Asking.{also, allHits, namesRead}
 use Rattle.replies.specs.Replies.{Sought, nowhere, inZone}
-use Rattle.reader_lookup.specs.Steps.{seen, seenOn, tally}
+use Rattle.reader_listing.specs.Steps.{seen, seenOn, tally}
+use Rattle.reader_listing.specs.All.{also, allHits, namesRead}
 
 and-then-assoc : (a b c : Check) → andThen (andThen a b) c ≡ andThen a (andThen b c)
 unfolding andThen

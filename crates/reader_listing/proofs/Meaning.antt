@@ -14,10 +14,11 @@ use Rattle.opened.specs.declared.Opened.{Opened}
 use Rattle.reader_names.specs.Asked.{nameOr}
 use Rattle.reader_order.specs.Order.{ordered, inOrder, called, times}
 use Rattle.reader_order.proofs.Sorted.{is-ordered, same-times, as-they-came}
-use Rattle.reader_lookup.specs.Asking.{orElse, also, firstHit, allHits, strictly, unlooked, hitsOf, namesRead, placed, listFor, listOf}
-use Rattle.reader_lookup.proofs.Placed.{before-inv}
+use Rattle.reader_lookup.specs.Asking.{orElse, firstHit, strictly, unlooked}
+use Rattle.reader_listing.proofs.Placed.{before-inv}
 use Rattle.replies.specs.Replies.{Sought, nowhere, inZone}
 use Rattle.answer.proofs.AnswersLaws.{then-inv, need-inv, ok-inv}
+use Rattle.reader_listing.specs.All.{also, allHits, hitsOf, namesRead, placed, listFor, listOf}
 
 -- ---- the list
 module _ (o : Opened) (s : List ℕ) (lng lat : Float) (places : ℕ) (l : List ℕ) (h : ok l ≡ listOf o s lng lat places) where

@@ -2,14 +2,14 @@
 -- Assumes nothing.
 use mathlib.Core.Path.{sym, ap, _∙_}
 use lib.ListN.{length}
 use Rattle.reader_lookup.proofs.Listed.{listed-small}
 use native.Mathlib.Omega.{arith}
 use borrow.Author.Needs.{needs}
-use Rattle.reader_lookup.proofs.lookup_into.Statement.{statement}
-use Rattle.reader_lookup.proofs.lookup_into.Tie as tie
+use Rattle.reader_listing.proofs.lookup_into.Statement.{statement}
+use Rattle.reader_listing.proofs.lookup_into.Tie as tie
 use Rattle.replies.specs.Replies.{choiceTold}
 use Rattle.answer.specs.Answers.{howMany, left}
-use Rattle.reader_lookup.proofs.AskingLaws.{into-no, into-none, into-all, into-listed}
+use Rattle.reader_listing.proofs.AllLaws.{into-no, into-none, into-all, into-listed}
 
 candidates-requires : tie.Need-candidates-requires
 candidates-requires c κs = search needs

@@ -2,11 +2,11 @@
 -- Assumes nothing.
 use mathlib.Core.Path.{sym, ap, _∙_}
 use Rattle.answer.specs.Answers.{checkedTold}
 use Rattle.reader_lookup.specs.Asking.{hitAt}
-use Rattle.reader_lookup.proofs.Gathered.{Gathering, gather-start, gather-no, gather-miss, gather-hit, gather-end, gather-bad}
+use Rattle.reader_listing.proofs.Gathered.{Gathering, gather-start, gather-no, gather-miss, gather-hit, gather-end, gather-bad}
 use borrow.Author.Needs.{needs}
-use Rattle.reader_lookup.proofs.gather.Statement.{statement}
-use Rattle.reader_lookup.proofs.gather.Tie as tie
+use Rattle.reader_listing.proofs.gather.Statement.{statement}
+use Rattle.reader_listing.proofs.gather.Tie as tie
 use Rattle.replies.specs.Replies.{foundTold}
 
 abbrev Inv-loop : tie.InvT-loop

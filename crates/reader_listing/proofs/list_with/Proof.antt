@@ -1,10 +1,10 @@
 -- `list_with` meets its contract: what is refused before the first zone is written, and the list.
 -- Assumes nothing.
 use mathlib.Core.Path.{sym, ap, _∙_}
-use Rattle.reader_lookup.proofs.Placed.{list-no, list-is, list-kept}
+use Rattle.reader_listing.proofs.Placed.{list-no, list-is, list-kept}
 use borrow.Author.Needs.{needs}
-use Rattle.reader_lookup.proofs.list_with.Statement.{statement}
-use Rattle.reader_lookup.proofs.list_with.Tie as tie
+use Rattle.reader_listing.proofs.list_with.Statement.{statement}
+use Rattle.reader_listing.proofs.list_with.Tie as tie
 use Rattle.replies.specs.Replies.{listingTold}
 use Rattle.answer.specs.Answers.{howMany, left}
 

@@ -1,0 +1,13 @@
+-- Any two answers that a promise allows are equal, and so is the lent memory: stated over the contracts themselves. Two values of an enum that tell the same are the same.
+-- Assumes nothing.
+use mathlib.Core.Path.{sym, _∙_}
+use Rattle.basics.specs.Determined.{Determined, DeterminedMemory}
+use Rattle.reader_listing.proofs.lookup_into.Reads as lookup-into-reads
+use Rattle.replies.proofs.One.{one-listing}
+
+pub lookup-into : Determined lookup-into-reads.Learnt
+lookup-into κ a r r' e e' p q = one-listing r r' _ (p .0) (q .0)
+
+-- the lent zones at exit
+pub lookup-into-memory : DeterminedMemory lookup-into-reads.Learnt (λ κ e. e .1 .1 .1 .1 .0 .now)
+lookup-into-memory κ a r r' e e' p q = p .1 ∙ sym (q .1)
