@@ -16,7 +16,7 @@ use Rattle.answer.specs.Answers.{ok, _then_, need, Given}
 use Rattle.answer.specs.Walks.{done}
 use Rattle.boxes.specs.declared.BBox.{BBox}
 use Rattle.boxes.specs.Box.{boxInDomain, relevant, right}
-use Rattle.tzb_core.specs.Ray.{rayOf, parityOf}
+use Rattle.rays.specs.Ray.{rayOf, parityOf}
 use Rattle.tzb_core.specs.Scan.{past}
 use Rattle.tzb_core.specs.Decode.{pointsOf}
 use Rattle.tzb_core.proofs.Neighbours.{scan-list, first-list, domain-list, never-empty}

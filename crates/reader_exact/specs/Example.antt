@@ -19,10 +19,10 @@ use Rattle.fields.specs.Le.{le}
 use Rattle.fields.specs.Loads as Loads
 use Rattle.boxes.specs.Box.{ordered, boxInDomain, contains, relevant, right}
 use Rattle.tzb_core.specs.Delta.{addDelta, fits32}
-use Rattle.tzb_core.specs.Ray.{rayOf, rayAt, touches, crosses, aboveOf, parityOf}
+use Rattle.rays.specs.Ray.{rayOf, rayAt, touches, crosses, aboveOf, parityOf}
 use Rattle.tzb_core.specs.Along.{along, walkOf}
 use Rattle.tzb_core.specs.Scan.{scanOf}
-use Rattle.tzb_core.specs.Varint.{numberAt, digits}
+use Rattle.numbers.specs.Varint.{numberAt, digits}
 use Rattle.tzb_core.specs.Points as Points
 use Rattle.tzb_core.specs.Decode.{pointsOf}
 use Rattle.shapes.specs.Example.{zone, Row, rows}

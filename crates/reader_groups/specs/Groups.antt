@@ -8,7 +8,7 @@ use Rattle.plane.specs.declared.I32Point.{I32Point}
 use Rattle.answer.specs.Answers.{Answer, _then_}
 use Rattle.answer.specs.Walks.{Walk, broken, on, off, _go_, _yields_, done}
 use Rattle.boxes.specs.Box.{relevant, right}
-use Rattle.tzb_core.specs.Ray.{rayOf, parityOf}
+use Rattle.rays.specs.Ray.{rayOf, parityOf}
 use Rattle.tzb_core.specs.Scan.{past}
 use Rattle.opened.specs.declared.Opened.{Opened}
 use Rattle.reader_records.specs.declared.GroupRecord.{GroupRecord}

@@ -3,7 +3,7 @@ ghost use mathlib.Core.Path.{_≡_};
 ghost use Prim.Native.Nat.{_-_, _<_};
 ghost use Rattle.answer.specs.Answers.{ok};
 ghost use Rattle.answer.specs.Walks.{add};
-ghost use Rattle.tzb_core.specs.Ray.{rayOf};
+ghost use Rattle.rays.specs.Ray.{rayOf};
 ghost use Rattle.tzb_core.specs.Scan.{past, scanned};
 ghost use Rattle.reader_chunks.specs.Chunks.{toldPoint, startOf, firstIn, scanIn};
 ghost use Rattle.reader_groups.specs.Groups.{went, nextFirst, skipTo, scanTo, joinedTo, passAt, lastIn, lastAt, chunksFrom, groupScan};

@@ -9,7 +9,7 @@ use Rattle.plane.specs.Segment.{same}
 use Rattle.answer.specs.Answers.{Answer, ok, _then_}
 use Rattle.answer.specs.Walks.{Walk, off, _go_, _yields_, done, must, verdict}
 use Rattle.boxes.specs.Box.{contains, relevant, right}
-use Rattle.tzb_core.specs.Ray.{rayOf, parityOf}
+use Rattle.rays.specs.Ray.{rayOf, parityOf}
 use Rattle.tzb_core.specs.Scan.{past}
 use Rattle.opened.specs.declared.Opened.{Opened}
 use Rattle.reader_records.specs.declared.GroupRecord.{GroupRecord}

@@ -12,8 +12,8 @@ use Rattle.plane.specs.Segment.{seg}
 use Rattle.plane.specs.Domain.{inDomain}
 use Rattle.boxes.specs.declared.BBox.{BBox}
 use Rattle.boxes.specs.Box.{contains, relevant, right, ordered, least, greatest, boxInDomain}
-use Rattle.tzb_core.proofs.Order.{le-float, lt-float, above-float}
-use Rattle.tzb_core.proofs.Exact.{ray-exact}
+use Rattle.rays.proofs.Order.{le-float, lt-float, above-float}
+use Rattle.rays.proofs.Exact.{ray-exact}
 use Rattle.shapes.specs.Shapes.{Zone, inBox, zoneFits, zoneInDomain, zoneIn}
 use Rattle.shapes.specs.Walk.{floatTests, wholeTests, zoneWalk}
 use Rattle.shapes.proofs.Whole.{skips-are-exact}

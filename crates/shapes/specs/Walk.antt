@@ -12,7 +12,7 @@ use Rattle.plane.specs.Segment.{seg, above}
 use Rattle.plane.specs.Lines.{some, lastFrom, chain, Stretch, around}
 use Rattle.boxes.specs.declared.BBox.{BBox}
 use Rattle.boxes.specs.Box as Box
-use Rattle.tzb_core.specs.Ray.{rayOf, aboveOf}
+use Rattle.rays.specs.Ray.{rayOf, aboveOf}
 use Rattle.shapes.specs.Shapes.{Chunk, Group, Leg, Ring, Polygon, Zone, groupChunks, inBox}
 
 -- what is asked at one point

@@ -15,7 +15,7 @@ use Rattle.tzb_core.proofs.delta.add_delta.Reads as add-delta-reads
 use Rattle.tzb_core.proofs.varint.unzigzag.Reads as unzigzag-reads
 use Rattle.tzb_core.proofs.varint.Place.at_end.Reads as at-end-reads
 use Rattle.tzb_core.proofs.varint.Place.varint.Reads as varint-reads
-use Rattle.tzb_core.specs.Varint.{readTold}
+use Rattle.tzb_core.specs.Reading.{readTold}
 
 one-sum : (a b : Sum) (x : Answer ℤ) → summed a ≡ x → summed b ≡ x → a ≡ b
 one-sum = one-answer summed S.Of S.Refused back

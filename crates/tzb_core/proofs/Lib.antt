@@ -1,6 +1,5 @@
 -- What is proved of the lower crate's definitions, and what its functions' proofs share.
 -- numbers and deltas
-pub mod VarintLaws
 pub mod TraceLaws
 pub mod ScanLaws
 pub mod PointsLaws
@@ -8,20 +7,9 @@ pub mod DeltaLaws
 pub mod DecodeLaws
 pub mod AlongLaws
 pub mod Sums
-pub mod Digits
-pub mod Shortest
-pub mod Places
-pub mod Unreadable
 pub mod Determined
 -- the ray test
 pub mod Pattern
-pub mod Sides
-pub mod Floats
-pub mod Exact
-pub mod Whole
-pub mod Order
-pub mod Loop
-pub mod Warnings
 pub mod DeterminedRay
 -- chunks
 pub mod Skips

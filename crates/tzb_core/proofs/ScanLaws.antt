@@ -11,7 +11,7 @@ use Rattle.answer.specs.Walks.{Walk, broken, on, add}
 use Rattle.plane.specs.declared.Point.{Point}
 use Rattle.plane.specs.declared.I32Point.{I32Point}
 use Rattle.plane.specs.Sight.{On, Off}
-use Rattle.tzb_core.specs.Ray.{rayOf}
+use Rattle.rays.specs.Ray.{rayOf}
 use Rattle.tzb_core.specs.Points.{firstOf}
 use Rattle.tzb_core.specs.Along.{reach}
 use Rattle.tzb_core.specs.Scan.{scanner, scanOf}

@@ -20,11 +20,11 @@ use Rattle.plane.specs.declared.I32Point.{I32Point}
 use Rattle.plane.specs.Sight.{Off}
 use Rattle.plane.specs.Domain.{inDomain, within}
 use Rattle.boxes.specs.Box.{float}
-use Rattle.tzb_core.specs.Ray.{rayAt, rayOf}
+use Rattle.rays.specs.Ray.{rayAt, rayOf}
 use Rattle.tzb_core.specs.declared.chunk.Band.{Band}
-use Rattle.tzb_core.proofs.Floats.{at, In, fine}
+use Rattle.rays.proofs.Floats.{at, In, fine}
 use Rattle.basics.specs.Picked.{yes-is}
-use Rattle.tzb_core.proofs.Order.{nat, nat-in, nat-at, lt-float}
+use Rattle.rays.proofs.Order.{nat, nat-in, nat-at, lt-float}
 use Rattle.plane.proofs.DomainLaws.{domain-y}
 use Rattle.tzb_core.specs.Steps.{Around, aside}
 

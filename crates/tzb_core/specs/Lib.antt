@@ -1,7 +1,6 @@
 -- What the lower crate answers: numbers, deltas, the ray test, chunks.
-pub mod Varint
+pub mod Reading
 pub mod Delta
-pub mod Ray
 pub mod Points
 pub mod Along
 pub mod Scan

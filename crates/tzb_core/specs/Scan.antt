@@ -6,7 +6,7 @@ use Rattle.answer.specs.Walks.{Walk, broken, on, off, _go_, done}
 use Rattle.plane.specs.declared.Point.{Point}
 use Rattle.plane.specs.declared.I32Point.{I32Point}
 use Rattle.plane.specs.Sight.{Sight, On, Off}
-use Rattle.tzb_core.specs.Ray.{rayOf}
+use Rattle.rays.specs.Ray.{rayOf}
 use Rattle.tzb_core.specs.Along.{Walker, walkOf}
 use Rattle.tzb_core.specs.declared.chunk.Scan.{Scan}
 use Rattle.tzb_core.specs.declared.chunk.Scan.the-variants as S

@@ -2,13 +2,13 @@
 -- Assumes nothing.
 use Prim.Native.Nat.{ℕ, zero, suc, _+_, _≤_}
 use mathlib.Core.List.{List, [], _∷_}
-use mathlib.Core.Bool.{Bool, true, false, _||_, _&&_}
+use mathlib.Core.Bool.{Bool, true, _||_, _&&_}
 use lib.ListN.{set}
 use lib.IntN.{ℤ, natAbs}
 use Rattle.answer.specs.Answers.{Answer, ok, refused, _then_, need}
 use Rattle.tzb_core.specs.declared.varint.Digits.{Digits}
 use Rattle.tzb_core.specs.declared.varint.Digits.the-variants as D
-use Rattle.tzb_core.specs.Varint.{last, below, digits, atEnd}
+use Rattle.numbers.specs.Varint.{last, atEnd}
 use mathlib.Core.Path.{_≡_}
 use Rattle.plane.specs.declared.I32Point.{I32Point}
 use Rattle.plane.specs.Domain.{inDomain}
@@ -29,10 +29,6 @@ use Rattle.tzb_core.specs.Scan.{scanner}
 abbrev pub digitsTold : Digits → Answer (ℕ × ℕ)
 digitsTold (D.Of n q) = ok (n, q .at)
 digitsTold (D.Refused r) = refused r
-
--- the digits from p on with the n that was read before them, where the next digit's unit is u and k more may follow it
-unfoldable pub rest : ℕ → ℕ → ℕ → List ℕ → ℕ → Answer (ℕ × ℕ)
-rest n u k s p = below n u (digits k false s p)
 
 -- ---- points
 abbrev pub moved : Moved → Answer I32Point

@@ -9,7 +9,7 @@ ghost use Rattle.plane.specs.Sight.{seenTold};
 ghost use Rattle.plane.specs.Domain.{inDomain};
 ghost use Rattle.boxes.specs.Box.{inBox};
 ghost use Rattle.tzb_core.specs.Points.{spotted, numbersAt, firstOf, nextAt};
-ghost use Rattle.tzb_core.specs.Ray.{rayOf};
+ghost use Rattle.rays.specs.Ray.{rayOf};
 ghost use Rattle.tzb_core.specs.Scan.{scanned, scanOf};
 ghost use Rattle.tzb_core.specs.Along.{along};
 ghost use Rattle.tzb_core.specs.Trace.{toldTrace, also, tracer, traceOf};

@@ -8,7 +8,7 @@ ghost use Rattle.rounding.specs.Upward.{stepOf, nextUp};
 ghost use Rattle.plane.specs.Sight.{seenTold};
 ghost use Rattle.plane.specs.Segment.{seg};
 ghost use Rattle.plane.specs.Domain.{inDomain};
-ghost use Rattle.tzb_core.specs.Ray.{away, between, level, touches, nudged, missed, steep, crosses, rayAt, rayOf, aboveOf, parityOf};
+ghost use Rattle.rays.specs.Ray.{away, between, level, touches, nudged, missed, steep, crosses, rayAt, rayOf, aboveOf, parityOf};
 ghost use Rattle.plane.specs.Places.{pointOf};
 
 // The next bit pattern upward.

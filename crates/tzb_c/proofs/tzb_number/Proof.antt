@@ -7,7 +7,7 @@ use Rattle.basics.specs.Signed.{back}
 use Rattle.tzb_c.proofs.tzb_number.Statement.{statement}
 use Rattle.tzb_c.proofs.tzb_number.Tie as tie
 use Rattle.tzb_c.proofs.ExportsLaws.{number-no, number-is}
-use Rattle.tzb_core.specs.Varint.{readTold}
+use Rattle.tzb_core.specs.Reading.{readTold}
 
 varint-requires : tie.Need-varint-requires
 varint-requires c κs = search needs

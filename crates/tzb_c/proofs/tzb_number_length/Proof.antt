@@ -6,11 +6,11 @@ use borrow.Author.Needs.{needs}
 use mir.Syntax.{w32}
 use mir.ValLaws.{toZ-pos}
 use Rattle.basics.specs.Signed.{back}
-use Rattle.tzb_core.proofs.Places.{number-place}
+use Rattle.numbers.proofs.Places.{number-place}
 use Rattle.tzb_c.proofs.tzb_number_length.Statement.{statement}
 use Rattle.tzb_c.proofs.tzb_number_length.Tie as tie
 use Rattle.tzb_c.proofs.ExportsLaws.{length-no, length-is}
-use Rattle.tzb_core.specs.Varint.{readTold}
+use Rattle.tzb_core.specs.Reading.{readTold}
 
 varint-requires : tie.Need-varint-requires
 varint-requires c κs = search needs

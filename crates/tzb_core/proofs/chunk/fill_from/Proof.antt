@@ -9,7 +9,7 @@ use lib.IntN.{ℤ}
 use mir.Syntax.{w32}
 use mir.Val.{toZ, ofZ}
 use Rattle.answer.specs.Answers.{ok, outcome}
-use Rattle.tzb_core.specs.Varint.{numberAt, readTold}
+use Rattle.numbers.specs.Varint.{numberAt}
 use Rattle.tzb_core.specs.Decode.{decoder}
 use Rattle.basics.specs.Signed.{back}
 use Rattle.tzb_core.proofs.Decoded.{put-end, put-on}
@@ -19,6 +19,7 @@ use Rattle.tzb_core.proofs.chunk.fill_from.Statement.{statement}
 use Rattle.tzb_core.proofs.chunk.fill_from.Tie as tie
 use Rattle.tzb_core.specs.Steps.{moved, alongBy, pointsFrom, put, readFrom}
 use Rattle.tzb_core.proofs.AlongLaws.{along-by, by-there}
+use Rattle.tzb_core.specs.Reading.{readTold}
 
 abbrev Inv-loop : tie.InvT-loop
 Inv-loop s count out₀ q₀ at₀ rest₀ i₀ half₀ x₀ out q at rest i half x =

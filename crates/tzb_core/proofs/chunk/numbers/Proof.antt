@@ -10,7 +10,7 @@ use Rattle.tzb_core.proofs.chunk.numbers.Statement.{statement}
 use Rattle.tzb_core.proofs.chunk.numbers.Tie as tie
 use Rattle.plane.specs.Places.{point}
 use Rattle.tzb_core.proofs.PointsLaws.{numbers-first, numbers-second, numbers-both}
-use Rattle.tzb_core.specs.Varint.{readTold}
+use Rattle.tzb_core.specs.Reading.{readTold}
 
 varint-requires : tie.Need-varint-requires
 varint-requires c κs = search needs

@@ -3,7 +3,7 @@
 use mathlib.Core.Path.{ap₂, _∙_}
 use borrow.Author.Needs.{needs}
 use Rattle.basics.specs.Parity.{_⊻_}
-use Rattle.tzb_core.specs.Ray.{parityOf}
+use Rattle.rays.specs.Ray.{parityOf}
 use Rattle.basics.specs.Picked.{differ}
 use Rattle.tzb_core.proofs.raycast.endpoint_parity.Statement.{statement}
 use Rattle.tzb_core.proofs.raycast.endpoint_parity.Tie as tie

@@ -3,7 +3,7 @@
 use mathlib.Core.Path.{ap}
 use lib.Ieee.{lt}
 use borrow.Author.Needs.{needs}
-use Rattle.tzb_core.specs.Ray.{aboveOf}
+use Rattle.rays.specs.Ray.{aboveOf}
 use Rattle.tzb_core.proofs.raycast.is_above.Statement.{statement}
 use Rattle.tzb_core.proofs.raycast.is_above.Tie as tie
 

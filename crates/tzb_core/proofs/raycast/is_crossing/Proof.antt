@@ -3,7 +3,7 @@
 use mathlib.Core.Path.{refl, sym, _∙_}
 use borrow.Author.Needs.{needs}
 use Rattle.basics.specs.Picked.{yes-is, no-is}
-use Rattle.tzb_core.specs.Ray.{crosses}
+use Rattle.rays.specs.Ray.{crosses}
 use Rattle.tzb_core.proofs.raycast.is_crossing.Statement.{statement}
 use Rattle.tzb_core.proofs.raycast.is_crossing.Tie as tie
 

@@ -3,7 +3,7 @@
 use mathlib.Core.Path.{refl, sym, _∙_}
 use borrow.Author.Needs.{needs}
 use Rattle.basics.specs.Picked.{or-yes, or-no}
-use Rattle.tzb_core.specs.Ray.{touches}
+use Rattle.rays.specs.Ray.{touches}
 use Rattle.tzb_core.proofs.raycast.is_touching.Statement.{statement}
 use Rattle.tzb_core.proofs.raycast.is_touching.Tie as tie
 

@@ -3,7 +3,7 @@
 use mathlib.Core.Path.{refl, sym, ap, _∙_}
 use borrow.Author.Needs.{needs}
 use Rattle.plane.specs.Sight.{Off}
-use Rattle.tzb_core.specs.Ray.{rayAt, crosses}
+use Rattle.rays.specs.Ray.{rayAt, crosses}
 use Rattle.basics.specs.Picked.{yes-is, no-is}
 use Rattle.tzb_core.proofs.raycast.ray_at.Statement.{statement}
 use Rattle.tzb_core.proofs.raycast.ray_at.Tie as tie

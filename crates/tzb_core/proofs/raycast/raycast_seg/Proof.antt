@@ -2,8 +2,8 @@
 -- Assumes nothing.
 use mathlib.Core.Path.{ap, ap₂, _∙_}
 use borrow.Author.Needs.{needs}
-use Rattle.tzb_core.specs.Ray.{rayAt, rayOf}
-use Rattle.tzb_core.proofs.Exact.{ray-exact}
+use Rattle.rays.specs.Ray.{rayAt, rayOf}
+use Rattle.rays.proofs.Exact.{ray-exact}
 use Rattle.tzb_core.proofs.raycast.raycast_seg.Statement.{statement}
 use Rattle.tzb_core.proofs.raycast.raycast_seg.Tie as tie
 

@@ -6,9 +6,7 @@ use mathlib.Core.Bool.{Bool, true, false, _||_, not, cond}
 use lib.ListN.{length, getD}
 use lib.Dec.{ltb, leb, eqb}
 use lib.IntN.{ℤ, pos, negsuc}
-use Rattle.answer.specs.Answers.{Answer, ok, refused, _then_, need}
-use Rattle.tzb_core.specs.declared.varint.Read.{Read}
-use Rattle.tzb_core.specs.declared.varint.Read.the-variants as R
+use Rattle.answer.specs.Answers.{Answer, ok, _then_, need}
 
 -- zigzag: 0, -1, 1, -2, .. are 0, 1, 2, 3, ..
 abbrev pub zig : ℤ → ℕ
@@ -45,11 +43,6 @@ signed x = x then λ t. ok (unzig (t .0), t .1)
 -- the number at p, and the place after it
 unfoldable pub numberAt : List ℕ → ℕ → Answer (ℤ × ℕ)
 numberAt s p = signed (digits 4 true s p)
-
--- what the enum of the code says
-abbrev pub readTold : Read → Answer (ℤ × ℕ)
-readTold (R.Number z q) = ok (z, q .at)
-readTold (R.Refused r) = refused r
 
 -- no byte is left over: the place is the one after the last byte
 abbrev pub atEnd : List ℕ → ℕ → Bool

@@ -13,10 +13,10 @@ use Rattle.plane.specs.declared.I32Point.{I32Point}
 use Rattle.plane.specs.Sight.{On, Off}
 use Rattle.plane.specs.Segment.{seg}
 use Rattle.plane.specs.Domain.{inDomain}
-use Rattle.tzb_core.specs.Ray.{rayAt, rayOf}
-use Rattle.tzb_core.proofs.Floats.{at, ray-naturals}
-use Rattle.tzb_core.proofs.Order.{nat, nat-in, nat-at}
-use Rattle.tzb_core.proofs.Whole.{Near, on-nat, counts-nat}
+use Rattle.rays.specs.Ray.{rayAt, rayOf}
+use Rattle.rays.proofs.Floats.{at, ray-naturals}
+use Rattle.rays.proofs.Order.{nat, nat-in, nat-at}
+use Rattle.rays.proofs.Whole.{Near, on-nat, counts-nat}
 use Rattle.plane.specs.Places.{pointOf}
 use Rattle.plane.proofs.DomainLaws.{domain-x, domain-y}
 

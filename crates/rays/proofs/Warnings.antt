@@ -10,7 +10,7 @@ use Rattle.plane.specs.Sight.{On, Off}
 use Rattle.plane.specs.Segment.{seg, cross, onZ, countsZ, amidZ}
 use Rattle.boxes.specs.declared.BBox.{BBox}
 use Rattle.boxes.specs.Box.{relevant, right}
-use Rattle.tzb_core.specs.Ray.{rayOf, rayAt, touches, aboveOf, parityOf}
+use Rattle.rays.specs.Ray.{rayOf, rayAt, touches, aboveOf, parityOf}
 use Rattle.plane.specs.Places.{pointOf, point}
 
 -- segment (1, 0) to (0, 1) and point (-2^-60, 1): on the segment, by floats, since -2^-60 - 1 rounds to -1

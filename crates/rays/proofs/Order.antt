@@ -14,8 +14,8 @@ use Rattle.rounding.specs.Ints.{diff}
 use Rattle.plane.specs.declared.I32Point.{I32Point}
 use Rattle.plane.specs.Segment.{above}
 use Rattle.plane.specs.Domain.{inDomain}
-use Rattle.tzb_core.specs.Ray.{aboveOf}
-use Rattle.tzb_core.proofs.Floats.{at, In, lt-at, le-at}
+use Rattle.rays.specs.Ray.{aboveOf}
+use Rattle.rays.proofs.Floats.{at, In, lt-at, le-at}
 use Rattle.plane.specs.Places.{pointOf}
 use Rattle.plane.proofs.DomainLaws.{domain-y}
 

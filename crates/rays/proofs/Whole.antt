@@ -9,8 +9,8 @@ use lib.Signed.{ltZ, leZ}
 use Rattle.basics.specs.Whole.{Is, shift-is, lt-test, le-test, zero-test, pos-test, neg-test}
 use Rattle.plane.specs.Segment.{cross, amidZ, onZ, countsZ}
 use Rattle.plane.specs.Turns.{plus, less, cross-is}
-use Rattle.tzb_core.proofs.Sides.{amid, onN, countsN}
-use Rattle.tzb_core.proofs.Order.{nat}
+use Rattle.rays.proofs.Sides.{amid, onN, countsN}
+use Rattle.rays.proofs.Order.{nat}
 
 abbrev pub Near : ℤ → Type 0
 Near z = natAbs z ≤ 18_000_000

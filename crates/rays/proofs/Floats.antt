@@ -18,8 +18,8 @@ use Rattle.rounding.specs.Next.{Bump, next-bump}
 use Rattle.rounding.specs.Nudge.{bump-lt, lt-bump, bump-steep}
 use Rattle.plane.specs.Sight.{Sight, On, Off}
 use Rattle.plane.specs.Turns.{plus, less}
-use Rattle.tzb_core.specs.Ray.{outside, away, degenerate, between, level, ratio, touches, nudged, missed, slope, steep, shortcut, crosses, rayAt}
-use Rattle.tzb_core.proofs.Sides.{amid, onN, countsN, or-split, falsum, verum, amid-view, amid-make, right-all, left-all, no-turn-amid, at-foot, swap-plus, swap-less}
+use Rattle.rays.specs.Ray.{outside, away, degenerate, between, level, ratio, touches, nudged, missed, slope, steep, shortcut, crosses, rayAt}
+use Rattle.rays.proofs.Sides.{amid, onN, countsN, or-split, falsum, verum, amid-view, amid-make, right-all, left-all, no-turn-amid, at-foot, swap-plus, swap-less}
 
 abbrev pub at : ℕ → Float
 at X = diff X 18000000

@@ -16,8 +16,8 @@ use Rattle.rounding.specs.Quotients.{Rep, rep-diff}
 use Rattle.rounding.specs.Upward.{nextUp}
 use Rattle.rounding.specs.Next.{Bump, bump-of}
 use Rattle.rounding.specs.Nudge.{bump-eq}
-use Rattle.tzb_core.specs.Ray.{hits, nudged}
-use Rattle.tzb_core.proofs.Sides.{or-split}
+use Rattle.rays.specs.Ray.{hits, nudged}
+use Rattle.rays.proofs.Sides.{or-split}
 use Rattle.basics.specs.Whole.{is-sub, is-unique, shift, shift-is}
 
 -- ---- a run of the loop from y ends at r after so many turns

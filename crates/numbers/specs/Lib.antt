@@ -1,0 +1,3 @@
+-- The chunk code's numbers.
+pub mod Varint
+pub mod Steps

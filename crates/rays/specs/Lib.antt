@@ -1,0 +1,2 @@
+-- What a point sees of a segment, in floats.
+pub mod Ray
