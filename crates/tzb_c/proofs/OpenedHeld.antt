@@ -62,7 +62,7 @@ module _ (s : List ℕ) (byte : (i : ℕ) → getD s i 0 < 256) where
   section-held t = entry-held (has s t (sections s)) (seek (isType s t) (sections s) 0)
 
   -- the first bytes of GRID
-  gridAt : Section → Grid
+  abbrev gridAt : Section → Grid
   gridAt p =
       record {
         off = p .off;
@@ -83,8 +83,10 @@ module _ (s : List ℕ) (byte : (i : ℕ) → getD s i 0 < 256) where
         lat = y;
       }
   grid-held false p h =
+      let four : 0 < 0x1_0000_0000 = omega arith in
+      let two : 0 < 0x1_0000 = omega arith in
       record {
-        numbers = one (omega arith) (one (omega arith) (one (omega arith) (one (omega arith) (one (omega arith) (one (omega arith) none)))));
+        numbers = one four (one two (one two (one two (one two (one four none)))));
         lng = record { sfits = omega arith };
         lat = record { sfits = omega arith };
       }
