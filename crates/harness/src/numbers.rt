@@ -1,4 +1,4 @@
-// The numbers in a record, the least significant byte first. Past its end there is one too, so that a program need not ask.
+// The numbers in a record, the least significant byte first. A read past its end has one too, so that no program has to ask.
 use fields::Loaded32;
 use fields::Loaded64;
 use fields::LoadedI32;
@@ -21,15 +21,11 @@ pub fn whole(r: &[u8], at: usize) -> i32 {
     }
 }
 
-fn not_a_number() -> f64 {
-    let zero = 0.0;
-    zero / zero
-}
-
 // The float of a pattern. All patterns of NaN are one value.
 fn float_of(bits: u64) -> f64 {
     if 0x7ff0_0000_0000_0000 < bits % 0x8000_0000_0000_0000 {
-        return not_a_number();
+        let zero = 0.0;
+        return zero / zero;
     }
     f64::from_bits(bits)
 }

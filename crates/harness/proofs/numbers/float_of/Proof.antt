@@ -10,9 +10,6 @@ use lib.Ieee.Bits.{nanBits-above}
 use Rattle.harness.proofs.numbers.float_of.Statement.{statement}
 use Rattle.harness.proofs.numbers.float_of.Tie as tie
 
-not-a-number-requires : tie.Need-not-a-number-requires
-not-a-number-requires c κs = search needs
-
 returns : tie.Need-returns
 returns c = search needs
 
@@ -23,4 +20,4 @@ returns-2 : tie.Need-returns-2
 returns-2 c = search needs
 
 pub float-of-spec : {M : Type 1} → statement M
-float-of-spec = tie.close (tie.spec not-a-number-requires returns float-from-bits-result returns-2)
+float-of-spec = tie.close (tie.spec returns float-from-bits-result returns-2)
