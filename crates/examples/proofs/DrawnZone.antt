@@ -18,7 +18,7 @@ use Rattle.fields.specs.Loads as L
 use Rattle.crc.specs.Crc32 as R
 use Rattle.boxes.specs.Box as B
 use Rattle.tzb_core.specs.Delta as Deltas
-use Rattle.numbers.specs.Varint.{numberAt, digits}
+use Rattle.varints.specs.Varint.{numberAt, digits}
 use Rattle.tzb_core.specs.Points as Points
 use Rattle.tzb_core.specs.Along.{along, walkOf}
 use Rattle.tzb_core.specs.Decode.{pointsOf}

@@ -14,7 +14,7 @@ use Rattle.fields.specs.Le.{le}
 use Rattle.fields.specs.Loads as Loads
 use Rattle.boxes.specs.Box.{ordered, boxInDomain}
 use Rattle.tzb_core.specs.Delta.{addDelta, fits32}
-use Rattle.numbers.specs.Varint.{numberAt, digits}
+use Rattle.varints.specs.Varint.{numberAt, digits}
 use Rattle.tzb_core.specs.Points as Points
 use Rattle.tzb_core.specs.Along.{along, walkOf}
 use Rattle.tzb_core.specs.Decode.{pointsOf}

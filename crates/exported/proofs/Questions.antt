@@ -21,7 +21,7 @@ use Rattle.answer.specs.declared.Refusal.{Refusal}
 use Rattle.answer.specs.Answers.{Answer, ok, refused}
 use Rattle.answer.specs.Walks.{Walk}
 use Rattle.tzb_core.specs.Delta.{fits32, addDelta}
-use Rattle.numbers.specs.Varint.{digits, numberAt, atEnd}
+use Rattle.varints.specs.Varint.{digits, numberAt, atEnd}
 use Rattle.tzb_core.specs.Points.{numbersAt, movedBy, firstOf, nextAt, mustLie}
 use Rattle.tzb_core.specs.Along.{Walker, follow, along, walkOf}
 use Rattle.tzb_core.specs.Scan.{scanner, scanOf}

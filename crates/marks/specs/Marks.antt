@@ -13,7 +13,7 @@ use Rattle.plane.specs.Sight as S
 use Rattle.plane.specs.Segment.{cross, amidZ, onZ, countsZ, seg}
 use Rattle.answer.specs.Checks.{claim, atMost}
 use Rattle.answer.specs.Answers.{Answer, ok, refused, Check}
-use Rattle.numbers.specs.Varint.{numberAt, digits}
+use Rattle.varints.specs.Varint.{numberAt, digits}
 use Rattle.reader_grid.specs.Word.{rangeCheck}
 
 -- what is asked: a chunk number of all these bytes; a segment from a to b, of the point p; a GRID word, where there are so many candidates

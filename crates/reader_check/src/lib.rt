@@ -7,6 +7,7 @@ ghost use Rattle.reader_check.specs.FullCheck.{asked, rule, lowestBroken
 ghost use Rattle.answer.specs.Answers.{holds, answered};
 ghost use Rattle.reader_cover.specs.All.{all};
 ghost use Rattle.reader_check.specs.Steps.{found};
+use boxes::BBox;
 use opened::Opened;
 use reader_cover::Part;
 use reader_records::GroupAt;
@@ -122,7 +123,7 @@ fn ring_holds(o: Opened, s: &[u8], index: usize) -> bool
     match t {
         RingAt::Refused(_) => false,
         RingAt::At(v) => {
-            let b = v.bbox;
+            let b: BBox = v.bbox;
             reader_cover::parts_fit(o, s, Part::Group(b), v.first, v.count)
         }
     }
@@ -135,7 +136,7 @@ fn poly_holds(o: Opened, s: &[u8], index: usize) -> bool
     match t {
         ListAt::Refused(_) => false,
         ListAt::At(v) => {
-            let b = v.bbox;
+            let b: BBox = v.bbox;
             reader_cover::parts_fit(o, s, Part::Ring(b), v.first, v.count)
         }
     }
@@ -148,7 +149,7 @@ fn zone_holds(o: Opened, s: &[u8], index: usize) -> bool
     match t {
         ListAt::Refused(_) => false,
         ListAt::At(v) => {
-            let b = v.bbox;
+            let b: BBox = v.bbox;
             reader_cover::parts_fit(o, s, Part::Polygon(b), v.first, v.count)
         }
     }

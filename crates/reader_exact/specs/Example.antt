@@ -22,7 +22,7 @@ use Rattle.tzb_core.specs.Delta.{addDelta, fits32}
 use Rattle.rays.specs.Ray.{rayOf, rayAt, touches, crosses, aboveOf, parityOf}
 use Rattle.tzb_core.specs.Along.{along, walkOf}
 use Rattle.tzb_core.specs.Scan.{scanOf}
-use Rattle.numbers.specs.Varint.{numberAt, digits}
+use Rattle.varints.specs.Varint.{numberAt, digits}
 use Rattle.tzb_core.specs.Points as Points
 use Rattle.tzb_core.specs.Decode.{pointsOf}
 use Rattle.shapes.specs.Example.{zone, Row, rows}

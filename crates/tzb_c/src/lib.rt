@@ -7,7 +7,7 @@ ghost use mathlib.Core.List.{[]};
 ghost use lib.ListN.{length};
 ghost use Rattle.boxes.specs.Box.{contains, relevant};
 ghost use Rattle.rays.specs.Ray.{rayOf, parityOf};
-ghost use Rattle.numbers.specs.Varint.{numberAt};
+ghost use Rattle.varints.specs.Varint.{numberAt};
 ghost use Rattle.tzb_core.specs.Decode.{filled};
 ghost use Rattle.tzb.specs.FullCheck.{fullCheckOf};
 ghost use Rattle.tzb_asked.specs.Asked.{zonesAsked, nameAsked, endsAsked, endsAfter, choiceAsked, candidateAsked, containsAsked, decodeAsked, lookupAsked, listAsked};

@@ -1,9 +1,9 @@
 -- Laws of specs/Codes, as proofs cite them. Nothing here need be believed.
 -- Assumes nothing.
-use Prim.Native.Nat.{_+_, _≤_, _<_}
+use Prim.Native.Nat.{ℕ, _+_, _≤_, _<_}
 use native.Mathlib.Omega.{arith}
 use mathlib.Core.Path.{_≡_, refl, ap}
-use lib.IntN.{negsuc}
+use lib.IntN.{pos, negsuc}
 use Rattle.answer.specs.declared.Refusal.{Refusal}
 use Rattle.answer.specs.Answers.{Answer, ok, refused, outcome}
 use Rattle.tzb_codes.specs.Codes.{refusalCode, doneCode, numberCode, startCode, endCode}

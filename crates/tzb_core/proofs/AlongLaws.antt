@@ -12,7 +12,7 @@ use Rattle.tzb_core.specs.Points.{firstOf, nextAt}
 use Rattle.tzb_core.specs.Along.{Walker, along, walkOf, follow, reach}
 use native.Mathlib.Omega.{arith}
 use mathlib.Core.Bool.{true, false}
-use Rattle.numbers.specs.Varint.{atEnd}
+use Rattle.varints.specs.Varint.{atEnd}
 use Rattle.tzb_core.specs.Steps.{alongBy}
 
 -- ---- the cases of the code

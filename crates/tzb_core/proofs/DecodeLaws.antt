@@ -11,7 +11,7 @@ use borrow.Author.Tests.{lt-ltb, le-leb, lt-leb}
 use Rattle.answer.specs.declared.Refusal.{Refusal}
 use Rattle.answer.specs.Answers.{Answer, ok, refused, no, _then_, need}
 use Rattle.plane.specs.declared.I32Point.{I32Point}
-use Rattle.numbers.specs.Varint.{atEnd}
+use Rattle.varints.specs.Varint.{atEnd}
 use Rattle.tzb_core.specs.Points.{firstOf, nextAt}
 use Rattle.tzb_core.specs.Along.{follow, along, walkOf}
 use Rattle.tzb_core.specs.Decode.{led, decoder, pointsOf, intoRoom}

@@ -10,7 +10,7 @@ use lib.IntN.{ℤ}
 use Rattle.answer.specs.declared.Refusal.{Refusal}
 use Rattle.answer.specs.Answers.{Answer, ok, refused, _then_, fine, outcome}
 use Rattle.plane.specs.declared.I32Point.{I32Point}
-use Rattle.numbers.specs.Varint.{atEnd}
+use Rattle.varints.specs.Varint.{atEnd}
 use Rattle.tzb_core.specs.Points.{nextAt}
 use Rattle.tzb_core.specs.Decode.{led, flat, filled}
 use Rattle.answer.proofs.AnswersLaws.{then-inv, need-inv, ok-inv, outcome-fine, outcome-no}

@@ -21,7 +21,7 @@ use Rattle.plane.specs.Domain.{inDomain}
 use Rattle.boxes.specs.declared.BBox.{BBox}
 use Rattle.boxes.specs.Box.{inBox}
 use Rattle.rays.specs.Ray.{rayOf}
-use Rattle.numbers.specs.Varint.{atEnd}
+use Rattle.varints.specs.Varint.{atEnd}
 use Rattle.tzb_core.specs.Points.{numbersAt, movedBy, firstOf, nextAt, mustLie}
 use Rattle.tzb_core.specs.Along.{Walker, follow, reach, along, walkOf, overFrom}
 use Rattle.tzb_core.specs.Scan.{past, scanner, scanOf}

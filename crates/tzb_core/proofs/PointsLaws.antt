@@ -9,7 +9,7 @@ use Rattle.answer.specs.declared.Refusal.{Refusal}
 use Rattle.answer.specs.Answers.{ok, refused, no, Answer, _then_, need}
 use Rattle.plane.specs.declared.I32Point.{I32Point}
 use Rattle.plane.specs.Domain.{inDomain}
-use Rattle.numbers.specs.Varint.{numberAt}
+use Rattle.varints.specs.Varint.{numberAt}
 use Rattle.plane.specs.Places.{point}
 use Rattle.tzb_core.specs.Points.{numbersAt, firstOf, mustLie, movedBy, nextAt}
 use Rattle.tzb_core.specs.Delta.{addDelta}

@@ -15,7 +15,7 @@ use Rattle.plane.specs.declared.I32Point.{I32Point}
 use Rattle.plane.specs.Sight.{On, Off}
 use Rattle.plane.specs.Domain.{inDomain}
 use Rattle.rays.specs.Ray.{rayOf}
-use Rattle.numbers.specs.Varint.{numberAt, atEnd}
+use Rattle.varints.specs.Varint.{numberAt, atEnd}
 use Rattle.tzb_core.specs.Points.{movedBy, nextAt}
 use Rattle.tzb_core.specs.Along.{follow, along}
 use Rattle.tzb_core.specs.Scan.{scanner}

@@ -7,7 +7,7 @@ use lib.Dec.{ltb}
 use Rattle.answer.specs.declared.Refusal.{Refusal}
 use Rattle.answer.specs.Answers.{Answer, ok, refused, need}
 use Rattle.plane.specs.declared.I32Point.{I32Point}
-use Rattle.numbers.specs.Varint.{atEnd}
+use Rattle.varints.specs.Varint.{atEnd}
 use Rattle.tzb_core.specs.Points.{firstOf, nextAt}
 
 -- who walks: what a refusal comes to, and what the end at the last point; and what a point, and the segment from one point to the next, make of what comes after them

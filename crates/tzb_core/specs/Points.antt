@@ -5,7 +5,7 @@ use mathlib.Core.List.{List}
 use Rattle.answer.specs.Answers.{Answer, ok, refused, _then_, need}
 use Rattle.plane.specs.declared.I32Point.{I32Point}
 use Rattle.plane.specs.Domain.{inDomain}
-use Rattle.numbers.specs.Varint.{numberAt}
+use Rattle.varints.specs.Varint.{numberAt}
 use Rattle.tzb_core.specs.Delta.{addDelta}
 use Rattle.tzb_core.specs.declared.chunk.Spotted.{Spotted}
 use Rattle.tzb_core.specs.declared.chunk.Spotted.the-variants as S

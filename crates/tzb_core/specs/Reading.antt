@@ -1,4 +1,4 @@
--- What reading a number answers: the number and the place after it, or the refusal. What it is stands in numbers/specs/Varint.
+-- What reading a number answers: the number and the place after it, or the refusal. What it is stands in varints/specs/Varint.
 -- Assumes nothing.
 use Prim.Native.Nat.{ℕ}
 use lib.IntN.{ℤ}

@@ -8,7 +8,7 @@ use lib.IntN.{ℤ, natAbs}
 use Rattle.answer.specs.Answers.{Answer, ok, refused, _then_, need}
 use Rattle.tzb_core.specs.declared.varint.Digits.{Digits}
 use Rattle.tzb_core.specs.declared.varint.Digits.the-variants as D
-use Rattle.numbers.specs.Varint.{last, atEnd}
+use Rattle.varints.specs.Varint.{last, atEnd}
 use mathlib.Core.Path.{_≡_}
 use Rattle.plane.specs.declared.I32Point.{I32Point}
 use Rattle.plane.specs.Domain.{inDomain}

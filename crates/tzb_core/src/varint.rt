@@ -3,10 +3,10 @@ ghost use mathlib.Core.Path.{_≡_};
 ghost use mathlib.Core.Bool.{true};
 ghost use Prim.Native.Nat.{_<_};
 ghost use Rattle.answer.specs.Answers.{ok, no};
-ghost use Rattle.numbers.specs.Varint.{unzig, digits, numberAt, atEnd};
+ghost use Rattle.varints.specs.Varint.{unzig, digits, numberAt, atEnd};
 ghost use Rattle.tzb_core.specs.Steps.{digitsTold};
 ghost use Rattle.tzb_core.specs.Reading.{readTold};
-ghost use Rattle.numbers.specs.Steps.{rest};
+ghost use Rattle.varints.specs.Steps.{rest};
 use answer::Refusal;
 
 // Where the next number starts.

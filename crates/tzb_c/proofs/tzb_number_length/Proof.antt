@@ -6,7 +6,7 @@ use borrow.Author.Needs.{needs}
 use mir.Syntax.{w32}
 use mir.ValLaws.{toZ-pos}
 use Rattle.basics.specs.Signed.{back}
-use Rattle.numbers.proofs.Places.{number-place}
+use Rattle.varints.proofs.Places.{number-place}
 use Rattle.tzb_c.proofs.tzb_number_length.Statement.{statement}
 use Rattle.tzb_c.proofs.tzb_number_length.Tie as tie
 use Rattle.tzb_c.proofs.ExportsLaws.{length-no, length-is}

@@ -9,7 +9,7 @@ use lib.IntN.{ℤ}
 use mir.Syntax.{w32}
 use mir.Val.{toZ, ofZ}
 use Rattle.answer.specs.Answers.{ok, outcome}
-use Rattle.numbers.specs.Varint.{numberAt}
+use Rattle.varints.specs.Varint.{numberAt}
 use Rattle.tzb_core.specs.Decode.{decoder}
 use Rattle.basics.specs.Signed.{back}
 use Rattle.tzb_core.proofs.Decoded.{put-end, put-on}

@@ -10,7 +10,7 @@ use Rattle.answer.specs.Answers.{ok}
 use Rattle.answer.specs.Walks.{broken, add}
 use Rattle.plane.specs.Sight.{seenTold}
 use Rattle.plane.specs.Domain.{inDomain}
-use Rattle.numbers.specs.Varint.{numberAt}
+use Rattle.varints.specs.Varint.{numberAt}
 use Rattle.tzb_core.specs.Scan.{scanner}
 use Rattle.tzb_core.proofs.Turns.{nextOf, turn-none, turn-no, turn-half, turn-to, turn-in, half-less, point-less, no-more, by-on, by-off}
 use Rattle.basics.specs.Signed.{back}

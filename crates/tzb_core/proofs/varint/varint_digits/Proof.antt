@@ -1,7 +1,7 @@
 -- `varint::varint_digits` meets its contract: each return is one case of what the first byte is.
 -- Assumes nothing.
 use mathlib.Core.Path.{sym, _∙_}
-use Rattle.numbers.proofs.Digits.{digits-out, first-only, first-more}
+use Rattle.varints.proofs.Digits.{digits-out, first-only, first-more}
 use mathlib.Core.Bool.{true}
 use borrow.Author.Needs.{needs}
 use Rattle.tzb_core.proofs.varint.varint_digits.Statement.{statement}

@@ -1,7 +1,7 @@
 -- `varint::varint_fifth` meets its contract: each return is one case of what the fifth byte is.
 -- Assumes nothing.
 use mathlib.Core.Path.{_∙_}
-use Rattle.numbers.proofs.Digits.{rest-out, fifth-high, fifth-zero, fifth-end}
+use Rattle.varints.proofs.Digits.{rest-out, fifth-high, fifth-zero, fifth-end}
 use native.Mathlib.Omega.{arith}
 use borrow.Author.Needs.{needs}
 use Rattle.tzb_core.proofs.varint.varint_fifth.Statement.{statement}

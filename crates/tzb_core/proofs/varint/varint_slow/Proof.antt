@@ -2,12 +2,12 @@
 -- The measure is the number of digits left before the fifth. Assumes nothing.
 use mathlib.Core.Path.{_≡_, refl, _∙_}
 use Prim.Native.Nat.{ℕ, _+_, _*_, _-_, _<_}
-use Rattle.numbers.proofs.Digits.{rest-out, rest-zero, rest-end, rest-more, lim, lim-down, room, unit-fits, last-unit, last-rest}
+use Rattle.varints.proofs.Digits.{rest-out, rest-zero, rest-end, rest-more, lim, lim-down, room, unit-fits, last-unit, last-rest}
 use native.Mathlib.Omega.{arith}
 use borrow.Author.Needs.{needs}
 use Rattle.tzb_core.proofs.varint.varint_slow.Statement.{statement}
 use Rattle.tzb_core.proofs.varint.varint_slow.Tie as tie
-use Rattle.numbers.specs.Steps.{rest}
+use Rattle.varints.specs.Steps.{rest}
 
 abbrev Inv-loop : tie.InvT-loop
 Inv-loop s from low at₀ n₀ unit₀ left₀ at n unit left =

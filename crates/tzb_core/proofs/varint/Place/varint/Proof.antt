@@ -6,7 +6,7 @@ use borrow.Author.Needs.{needs}
 use Rattle.basics.specs.Signed.{back}
 use Rattle.tzb_core.proofs.varint.Place.varint.Statement.{statement}
 use Rattle.tzb_core.proofs.varint.Place.varint.Tie as tie
-use Rattle.numbers.proofs.VarintLaws.{number-ok, number-no}
+use Rattle.varints.proofs.VarintLaws.{number-ok, number-no}
 use Rattle.tzb_core.specs.Steps.{digitsTold}
 
 varint-digits-requires : tie.Need-varint-digits-requires

@@ -14,8 +14,8 @@ use mir.Val.{SFits}
 use borrow.Author.Tests.{lt-ltb, le-ltb, eq-eqb, ne-eqb, ltb-true, ltb-false, leb-true, eqb-true, eqb-false}
 use Rattle.answer.specs.declared.Refusal.{Refusal}
 use Rattle.answer.specs.Answers.{Answer, ok, refused, need}
-use Rattle.numbers.specs.Varint.{zig, unzig, last, below, digits, signed, numberAt, shortestDigits, encode}
-use Rattle.numbers.proofs.Digits.{digits-end, digits-more, digits-fifth, last-whole, lim, lim-pos}
+use Rattle.varints.specs.Varint.{zig, unzig, last, below, digits, signed, numberAt, shortestDigits, encode}
+use Rattle.varints.proofs.Digits.{digits-end, digits-more, digits-fifth, last-whole, lim, lim-pos}
 
 -- the bytes e stand in s from p on
 abbrev pub Stand : List ℕ → List ℕ → ℕ → Type 0

@@ -7,7 +7,7 @@ use mathlib.Core.Bool.{true}
 use lib.IntN.{ℤ}
 use Rattle.answer.specs.declared.Refusal.{Refusal}
 use Rattle.answer.specs.Answers.{ok, refused}
-use Rattle.numbers.specs.Varint.{unzig, digits, signed, numberAt}
+use Rattle.varints.specs.Varint.{unzig, digits, signed, numberAt}
 
 -- ---- the digits decide the number
 module _ (s : List ℕ) (p : ℕ) where

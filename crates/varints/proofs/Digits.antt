@@ -10,8 +10,8 @@ use mathlib.Core.Bool.{Bool, true, false}
 use lib.ListN.{length, getD}
 use borrow.Author.Tests.{lt-ltb, le-ltb, le-leb, lt-leb, eq-eqb, ne-eqb}
 use Rattle.answer.specs.Answers.{Answer, ok, refused, no}
-use Rattle.numbers.specs.Varint.{last, below, digits}
-use Rattle.numbers.specs.Steps.{rest}
+use Rattle.varints.specs.Varint.{last, below, digits}
+use Rattle.varints.specs.Steps.{rest}
 
 -- ---- the digits, by what the byte is
 module _ (s : List ℕ) (p : ℕ) where

@@ -14,8 +14,8 @@ use lib.IntN.{ℤ}
 use Rattle.answer.specs.declared.Refusal.{Refusal}
 use Rattle.answer.specs.Refusals.{refusal}
 use Rattle.answer.specs.Answers.{Answer, ok, refused, no, need}
-use Rattle.numbers.specs.Varint.{unzig, last, below, digits, signed, numberAt}
-use Rattle.numbers.proofs.Digits.{digits-out, digits-end, digits-more, digits-high, digits-fifth, last-zero}
+use Rattle.varints.specs.Varint.{unzig, last, below, digits, signed, numberAt}
+use Rattle.varints.proofs.Digits.{digits-out, digits-end, digits-more, digits-high, digits-fifth, last-zero}
 
 -- k bytes from p on, each with a digit to follow
 abbrev pub Goes : ℕ → List ℕ → ℕ → Type 0

@@ -10,8 +10,8 @@ use lib.Dec.{ltb, leb}
 use lib.IntN.{ℤ}
 use borrow.Author.Tests.{ltb-true}
 use Rattle.answer.specs.Answers.{Answer, ok, refused, need}
-use Rattle.numbers.specs.Varint.{unzig, last, below, digits, signed, numberAt}
-use Rattle.numbers.proofs.Shortest.{never, parts, last-inv, below-inv}
+use Rattle.varints.specs.Varint.{unzig, last, below, digits, signed, numberAt}
+use Rattle.varints.proofs.Shortest.{never, parts, last-inv, below-inv}
 
 -- q is the place after one to k + 1 bytes from p on
 pub record After (k : ℕ) (s : List ℕ) (p q : ℕ) : Type 0 where
