@@ -16,9 +16,9 @@ use Rattle.answer.specs.Answers.{Answer, ok, _then_, fine}
 use Rattle.answer.specs.Checks.{andThen, same}
 use Rattle.answer.proofs.CheckLaws.{same-eq}
 use Rattle.opened.specs.declared.Opened.{Opened}
-use Rattle.reader_names.proofs.Accepted.{NameGiven}
-use Rattle.reader_grid.specs.Asked.{candidateAt}
-use Rattle.reader_grid.proofs.Accepted.{ListedZone, AllZones}
+use Rattle.reader_named.proofs.Accepted.{NameGiven}
+use Rattle.reader_cells.specs.Asked.{candidateAt}
+use Rattle.reader_cells.proofs.Accepted.{ListedZone, AllZones}
 use Rattle.reader_zones.specs.Zones.{zoneOf}
 use Rattle.reader_lookup.specs.Asking.{scaled, candidateOf, hitAt, orElse, firstHit, unlooked, lookupAmong}
 use Rattle.demands.specs.Lookups.{zoneListed, candidateZones, firstThat, allThat, shortcut}

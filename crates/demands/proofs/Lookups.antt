@@ -11,10 +11,10 @@ use Rattle.plane.specs.declared.Point.{Point}
 use Rattle.answer.specs.Answers.{ok, need}
 use Rattle.answer.specs.Checks.{atMost}
 use Rattle.opened.specs.declared.Opened.{Opened}
-use Rattle.reader_names.specs.Asked.{nameOr}
+use Rattle.reader_named.specs.Asked.{nameOr}
 use Rattle.reader_order.specs.Order.{ordered}
-use Rattle.reader_grid.specs.Asked.{candidatesOf}
-use Rattle.reader_grid.proofs.Accepted.{AllZones}
+use Rattle.reader_cells.specs.Asked.{candidatesOf}
+use Rattle.reader_cells.proofs.Accepted.{AllZones}
 use Rattle.reader_zones.specs.Zones.{zoneOf}
 use Rattle.reader_lookup.specs.Asking.{scaled, unlooked, lookupOf}
 use Rattle.reader_exact.proofs.Exact.{walk-exact}

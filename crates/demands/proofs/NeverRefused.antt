@@ -15,9 +15,9 @@ use Rattle.answer.specs.Checks.{atMost}
 use Rattle.shapes.specs.Walk.{floatTests, zoneWalk}
 use Rattle.shapes.specs.Layout as Layout
 use Rattle.opened.specs.declared.Opened.{Opened}
-use Rattle.reader_grid.specs.Asked.{candidatesOf, candidateAt}
-use Rattle.reader_names.specs.Asked.{nameOr}
-use Rattle.reader_grid.proofs.Accepted.{AllZones}
+use Rattle.reader_cells.specs.Asked.{candidatesOf, candidateAt}
+use Rattle.reader_named.specs.Asked.{nameOr}
+use Rattle.reader_cells.proofs.Accepted.{AllZones}
 use Rattle.reader_records.specs.declared.ChunkRecord.{ChunkRecord}
 use Rattle.reader_records.specs.Records.{chunkAt}
 use Rattle.reader_dirs.specs.Dirs.{chunkOf}

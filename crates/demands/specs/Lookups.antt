@@ -20,8 +20,8 @@ use Rattle.answer.specs.Checks.{atMost}
 use Rattle.shapes.specs.Shapes.{zoneIn}
 use Rattle.shapes.specs.Layout.{zoneAt}
 use Rattle.opened.specs.declared.Opened.{Opened}
-use Rattle.reader_names.specs.Asked.{nameOr}
-use Rattle.reader_grid.specs.Asked.{candidateAt}
+use Rattle.reader_named.specs.Asked.{nameOr}
+use Rattle.reader_cells.specs.Asked.{candidateAt}
 use Rattle.reader_order.specs.Order.{ordered}
 use Rattle.reader_lookup.specs.Asking.{unlooked, lookupOf}
 use Rattle.reader_exact.specs.Directories.{directories}

@@ -11,8 +11,8 @@ use Rattle.plane.specs.declared.Point.{Point}
 use Rattle.plane.specs.declared.I32Point.{I32Point}
 use Rattle.answer.specs.Answers.{ok, Given}
 use Rattle.opened.specs.declared.Opened.{Opened}
-use Rattle.reader_names.specs.Asked.{nameAt}
-use Rattle.reader_grid.specs.Asked.{candidatesOf, candidateAt}
+use Rattle.reader_named.specs.Asked.{nameAt}
+use Rattle.reader_cells.specs.Asked.{candidatesOf, candidateAt}
 use Rattle.reader_records.specs.declared.ChunkRecord.{ChunkRecord}
 use Rattle.reader_records.specs.Records.{zoneAt, polyAt, ringAt, opAt, groupAt, chunkAt}
 use Rattle.reader_chunks.specs.Chunks.{firstAt, chunkPoints, decodeIn}

@@ -30,7 +30,7 @@ use Rattle.reader_head.specs.Head as H
 use Rattle.reader_table.specs.Table as T
 use Rattle.reader_opened.specs.Opened as O
 use Rattle.reader_names.specs.Names as N
-use Rattle.reader_grid.specs.Asked as C
+use Rattle.reader_cells.specs.Asked as C
 use Rattle.reader_records.specs.Records as S
 use Rattle.reader_dirs.specs.Dirs as D
 use Rattle.reader_chunks.specs.Chunks.{startOf, endOf, span, bytesOf, firstIn, firstAt, chunkPoints}

@@ -32,8 +32,8 @@ use Rattle.opened.specs.declared.Grid.{Grid}
 use Rattle.opened.specs.declared.Opened.{Opened}
 use Rattle.opened.specs.Widths.{listWide, ringWide, opWide, groupWide, chunkWide}
 use Rattle.reader_names.specs.Names.{edge}
-use Rattle.reader_names.specs.Asked.{boundsAt, nameAt}
-use Rattle.reader_grid.specs.Asked.{onEarth, inGrid, cellCandidates, candidatesOf, zoneBelow, candidateAt}
+use Rattle.reader_named.specs.Asked.{boundsAt, nameAt}
+use Rattle.reader_cells.specs.Asked.{onEarth, inGrid, cellCandidates, candidatesOf, zoneBelow, candidateAt}
 use Rattle.reader_records.specs.declared.ChunkRecord.{ChunkRecord}
 use Rattle.reader_records.specs.declared.GroupRecord.{GroupRecord}
 use Rattle.reader_records.specs.declared.RingRecord.{RingRecord}

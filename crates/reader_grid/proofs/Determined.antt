@@ -3,16 +3,11 @@
 use mathlib.Core.Path.{sym, _∙_}
 use Rattle.basics.specs.Determined.{Determined}
 use Rattle.reader_grid.proofs.grid.Reads as grid-reads
-use Rattle.reader_grid.proofs.candidates.Reads as candidates-reads
-use Rattle.reader_grid.proofs.candidate_at.Reads as candidate-at-reads
-use Rattle.replies.proofs.One.{one-choice, one-candidate}
 use Rattle.answer.proofs.AnswersLaws.{checked-one}
+use Rattle.reader_grid.proofs.area.Reads as area-reads
 
 pub grid : Determined grid-reads.Learnt
 grid κ a r r' e e' p q = checked-one r r' (p ∙ sym q)
 
-pub candidates : Determined candidates-reads.Learnt
-candidates κ a r r' e e' p q = one-choice r r' _ p q
-
-pub candidate-at : Determined candidate-at-reads.Learnt
-candidate-at κ a r r' e e' p q = one-candidate r r' _ p q
+pub area : Determined area-reads.Learnt
+area κ a r r' e e' p q = p .0 ∙ sym (q .0)

@@ -12,7 +12,7 @@ use Rattle.answer.specs.Answers.{ok, refused, _then_}
 use Rattle.answer.proofs.CheckLaws.{le-at}
 use Rattle.opened.specs.declared.Opened.{Opened}
 use Rattle.reader_order.specs.Order.{ordered, insertAll}
-use Rattle.reader_grid.specs.Asked.{candidatesOf}
+use Rattle.reader_cells.specs.Asked.{candidatesOf}
 use Rattle.replies.specs.Replies.{none, all, listed}
 use Rattle.reader_lookup.specs.Asking.{scaled, hitAt}
 use Rattle.reader_listing.specs.All.{allHits, hitsAmong, hitsOf, namesRead, placed, listFor, listOf}

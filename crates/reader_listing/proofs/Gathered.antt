@@ -11,7 +11,7 @@ use Rattle.answer.specs.declared.Refusal.{Refusal}
 use Rattle.answer.specs.Answers.{Answer, ok, refused, _then_, _before_, Check, fine, outcome}
 use Rattle.answer.specs.Checks.{andThen}
 use Rattle.opened.specs.declared.Opened.{Opened}
-use Rattle.reader_names.specs.Asked.{nameAt}
+use Rattle.reader_named.specs.Asked.{nameAt}
 use Rattle.replies.specs.Replies.{Sought, nowhere, inZone}
 use Rattle.reader_listing.specs.Steps.{seen, seenOn, tally}
 use Rattle.reader_listing.specs.All.{also, allHits, namesRead}

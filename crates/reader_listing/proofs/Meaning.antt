@@ -11,7 +11,7 @@ use Rattle.answer.specs.Answers.{Answer, ok, _then_}
 use Rattle.answer.specs.Checks.{same, atMost}
 use Rattle.answer.proofs.CheckLaws.{at-le}
 use Rattle.opened.specs.declared.Opened.{Opened}
-use Rattle.reader_names.specs.Asked.{nameOr}
+use Rattle.reader_named.specs.Asked.{nameOr}
 use Rattle.reader_order.specs.Order.{ordered, inOrder, called, times}
 use Rattle.reader_order.proofs.Sorted.{is-ordered, same-times, as-they-came}
 use Rattle.reader_lookup.specs.Asking.{orElse, firstHit, strictly, unlooked}

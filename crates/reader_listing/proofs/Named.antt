@@ -7,7 +7,7 @@ use Rattle.answer.specs.declared.Refusal.{Refusal}
 use Rattle.answer.specs.Answers.{ok, refused, Check, fine, outcome}
 use Rattle.answer.specs.Checks.{andThen}
 use Rattle.opened.specs.declared.Opened.{Opened}
-use Rattle.reader_names.specs.Asked.{boundsAt, nameAt}
+use Rattle.reader_named.specs.Asked.{boundsAt, nameAt}
 
 module _ (o : Opened) (s : List ℕ) (zone : ℕ) where
   pub name-fine : (b : ℕ × ℕ) → ok b ≡ boundsAt s (o .names .off) (o .zones .count) zone → fine ≡ outcome (nameAt o s zone)

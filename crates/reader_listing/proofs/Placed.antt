@@ -11,7 +11,7 @@ use Rattle.answer.specs.Answers.{Answer, ok, refused, no, _then_, _before_, Che
 use Rattle.answer.specs.Checks.{andThen}
 use Rattle.answer.proofs.CheckLaws.{le-at, gt-at}
 use Rattle.opened.specs.declared.Opened.{Opened}
-use Rattle.reader_names.specs.Asked.{nameOr}
+use Rattle.reader_named.specs.Asked.{nameOr}
 use Rattle.reader_order.specs.Order.{ordered}
 use Rattle.reader_order.proofs.Sorted.{same-length}
 use Rattle.replies.specs.Replies.{Sought}

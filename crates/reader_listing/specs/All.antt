@@ -9,9 +9,9 @@ use Rattle.plane.specs.declared.Point.{Point}
 use Rattle.answer.specs.Answers.{Answer, ok, need, _then_, _before_, Check, fine, outcome}
 use Rattle.answer.specs.Checks.{andThen, atMost}
 use Rattle.opened.specs.declared.Opened.{Opened}
-use Rattle.reader_names.specs.Asked.{nameAt, nameOr}
+use Rattle.reader_named.specs.Asked.{nameAt, nameOr}
 use Rattle.reader_order.specs.Order.{ordered}
-use Rattle.reader_grid.specs.Asked.{candidatesOf}
+use Rattle.reader_cells.specs.Asked.{candidatesOf}
 use Rattle.replies.specs.Replies.{Chosen, none, all, listed, Sought, nowhere, inZone}
 use Rattle.reader_lookup.specs.Asking.{scaled, hitAt}
 

@@ -7,7 +7,7 @@ ghost use lib.Seq.{sets};
 ghost use Rattle.reader_lookup.specs.Asking.{hitAt};
 ghost use Rattle.answer.specs.Answers.{_then_, fine, checkedTold, howMany, left, outcome};
 ghost use Rattle.answer.specs.Checks.{andThen};
-ghost use Rattle.reader_names.specs.Asked.{nameAt};
+ghost use Rattle.reader_named.specs.Asked.{nameAt};
 ghost use Rattle.replies.specs.Replies.{listingTold};
 ghost use Rattle.reader_listing.specs.Steps.{seen, tally, Kept};
 ghost use Rattle.reader_listing.specs.All.{allHits, placed, listFor, listOf};
@@ -23,7 +23,7 @@ use replies::Listing;
 fn name_read(o: Opened, s: &[u8], zone: u32) -> Checked
     ensures { λ r. ⌜ checkedTold r ≡ outcome (nameAt o (now (s .entry)) zone) ⌝ }
 {
-    let b = reader_names::name_bounds(s, o.names.off, o.zones.count, zone);
+    let b = reader_named::name_bounds(s, o.names.off, o.zones.count, zone);
     match b {
         Bounds::At(_, _) => Checked::Fine,
         Bounds::Refused(k) => Checked::Refused(k),
@@ -180,7 +180,7 @@ pub fn lookup_into(o: Opened, s: &[u8], lng: f64, lat: f64, out: &mut [u32]) -> 
     ensures { λ r. ⌜ listingTold r ≡ howMany (listOf o (now (s .entry)) lng lat (length (now (out .entry)))) ⌝ }
     ensures memory { λ r. ⌜ now (out .exit) ≡ left (now (out .entry)) (listOf o (now (s .entry)) lng lat (length (now (out .entry)))) ⌝ }
 {
-    let c = reader_grid::candidates(o, s, lng, lat);
+    let c = reader_cells::candidates(o, s, lng, lat);
     match c {
         Choice::None => Listing::Zones(0),
         Choice::All(n) => list_in(o, s, reader_lookup::scaled_at(lng, lat), false, n, 0, out),

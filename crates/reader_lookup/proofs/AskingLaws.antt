@@ -10,7 +10,7 @@ use Rattle.plane.specs.declared.Point.{Point}
 use Rattle.answer.specs.declared.Refusal.{Refusal}
 use Rattle.answer.specs.Answers.{Answer, ok, refused, _then_}
 use Rattle.opened.specs.declared.Opened.{Opened}
-use Rattle.reader_grid.specs.Asked.{candidatesOf, candidateAt}
+use Rattle.reader_cells.specs.Asked.{candidatesOf, candidateAt}
 use Rattle.reader_zones.specs.Zones.{zoneOf}
 use Rattle.replies.specs.Replies.{Chosen, none, all, listed, Sought, nowhere, inZone}
 use Rattle.reader_lookup.specs.Asking.{scaled, candidateOf, hitAt, orElse, firstHit, unlooked, lookupAmong, lookupOf}

@@ -15,7 +15,7 @@ use Rattle.fields.specs.Loads.{loadAt, inside}
 use Rattle.fields.proofs.Join.{fits}
 use Rattle.opened.specs.declared.Grid.{Grid}
 use Rattle.opened.specs.declared.Opened.{Opened}
-use Rattle.reader_grid.specs.Asked.{onEarth, inGrid, read, cellCandidates, candidatesOf}
+use Rattle.reader_cells.specs.Asked.{onEarth, inGrid, read, cellCandidates, candidatesOf}
 use Rattle.replies.specs.Replies.{Chosen, none, all, listed}
 use Rattle.answer.proofs.AnswersLaws.{then-inv, need-inv, ok-inv, zero-one}
 

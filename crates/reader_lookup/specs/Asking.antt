@@ -9,7 +9,7 @@ use Rattle.plane.specs.declared.Point.{Point}
 use Rattle.answer.specs.Answers.{Answer, ok, _then_}
 use Rattle.answer.specs.Checks.{same}
 use Rattle.opened.specs.declared.Opened.{Opened}
-use Rattle.reader_grid.specs.Asked.{candidatesOf, candidateAt}
+use Rattle.reader_cells.specs.Asked.{candidatesOf, candidateAt}
 use Rattle.reader_zones.specs.Zones.{zoneOf}
 use Rattle.replies.specs.Replies.{Chosen, none, all, listed, Sought, nowhere, inZone}
 

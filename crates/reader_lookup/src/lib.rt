@@ -3,7 +3,7 @@ ghost use mathlib.Core.Path.{_≡_};
 ghost use Prim.Native.Nat.{_+_, _<_};
 ghost use Rattle.reader_lookup.specs.Asking.{scaled, candidateOf, hitAt, firstHit, unlooked, lookupAmong, lookupOf};
 ghost use Rattle.answer.specs.Answers.{ok, _then_, left};
-ghost use Rattle.reader_grid.specs.Asked.{candidateAt};
+ghost use Rattle.reader_cells.specs.Asked.{candidateAt};
 ghost use Rattle.replies.specs.Replies.{foundTold, inZone, candidateTold, listed};
 use opened::Opened;
 use plane::Point;
@@ -36,7 +36,7 @@ fn candidate(o: Opened, s: &[u8], grid: bool, place: u32) -> Candidate
     ensures { λ r. ⌜ candidateTold r ≡ candidateOf o (now (s .entry)) grid place ⌝ }
 {
     if grid {
-        return reader_grid::candidate_at(o, s, place);
+        return reader_cells::candidate_at(o, s, place);
     }
     Candidate::Zone(place)
 }
@@ -86,7 +86,7 @@ fn first_in(o: Opened, s: &[u8], p: Point, grid: bool, n: u32, from: u32) -> Fou
 fn zone_listed(o: Opened, s: &[u8], place: u32) -> Found
     ensures { λ r. ⌜ foundTold r ≡ (candidateAt o (now (s .entry)) place then λ zone. ok (inZone zone)) ⌝ }
 {
-    let c = reader_grid::candidate_at(o, s, place);
+    let c = reader_cells::candidate_at(o, s, place);
     match c {
         Candidate::Zone(zone) => Found::Zone(zone),
         Candidate::Refused(k) => Found::Refused(k),
@@ -108,7 +108,7 @@ fn lookup_listed(o: Opened, s: &[u8], lng: f64, lat: f64, n: u32, place: u32) ->
 pub fn lookup(o: Opened, s: &[u8], lng: f64, lat: f64) -> Found
     ensures { λ r. ⌜ foundTold r ≡ lookupOf o (now (s .entry)) lng lat ⌝ }
 {
-    let c = reader_grid::candidates(o, s, lng, lat);
+    let c = reader_cells::candidates(o, s, lng, lat);
     match c {
         Choice::None => Found::None,
         Choice::All(n) => first_in(o, s, scaled_at(lng, lat), false, n, 0),

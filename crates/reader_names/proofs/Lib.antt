@@ -1,6 +1,3 @@
 -- Laws of the names: of opening's checks, of the question, of both together.
 pub mod Rises
-pub mod Places
-pub mod Named
-pub mod Accepted
 pub mod Determined

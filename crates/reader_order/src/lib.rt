@@ -4,7 +4,7 @@ ghost use mathlib.Core.Bool.{true};
 ghost use mathlib.Core.List.{_++_};
 ghost use Prim.Native.Nat.{_+_, _<_, _≤_};
 ghost use lib.ListN.{length, take, drop, getD};
-ghost use Rattle.reader_names.specs.Asked.{nameOr};
+ghost use Rattle.reader_named.specs.Asked.{nameOr};
 ghost use Rattle.reader_order.specs.Order.{insert, insertAll, ordered, inOrder};
 ghost use Rattle.reader_order.specs.Steps.{placeFor, movedUp};
 ghost use Rattle.texts.specs.Spelled.{comesBefore};
@@ -14,7 +14,7 @@ use opened::Opened;
 fn before_zone(o: Opened, s: &[u8], own: &[u8], zone: u32) -> bool
     ensures { λ r. ⌜ r ≡ comesBefore (now (own .entry)) (nameOr o (now (s .entry)) zone) ⌝ }
 {
-    texts::comes_before(own, reader_names::name(o, s, zone))
+    texts::comes_before(own, reader_named::name(o, s, zone))
 }
 
 // The place of the first zone, of the first k, whose name comes after own: k where there is none. The first k are in order: the last is looked at first, then the place is found by halving. `after` is the place after the one that is looked at.
@@ -59,7 +59,7 @@ fn settle(o: Opened, s: &[u8], zones: &mut [u32], k: usize)
     ensures { λ _. ⌜ now (zones .exit) ≡ insert (nameOr o (now (s .entry))) (getD (now (zones .entry)) k 0) (take k (now (zones .entry))) ++ drop (k + 1) (now (zones .entry)) ⌝ }
 {
     let zone = zones[k];
-    let own = reader_names::name(o, s, zone);
+    let own = reader_named::name(o, s, zone);
     let place = place_for(o, s, zones, own, k);
     move_up(zones, place, k, 1);
     zones[place] = zone;
@@ -100,7 +100,7 @@ fn merge_held(o: Opened, s: &[u8], zones: &mut [u32], k: usize, held: &[u32])
     let mut j = held.len();
     while 0 < j {
         let zone = held[j - 1];
-        let own = reader_names::name(o, s, zone);
+        let own = reader_named::name(o, s, zone);
         let place = place_for(o, s, zones, own, i);
         move_up(zones, place, i, j);
         i = place;

@@ -22,7 +22,7 @@ fn is_at(b: Bounds, q: &[u8]) -> bool {
 // Where it stands, its refusal, and the sum of its bytes.
 fn is_name(o: Opened, s: &[u8], q: &[u8]) -> bool {
     let zone = number(q, 4);
-    let bounds = reader_names::name_bounds(s, o.names.off, o.zones.count, zone);
+    let bounds = reader_named::name_bounds(s, o.names.off, o.zones.count, zone);
     let name = tzb::name(o, s, zone);
     is_at(bounds, q)
         & (tzb::name_refusal(o, s, zone) == number(q, 24))

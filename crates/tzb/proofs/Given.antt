@@ -22,10 +22,10 @@ use Rattle.opened.specs.declared.Grid.{Grid}
 use Rattle.opened.specs.declared.Opened.{Opened}
 use Rattle.reader_opened.specs.Opened.{bit, flagCheck, zonesCheck, countsCheck, sectionsOf, gridOf, directoryOf, openedOf, Tabled}
 use Rattle.reader_names.specs.Names.{namesCheck}
-use Rattle.reader_names.proofs.Accepted.{NameGiven, name-given}
+use Rattle.reader_named.proofs.Accepted.{NameGiven, name-given}
 use Rattle.reader_grid.specs.Grid.{gridCheck}
-use Rattle.reader_grid.specs.Asked.{candidatesOf}
-use Rattle.reader_grid.proofs.Accepted.{ChosenGiven, candidates-given}
+use Rattle.reader_cells.specs.Asked.{candidatesOf}
+use Rattle.reader_cells.proofs.Accepted.{ChosenGiven, candidates-given}
 use Rattle.reader_records.specs.Records.{place, recordAt, chunkAt, chunkRule, groupAt, groupRule}
 use Rattle.reader_dirs.specs.Dirs.{chunkOf, groupOf, chunksCheck, groupsCheck, countAt, Lies, Room}
 use Rattle.reader_dirs.proofs.Accepted.{chunk-kept, chunk-found, chunk-some, chunk-inside, rises, group-kept, group-found, group-sum}

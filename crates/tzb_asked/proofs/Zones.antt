@@ -14,7 +14,7 @@ use Rattle.plane.specs.declared.Point.{Point}
 use Rattle.fields.specs.Loads.{loadAt}
 use Rattle.opened.specs.declared.Grid.{Grid}
 use Rattle.opened.specs.declared.Opened.{Opened}
-use Rattle.reader_grid.specs.Asked.{onEarth, inGrid, read, cellOf, cellCandidates, candidatesOf, candidatePlace, zoneBelow, candidateAt}
+use Rattle.reader_cells.specs.Asked.{onEarth, inGrid, read, cellOf, cellCandidates, candidatesOf, candidatePlace, zoneBelow, candidateAt}
 use Rattle.reader_zones.specs.Zones.{zoneOf}
 use Rattle.reader_lookup.specs.Asking.{orElse, candidateOf, hitAt, firstHit, unlooked, scaled, lookupAmong, lookupOf}
 use Rattle.replies.specs.Replies.{Chosen, none, all, listed, Sought, nowhere, inZone}

@@ -8,8 +8,8 @@ use lib.Ieee.{Float}
 use Rattle.plane.specs.declared.I32Point.{I32Point}
 use Rattle.answer.specs.Checks.{atMost}
 use Rattle.answer.specs.Answers.{left, Answer, ok, need, _then_}
-use Rattle.reader_names.specs.Asked as N
-use Rattle.reader_grid.specs.Asked as G
+use Rattle.reader_named.specs.Asked as N
+use Rattle.reader_cells.specs.Asked as G
 use Rattle.reader_chunks.specs.Chunks.{decodeIn}
 use Rattle.reader_zones.specs.Zones.{containsAt}
 use Rattle.reader_lookup.specs.Asking.{lookupOf}

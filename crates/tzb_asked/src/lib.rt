@@ -27,7 +27,7 @@ pub fn name_bounds(record: &[u8], file: &[u8], zone: u32) -> Bounds
     let a = tzb_record::read_record(record);
     match a {
         RecordRead::Refused(k) => Bounds::Refused(k),
-        RecordRead::Is(o) => reader_names::name_bounds(file, o.names.off, o.zones.count, zone),
+        RecordRead::Is(o) => reader_named::name_bounds(file, o.names.off, o.zones.count, zone),
     }
 }
 
@@ -57,7 +57,7 @@ pub fn candidates(record: &[u8], file: &[u8], lng: f64, lat: f64) -> Choice
     let a = tzb_record::read_record(record);
     match a {
         RecordRead::Refused(k) => Choice::Refused(k),
-        RecordRead::Is(o) => reader_grid::candidates(o, file, lng, lat),
+        RecordRead::Is(o) => reader_cells::candidates(o, file, lng, lat),
     }
 }
 
@@ -68,7 +68,7 @@ pub fn candidate_at(record: &[u8], file: &[u8], place: u32) -> Candidate
     let a = tzb_record::read_record(record);
     match a {
         RecordRead::Refused(k) => Candidate::Refused(k),
-        RecordRead::Is(o) => reader_grid::candidate_at(o, file, place),
+        RecordRead::Is(o) => reader_cells::candidate_at(o, file, place),
     }
 }
 

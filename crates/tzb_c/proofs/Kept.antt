@@ -8,8 +8,8 @@ use lib.ListN.{length, take, getD}
 use lib.Ieee.{Float}
 use Rattle.answer.specs.Answers.{Answer, ok, _then_, left}
 use Rattle.opened.specs.declared.Opened.{Opened}
-use Rattle.reader_names.specs.Asked as N
-use Rattle.reader_names.proofs.Places.{bounds-good}
+use Rattle.reader_named.specs.Asked as N
+use Rattle.reader_named.proofs.Places.{bounds-good}
 use Rattle.reader_lookup.specs.Asking.{lookupOf}
 use Rattle.tzb_record.specs.Layout.{recordWide, recordOf, Held}
 use Rattle.tzb_record.proofs.RoundTrip.{written-back}

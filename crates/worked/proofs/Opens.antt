@@ -14,11 +14,11 @@ use Rattle.reader_head.specs.Head as H
 use Rattle.reader_table.specs.Table as T
 use Rattle.reader_opened.specs.Opened as O
 use Rattle.reader_names.specs.Names as N
-use Rattle.reader_names.specs.Asked as Q
+use Rattle.reader_named.specs.Asked as Q
 use Rattle.reader_grid.specs.Word as W
 use Rattle.reader_grid.specs.Grid as G
-use Rattle.reader_grid.specs.Floor as F
-use Rattle.reader_grid.specs.Asked as C
+use Rattle.reader_cells.specs.Floor as F
+use Rattle.reader_cells.specs.Asked as C
 use Rattle.reader_records.specs.Records as S
 use Rattle.reader_dirs.specs.Dirs as D
 use Rattle.tzb.specs.Opening as P

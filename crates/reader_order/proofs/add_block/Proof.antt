@@ -1,7 +1,7 @@
 -- `add_block` meets its contract: the last zones are sorted, and put into those before them if there are any.
 -- Assumes nothing.
 use mathlib.Core.Path.{ap, ap₂, _∙_}
-use Rattle.reader_names.specs.Asked.{nameOr}
+use Rattle.reader_named.specs.Asked.{nameOr}
 use Rattle.reader_order.specs.Order.{inOrder, insertAll}
 use Rattle.reader_order.proofs.Sorted.{is-ordered}
 use Rattle.reader_order.proofs.Merged.{block-front, block-back, block-length, block-alone}

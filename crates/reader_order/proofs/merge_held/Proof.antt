@@ -1,6 +1,6 @@
 -- `merge_held` meets its contract. The loop's invariant: the first j of the held zones put into the first i, and what lies behind these, make what is promised.
 -- Assumes nothing.
-use Rattle.reader_names.specs.Asked.{nameOr}
+use Rattle.reader_named.specs.Asked.{nameOr}
 use Rattle.reader_order.proofs.Merged.{Merging, merge-start, merge-end, merge-on, still-in-order, still-room, fits, room-above, inside}
 use native.Mathlib.Omega.{arith}
 use borrow.Author.Needs.{needs}

@@ -2,7 +2,7 @@
 -- Assumes nothing.
 use Prim.Native.Nat.{_-_, _<_, _≤_}
 use mathlib.Core.Logic.{⊎-elim}
-use Rattle.reader_names.specs.Asked.{nameOr}
+use Rattle.reader_named.specs.Asked.{nameOr}
 use Rattle.reader_order.proofs.Halving.{Halving, halving-start, halving-end, halves-down, halves-up}
 use native.Mathlib.Omega.{arith}
 use borrow.Author.Needs.{needs}

@@ -2,7 +2,7 @@
 -- Assumes nothing.
 use Prim.Native.Nat.{_-_}
 use lib.ListN.{length}
-use Rattle.reader_names.specs.Asked.{nameOr}
+use Rattle.reader_named.specs.Asked.{nameOr}
 use Rattle.reader_order.proofs.Shift.{Sorting, sort-start, first-in-order, sort-on, sort-end, all-there}
 use native.Mathlib.Omega.{arith}
 use borrow.Author.Needs.{needs}

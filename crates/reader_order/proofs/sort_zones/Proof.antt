@@ -2,7 +2,7 @@
 -- Assumes nothing.
 use Prim.Native.Nat.{_-_}
 use mathlib.Core.Path.{sym}
-use Rattle.reader_names.specs.Asked.{nameOr}
+use Rattle.reader_named.specs.Asked.{nameOr}
 use Rattle.reader_order.proofs.Shift.{Sorting, sort-end, all-there}
 use Rattle.reader_order.proofs.Merged.{blocks-start, prefix-length, prefix-in-order, blocks-on}
 use native.Mathlib.Omega.{arith}

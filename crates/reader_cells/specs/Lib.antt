@@ -1,0 +1,4 @@
+-- What is asked of GRID.
+pub mod Asked
+pub mod Floor
+pub mod Steps

@@ -1,0 +1,2 @@
+-- The question for a zone's name.
+pub mod Asked
