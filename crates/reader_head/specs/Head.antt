@@ -65,6 +65,7 @@ boundsCheck s =
 unfoldable pub headCheck : List ℕ → Check
 headCheck s = first (startCheck s ∷ fieldsCheck s ∷ versionCheck s ∷ boundsCheck s ∷ [])
 
+-- what the parts after it know of a file whose head is fine
 pub record Headed (s : List ℕ) : Type 0 where
   pub long : 68 ≤ length s
   pub short : length s ≤ 4_294_967_295

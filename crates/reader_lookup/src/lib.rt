@@ -1,4 +1,4 @@
-// The two questions for a position: the first zone that contains it, and all that do, in the order of their names.
+// The first question for a position: the zone that contains it, which is the first of its candidates that does.
 ghost use mathlib.Core.Path.{_≡_};
 ghost use Prim.Native.Nat.{_+_, _<_};
 ghost use Rattle.reader_lookup.specs.Asking.{scaled, candidateOf, hitAt, firstHit, unlooked, lookupAmong, lookupOf};

@@ -1,4 +1,4 @@
-// Opening, 17 to 20, and the opened record: numbers of 32 bits or fewer, so that no sum of a question wraps in 64.
+// Opening, 17 to 20, and how the opened record is made: of numbers of 32 bits or fewer, so that no sum of a question wraps in 64.
 ghost use mathlib.Core.Path.{_≡_};
 ghost use Prim.Native.Nat.{_+_, _-_, _*_, _<_};
 ghost use Rattle.answer.specs.Answers.{checkedTold};

@@ -1,4 +1,4 @@
-// Zones in the order of their names: which of two names comes first, and the sort.
+// Zones in the order of their names: the sort, in lent memory.
 ghost use mathlib.Core.Path.{_≡_};
 ghost use mathlib.Core.Bool.{true};
 ghost use mathlib.Core.List.{_++_};

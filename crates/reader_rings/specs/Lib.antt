@@ -1,3 +1,3 @@
--- Document 01, "Asking": containment in a ring, a polygon and a zone.
+-- Document 01, "Asking": containment in a ring.
 pub mod Rings
 pub mod Steps

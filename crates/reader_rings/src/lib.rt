@@ -1,4 +1,4 @@
-// Containment: rings, polygons and zones.
+// Containment: the walk round a ring, over its groups.
 ghost use mathlib.Core.Path.{_≡_};
 ghost use mathlib.Core.Bool.{false};
 ghost use Prim.Native.Nat.{_+_, _-_, _≤_, _<_};

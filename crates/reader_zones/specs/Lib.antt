@@ -1,2 +1,2 @@
--- Containment in a zone.
+-- Document 01, "Asking": containment in a polygon and a zone.
 pub mod Zones
