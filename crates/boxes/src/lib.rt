@@ -1,8 +1,8 @@
 // A box of whole numbers, asked about a point of floats or of whole numbers; the domain of points.
 ghost use mathlib.Core.Path.{_≡_};
 ghost use Rattle.plane.specs.Domain.{inDomain};
-ghost use Rattle.plane.specs.Segment.{same};
 ghost use Rattle.boxes.specs.Box.{spans, ordered, boxInDomain, inBox, contains, relevant, right};
+ghost use Rattle.plane.specs.Segment.{samePoint};
 use plane::I32Point;
 use plane::Point;
 
@@ -83,7 +83,7 @@ pub fn in_box(b: BBox, q: I32Point) -> bool
 }
 
 pub fn same_point(a: I32Point, b: I32Point) -> bool
-    ensures { λ r. ⌜ r ≡ same a b ⌝ }
+    ensures { λ r. ⌜ r ≡ samePoint a b ⌝ }
 {
     (a.x == b.x) & (a.y == b.y)
 }

@@ -5,7 +5,6 @@ use native.Mathlib.Omega.{arith}
 use mathlib.Core.Path.{_≡_, sym, ap, _∙_}
 use mathlib.Core.Bool.{Bool, true}
 use mathlib.Core.List.{List, _∷_}
-use Rattle.plane.specs.Segment.{same}
 use Rattle.plane.specs.Lines.{every, lastOf}
 use Rattle.answer.specs.Answers.{Answer, ok, Given}
 use Rattle.boxes.specs.declared.BBox.{BBox}
@@ -20,13 +19,14 @@ use Rattle.reader_exact.specs.Directories.{directories, zoneRecord, polyRecord,
 use Rattle.reader_exact.specs.Sound.{Sound}
 use Rattle.reader_exact.proofs.Given.{zone-is, zone-ruled, poly-is, poly-ruled, ring-is, ring-ruled, op-is, op-named, group-is, group-ruled}
 use Rattle.reader_exact.proofs.Chunks.{Holds, holds, first-given}
-use Rattle.reader_cover.specs.Cover.{opGroup}
 use Rattle.reader_check.proofs.Facts as Facts
 use Rattle.tzb.proofs.Given.{group-answered}
 use Rattle.demands.specs.Accepted.{Accepted}
 use Rattle.demands.proofs.Sums.{points-total}
 use Rattle.basics.specs.Total.{total}
 use Rattle.reader_cover.proofs.CoverLaws.{op-group-is}
+use Rattle.plane.specs.Segment.{samePoint}
+use Rattle.reader_cover.specs.Cover.{groupOfOp}
 
 given : {A : Type 0} {x : Answer A} → (a : A) × (ok a ≡ x) → Given x
 given p = record { value = p .0; is = p .1 }
@@ -104,18 +104,18 @@ module _ (file : List ℕ) (o : Opened) (a : Accepted file o) where
         let c = chunk-there j l in
         by-box j l (covers (g .bbox)) (Facts.group-covers o file (a .f5) i h g at j (m .from) (m .before) (c .found) (c .there))
 
-    entry-first : same (g .entry) (chunkShape o file (g .first) .first) ≡ true
+    entry-first : samePoint (g .entry) (chunkShape o file (g .first) .first) ≡ true
     entry-first =
         let c = chunk-there (g .first) (below (g .first) (omega (arith, group-ruled o file k i h .names .some))) in
         Facts.entry-first o file (a .f5) i h g at (chunkShape o file (g .first) .first) (first-given o file (g .first) c)
 
-    exit-last : same (g .exit) (lastOf (chunkShape o file last .first ∷ chunkShape o file last .rest)) ≡ true
+    exit-last : samePoint (g .exit) (lastOf (chunkShape o file last .first ∷ chunkShape o file last .rest)) ≡ true
     exit-last =
         let c = chunk-there last (below last (omega (arith, group-ruled o file k i h .names .some))) in
         Facts.exit-last o file (a .f5) i h g at (chunkShape o file last .first ∷ chunkShape o file last .rest) (c .points)
 
   -- ---- a ring, a polygon, a zone
-  op-group : (j : ℕ) → j < o .ops .count → ok (groupRecord o file (D.opGroup o file j)) ≡ opGroup o file j
+  op-group : (j : ℕ) → j < o .ops .count → ok (groupRecord o file (D.opGroup o file j)) ≡ groupOfOp o file j
   op-group j h = group-is o file k (D.opGroup o file j) (op-named o file k j h) ∙ op-group-is o file j (D.opWord o file j) (op-is o file k j h)
 
   ring-covers : (i : ℕ) → i < o .rings .count → (j : ℕ) → Among (D.ringSpan (ringRecord o file i)) j → covers (ringRecord o file i .bbox) (groupRecord o file (D.opGroup o file j) .bbox) ≡ true

@@ -8,7 +8,7 @@ use lib.IntN.{pos}
 use lib.Ieee as I
 use lib.Ieee.{Float, fin, binary64, ofBits, ofInt, mul}
 use Rattle.plane.specs.declared.I32Point.{I32Point}
-use Rattle.plane.specs.Segment.{cross, amidZ, onZ, countsZ, seg, same}
+use Rattle.plane.specs.Segment.{cross, amidZ, onZ, countsZ, seg, samePoint}
 use Rattle.plane.specs.Runs.{run}
 use Rattle.plane.specs.Domain as A
 use Rattle.answer.specs.Answers.{ok, holds, answered}
@@ -23,7 +23,7 @@ use Rattle.tzb_core.specs.Points as Points
 use Rattle.tzb_core.specs.Along.{along, walkOf}
 use Rattle.tzb_core.specs.Decode.{pointsOf}
 use Rattle.shapes.specs.Shapes.{Zone, ringIn, polygonIn, zoneIn, inBox, covers}
-use Rattle.shapes.specs.Layout.{groupAt, legAt, ringAt, polygonAt, zoneAt}
+use Rattle.shapes.specs.Layout.{groupAt, legAt, ringAt, polygonAt, zoneShape}
 use Rattle.shapes.specs.Example.{zone}
 use Rattle.reader_head.specs.Magic as M
 use Rattle.reader_head.specs.Head as H
@@ -36,7 +36,7 @@ use Rattle.reader_dirs.specs.Dirs as D
 use Rattle.reader_chunks.specs.Chunks.{startOf, endOf, span, bytesOf, firstIn, firstAt, chunkPoints}
 use Rattle.reader_zones.specs.Zones.{containsAt}
 use Rattle.reader_exact.specs.Directories.{zoneRecord, polyRecord, ringRecord, opWord, groupRecord, chunkShape, directories}
-use Rattle.reader_cover.specs.Cover.{opGroup, opPoints, pointsAdd, chunkCovers, jointCovers, jointsCover, chunkUnder, groupUnder, ringUnder, polyUnder, endsFit, groupCovers, ringCovers, polyCovers, zoneCovers}
+use Rattle.reader_cover.specs.Cover.{pointsAdd, chunkCovers, jointCovers, jointsCover, chunkUnder, groupUnder, ringUnder, polyUnder, endsFit, groupCovers, ringCovers, polyCovers, zoneCovers, groupOfOp, sumOfOps}
 use Rattle.reader_check.specs.FullCheck.{met, allMet, recordsHold, chunksDecode, chunkBoxesCover, groupsCover, boxesCover, rule, lowestBroken}
 use Rattle.reader_lookup.specs.Asking.{scaled, lookupOf}
 use Rattle.tzb.specs.Opening as P
@@ -61,15 +61,15 @@ opens = refl
 
 -- F2 to F6
 none-broken : 0 ≡ lowestBroken opened file
-unfolding file opened lowestBroken rule recordsHold chunksDecode chunkBoxesCover groupsCover boxesCover allMet met all run holds answered opGroup opPoints pointsAdd chunkCovers jointCovers jointsCover chunkUnder groupUnder ringUnder polyUnder endsFit groupCovers ringCovers polyCovers zoneCovers inBox covers same S.listAt S.ringAt S.opAt S.groupAt S.chunkAt S.ruled S.recordAt S.listIn S.listRule S.ringIn S.ringRule S.countRule S.opRule S.groupIn S.groupRule S.chunkIn S.chunkRule S.boxIn S.pointIn S.fitsBelow L.inside E.le B.ordered B.boxInDomain A.inDomain chunkPoints bytesOf endOf span startOf firstIn firstAt pointsOf pointsFrom walkOf along Points.firstOf Points.nextAt Points.numbersAt Points.movedBy Points.mustLie Deltas.addDelta Deltas.fits32 numberAt digits
+unfolding file opened lowestBroken rule recordsHold chunksDecode chunkBoxesCover groupsCover boxesCover allMet met all run holds answered groupOfOp sumOfOps pointsAdd chunkCovers jointCovers jointsCover chunkUnder groupUnder ringUnder polyUnder endsFit groupCovers ringCovers polyCovers zoneCovers inBox covers samePoint S.listAt S.ringAt S.opAt S.groupAt S.chunkAt S.ruled S.recordAt S.listIn S.listRule S.ringIn S.ringRule S.countRule S.opRule S.groupIn S.groupRule S.chunkIn S.chunkRule S.boxIn S.pointIn S.fitsBelow L.inside E.le B.ordered B.boxInDomain A.inDomain chunkPoints bytesOf endOf span startOf firstIn firstAt pointsOf pointsFrom walkOf along Points.firstOf Points.nextAt Points.numbersAt Points.movedBy Points.mustLie Deltas.addDelta Deltas.fits32 numberAt digits
 none-broken = refl
 
 pub accepts : fullCheckOf file ≡ accepted
 accepts = sym (full-accepted file opened opens 0 none-broken refl)
 
 -- its zone is the drawn one
-pub made : zoneAt (directories opened file) 0 ≡ zone
-unfolding file opened directories zoneRecord polyRecord ringRecord opWord groupRecord chunkShape zoneAt polygonAt ringAt legAt groupAt run S.listAt S.ringAt S.opAt S.groupAt S.chunkAt S.ruled S.recordAt S.listIn S.listRule S.ringIn S.ringRule S.opRule S.groupIn S.groupRule S.chunkIn S.chunkRule S.boxIn S.pointIn S.fitsBelow L.inside E.le B.ordered B.boxInDomain A.inDomain chunkPoints bytesOf endOf span startOf pointsOf pointsFrom walkOf along Points.firstOf Points.nextAt Points.numbersAt Points.movedBy Points.mustLie Deltas.addDelta Deltas.fits32 numberAt digits
+pub made : zoneShape (directories opened file) 0 ≡ zone
+unfolding file opened directories zoneRecord polyRecord ringRecord opWord groupRecord chunkShape zoneShape polygonAt ringAt legAt groupAt run S.listAt S.ringAt S.opAt S.groupAt S.chunkAt S.ruled S.recordAt S.listIn S.listRule S.ringIn S.ringRule S.opRule S.groupIn S.groupRule S.chunkIn S.chunkRule S.boxIn S.pointIn S.fitsBelow L.inside E.le B.ordered B.boxInDomain A.inDomain chunkPoints bytesOf endOf span startOf pointsOf pointsFrom walkOf along Points.firstOf Points.nextAt Points.numbersAt Points.movedBy Points.mustLie Deltas.addDelta Deltas.fits32 numberAt digits
 made = refl
 
 -- demand 3 for it: at every whole-number point
@@ -128,10 +128,10 @@ scaled-to lng lat m n e f = rw (e, f)
 
 -- 17, 10: between the hole and the square's edge
 pub in-square : lookupOf opened file seventeen ten ≡ ok (inZone 0)
-unfolding C.onEarth I.le I.lt I.eq ofInt ofBits zoneIn polygonIn ringIn seg onZ countsZ amidZ cross same
+unfolding C.onEarth I.le I.lt I.eq ofInt ofBits zoneIn polygonIn ringIn seg onZ countsZ amidZ cross samePoint
 in-square = looked seventeen ten refl (record { at = at 17 10; longitude = omega arith; latitude = omega arith }) (scaled-to seventeen ten 17 10 (is-17 ∙ sym float-17) (is-10 ∙ sym float-10)) true refl
 
 -- 10, 10: in the hole
 pub in-hole : lookupOf opened file ten ten ≡ ok nowhere
-unfolding C.onEarth I.le I.lt I.eq ofInt ofBits zoneIn polygonIn ringIn seg onZ countsZ amidZ cross same
+unfolding C.onEarth I.le I.lt I.eq ofInt ofBits zoneIn polygonIn ringIn seg onZ countsZ amidZ cross samePoint
 in-hole = looked ten ten refl (record { at = at 10 10; longitude = omega arith; latitude = omega arith }) (scaled-to ten ten 10 10 (is-10 ∙ sym float-10) (is-10 ∙ sym float-10)) false refl

@@ -7,7 +7,6 @@ use lib.IntN.{pos}
 use lib.ListN.{set}
 use lib.Dec.{T, eqb}
 use Rattle.plane.specs.Domain.{inDomain}
-use Rattle.plane.specs.Segment.{same}
 use Rattle.plane.specs.Lines.{every}
 use Rattle.plane.specs.Runs.{run}
 use Rattle.fields.specs.Le.{le}
@@ -22,11 +21,12 @@ use Rattle.shapes.specs.Shapes.{inBox, covers}
 use Rattle.opened.specs.declared.Opened.{Opened}
 use Rattle.reader_records.specs.Records as Records
 use Rattle.reader_chunks.specs.Chunks.{startOf, endOf, span, bytesOf, firstIn, firstAt, chunkPoints}
-use Rattle.reader_cover.specs.Cover.{opGroup, opPoints, pointsAdd, chunkCovers, jointCovers, jointsCover, chunkUnder, groupUnder, ringUnder, polyUnder, endsFit, groupCovers, ringCovers, polyCovers, zoneCovers}
+use Rattle.reader_cover.specs.Cover.{pointsAdd, chunkCovers, jointCovers, jointsCover, chunkUnder, groupUnder, ringUnder, polyUnder, endsFit, groupCovers, ringCovers, polyCovers, zoneCovers, groupOfOp, sumOfOps}
 use Rattle.reader_check.specs.FullCheck.{met, allMet, recordsHold, chunksDecode, chunkBoxesCover, groupsCover, boxesCover, rule, lowestBroken}
 use Rattle.answer.specs.Answers.{holds, answered}
 use Rattle.reader_cover.specs.All.{all}
 use Rattle.tzb_core.specs.Steps.{pointsFrom}
+use Rattle.plane.specs.Segment.{samePoint}
 
 -- a zone of two polygons with a ring each; the first ring is a square from two groups, the second goes back along one of them
 abbrev pub bytes : List ℕ
@@ -151,5 +151,5 @@ rows =
     ∷ []
 
 pub judged : T (every told rows)
-unfolding lowestBroken rule recordsHold chunksDecode chunkBoxesCover groupsCover boxesCover allMet met all run holds answered opGroup opPoints pointsAdd chunkCovers jointCovers jointsCover chunkUnder groupUnder ringUnder polyUnder endsFit groupCovers ringCovers polyCovers zoneCovers inBox covers same Records.listAt Records.ringAt Records.opAt Records.groupAt Records.chunkAt Records.ruled Records.recordAt Records.listIn Records.listRule Records.ringIn Records.ringRule Records.countRule Records.opRule Records.groupIn Records.groupRule Records.chunkIn Records.chunkRule Records.boxIn Records.pointIn Records.fitsBelow Loads.inside le ordered boxInDomain inDomain chunkPoints bytesOf endOf span startOf firstIn firstAt pointsOf pointsFrom walkOf along Points.firstOf Points.nextAt Points.numbersAt Points.movedBy Points.mustLie addDelta fits32 numberAt digits
+unfolding lowestBroken rule recordsHold chunksDecode chunkBoxesCover groupsCover boxesCover allMet met all run holds answered groupOfOp sumOfOps pointsAdd chunkCovers jointCovers jointsCover chunkUnder groupUnder ringUnder polyUnder endsFit groupCovers ringCovers polyCovers zoneCovers inBox covers samePoint Records.listAt Records.ringAt Records.opAt Records.groupAt Records.chunkAt Records.ruled Records.recordAt Records.listIn Records.listRule Records.ringIn Records.ringRule Records.countRule Records.opRule Records.groupIn Records.groupRule Records.chunkIn Records.chunkRule Records.boxIn Records.pointIn Records.fitsBelow Loads.inside le ordered boxInDomain inDomain chunkPoints bytesOf endOf span startOf firstIn firstAt pointsOf pointsFrom walkOf along Points.firstOf Points.nextAt Points.numbersAt Points.movedBy Points.mustLie addDelta fits32 numberAt digits
 judged = tt

@@ -279,7 +279,7 @@ module _ (o : Opened) (s : List ℕ) where
 
     joint : (a b : I32Point) → W (jointOf p a b)
     unfolding jointOf
-    joint a b = either-way W (S.same a b) _ _ (walked _ _) (past-t (rayOf a b p) tt)
+    joint a b = either-way W (S.samePoint a b) _ _ (walked _ _) (past-t (rayOf a b p) tt)
 
     turn : (a : I32Point) (t : Turned) → W (turnWalk o s p a t)
     unfolding turnWalk

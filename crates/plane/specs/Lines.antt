@@ -8,8 +8,8 @@ use Rattle.basics.specs.Parity.{_⊻_, ⊻-self, ⊻-mid}
 use Rattle.plane.specs.declared.I32Point.{I32Point}
 use Rattle.plane.specs.Sight.{Sight}
 use Rattle.plane.specs.Tally.{Off, _⊕_, none, ⊕-idl, ⊕-idr, ⊕-assoc, ⊕-swap}
-use Rattle.plane.specs.Segment.{same}
 use Rattle.plane.specs.Turns.{same-true}
+use Rattle.plane.specs.Segment.{samePoint}
 
 -- ---- first and last point
 abbrev pub origin : I32Point
@@ -106,7 +106,7 @@ module _ (seg : I32Point → I32Point → Sight) where
 
   -- from the end of one stretch to the start of the next: a segment, wherever the two differ
   abbrev pub link : I32Point → I32Point → Sight
-  link a b = cond (same a b) none (seg a b)
+  link a b = cond (samePoint a b) none (seg a b)
 
   abbrev pub onward : I32Point → I32Point → List Stretch → Sight
   onward first last [] = link last first
@@ -168,9 +168,9 @@ module _ (seg : I32Point → I32Point → Sight) where
     line-tells (a ∷ r) q = chain-tells a r (and-l (P a) (every P r) q) (and-r (P a) (every P r) q)
 
     link-tells : (a b : I32Point) → P a ≡ true → P b ≡ true → link a b ≡ Off (h a ⊻ h b)
-    link-tells a b p q = go (same a b) refl
+    link-tells a b p q = go (samePoint a b) refl
       where
-        go : (t : Bool) → same a b ≡ t → cond t none (seg a b) ≡ Off (h a ⊻ h b)
+        go : (t : Bool) → samePoint a b ≡ t → cond t none (seg a b) ≡ Off (h a ⊻ h b)
         go true e = ap Off (sym (⊻-self (h a)) ∙ ap (λ c. h a ⊻ h c) (same-true a b e))
         go false e = tells a b p q
 

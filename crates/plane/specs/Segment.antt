@@ -35,5 +35,5 @@ unfoldable pub above : I32Point → I32Point → Bool
 above p a = ltZ (p .y) (a .y)
 
 -- the same place
-unfoldable pub same : I32Point → I32Point → Bool
-same a b = eqZ (a .x) (b .x) && eqZ (a .y) (b .y)
+unfoldable pub samePoint : I32Point → I32Point → Bool
+samePoint a b = eqZ (a .x) (b .x) && eqZ (a .y) (b .y)

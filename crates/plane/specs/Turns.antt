@@ -9,11 +9,11 @@ use lib.Signed.{ltZ, leZ}
 use Rattle.basics.specs.Parity.{_⊻_}
 use Rattle.plane.specs.declared.I32Point.{I32Point}
 use Rattle.plane.specs.Tally.{On, Off, none}
-use Rattle.plane.specs.Segment.{cross, amidZ, onZ, countsZ, seg, above, same}
+use Rattle.plane.specs.Segment.{cross, amidZ, onZ, countsZ, seg, above, samePoint}
 use Rattle.basics.specs.Whole.{isZero, eqZ, Is, is-move, is-unique, is-neg, is-minus, is-mul, shift, shift-is, lt-is, le-is, le-not-lt, lt-not-le, not-lt-le, antisym, neg-zero, neg-pos, pos-is, nonpos-is, sub-pos, asym, eqZ-true}
 
-pub same-true : (a b : I32Point) → same a b ≡ true → a ≡ b
-unfolding same
+pub same-true : (a b : I32Point) → samePoint a b ≡ true → a ≡ b
+unfolding samePoint
 same-true a b h = go (eqZ (a .x) (b .x)) (eqZ (a .y) (b .y)) refl refl h
   where
     go : (s t : Bool) → eqZ (a .x) (b .x) ≡ s → eqZ (a .y) (b .y) ≡ t → s && t ≡ true → a ≡ b

@@ -61,18 +61,12 @@ fn natural(z: i64) -> usize
     z as usize
 }
 
-fn wide16(x: u16) -> usize
-    ensures { λ r. ⌜ (r ≡ x) × (r < 0x1_0000) ⌝ }
-{
-    x as usize
-}
-
 // Where the word of a cell stands.
 fn cell_place(g: Grid, column: i64, row: i64) -> usize
     requires { ⌜ inGrid g column row ≡ true ⌝ }
     ensures { λ r. ⌜ r ≡ g .off + 12 + 4 * cellOf g column row ⌝ }
 {
-    let cell = natural(row) * wide16(g.cols) + natural(column);
+    let cell = natural(row) * fields::wide16(g.cols) + natural(column);
     fields::wide(g.off) + 12 + 4 * cell
 }
 

@@ -7,7 +7,6 @@ use mathlib.Core.Bool.{true}
 use mathlib.Core.List.{List, _∷_}
 use Rattle.basics.specs.Truth.{and-l, and-r}
 use Rattle.plane.specs.declared.I32Point.{I32Point}
-use Rattle.plane.specs.Segment.{same}
 use Rattle.plane.specs.Lines.{every, lastOf}
 use Rattle.answer.specs.Answers.{ok, holds}
 use Rattle.shapes.specs.Shapes.{inBox, covers}
@@ -18,13 +17,14 @@ use Rattle.reader_records.specs.declared.GroupRecord.{GroupRecord}
 use Rattle.reader_records.specs.declared.ChunkRecord.{ChunkRecord}
 use Rattle.reader_records.specs.Records.{zoneAt, polyAt, ringAt, opAt, groupAt, chunkAt, countRule}
 use Rattle.reader_chunks.specs.Chunks.{firstAt, chunkPoints}
-use Rattle.reader_cover.specs.Cover.{opGroup, opPoints, pointsAdd, chunkCovers, jointCovers, jointsCover, chunkUnder, groupUnder, ringUnder, polyUnder, endsFit, groupCovers, ringCovers, polyCovers, zoneCovers}
+use Rattle.reader_cover.specs.Cover.{pointsAdd, chunkCovers, jointCovers, jointsCover, chunkUnder, groupUnder, ringUnder, polyUnder, endsFit, groupCovers, ringCovers, polyCovers, zoneCovers, groupOfOp, sumOfOps}
 use Rattle.reader_check.specs.declared.Demand.{Demand}
 use Rattle.reader_check.specs.declared.Demand.the-variants as D
 use Rattle.reader_check.specs.FullCheck.{asked, met, allMet, recordsHold, chunksDecode, chunkBoxesCover, groupsCover, boxesCover}
 use Rattle.reader_cover.specs.All.{all}
 use Rattle.answer.proofs.AnswersLaws.{holds-at, held, answer-of}
 use Rattle.reader_cover.proofs.AllLaws.{all-at}
+use Rattle.plane.specs.Segment.{samePoint}
 
 module _ (o : Opened) (s : List ℕ) where
   -- of demands that are all met: the first, and the rest
@@ -68,9 +68,9 @@ module _ (o : Opened) (s : List ℕ) (h : recordsHold o s ≡ true) where
       ring-there = let g = held (pointsAdd o s) (ringAt o s i) ring-passes in (g .0, g .1)
 
       -- its groups' point counts, and that they add
-      pub ring-adds : (v : RingRecord) → ok v ≡ ringAt o s i → (t : ℕ) × (ok t ≡ opPoints o s (v .count) (v .first)) × (countRule v t ≡ true)
+      pub ring-adds : (v : RingRecord) → ok v ≡ ringAt o s i → (t : ℕ) × (ok t ≡ sumOfOps o s (v .count) (v .first)) × (countRule v t ≡ true)
       unfolding pointsAdd
-      ring-adds v e = held (countRule v) (opPoints o s (v .count) (v .first)) (holds-at (pointsAdd o s) (ringAt o s i) v e ring-passes)
+      ring-adds v e = held (countRule v) (sumOfOps o s (v .count) (v .first)) (holds-at (pointsAdd o s) (ringAt o s i) v e ring-passes)
 
 -- ---- F3
 module _ (o : Opened) (s : List ℕ) (h : chunksDecode o s ≡ true) where
@@ -118,17 +118,17 @@ module _ (o : Opened) (s : List ℕ) (h : groupsCover o s ≡ true) (i : ℕ) (m
       holds-at (λ v. covers (g .bbox) (v .bbox)) (chunkAt o s j) v f
       (all-at (chunkUnder o s (g .bbox)) (g .count) (g .first) (and-l (all (chunkUnder o s (g .bbox)) (g .count) (g .first)) (endsFit o s g) passes) j a b)
 
-  pub entry-first : (q : I32Point) → ok q ≡ firstAt o s (g .first) → same (g .entry) q ≡ true
+  pub entry-first : (q : I32Point) → ok q ≡ firstAt o s (g .first) → samePoint (g .entry) q ≡ true
   unfolding endsFit
   entry-first q f =
-      holds-at (same (g .entry)) (firstAt o s (g .first)) q f
-      (and-l (holds (same (g .entry)) (firstAt o s (g .first))) (holds (λ l. same (g .exit) (lastOf l)) (chunkPoints o s (g .first + (g .count - 1)))) ends)
+      holds-at (samePoint (g .entry)) (firstAt o s (g .first)) q f
+      (and-l (holds (samePoint (g .entry)) (firstAt o s (g .first))) (holds (λ l. samePoint (g .exit) (lastOf l)) (chunkPoints o s (g .first + (g .count - 1)))) ends)
 
-  pub exit-last : (l : List I32Point) → ok l ≡ chunkPoints o s (g .first + (g .count - 1)) → same (g .exit) (lastOf l) ≡ true
+  pub exit-last : (l : List I32Point) → ok l ≡ chunkPoints o s (g .first + (g .count - 1)) → samePoint (g .exit) (lastOf l) ≡ true
   unfolding endsFit
   exit-last l f =
-      holds-at (λ l. same (g .exit) (lastOf l)) (chunkPoints o s (g .first + (g .count - 1))) l f
-      (and-r (holds (same (g .entry)) (firstAt o s (g .first))) (holds (λ l. same (g .exit) (lastOf l)) (chunkPoints o s (g .first + (g .count - 1)))) ends)
+      holds-at (λ l. samePoint (g .exit) (lastOf l)) (chunkPoints o s (g .first + (g .count - 1))) l f
+      (and-r (holds (samePoint (g .entry)) (firstAt o s (g .first))) (holds (λ l. samePoint (g .exit) (lastOf l)) (chunkPoints o s (g .first + (g .count - 1)))) ends)
 
 -- ---- F6
 module _ (o : Opened) (s : List ℕ) (h : boxesCover o s ≡ true) where
@@ -139,10 +139,10 @@ module _ (o : Opened) (s : List ℕ) (h : boxesCover o s ≡ true) where
       (one o s _ _ h, one o s _ _ a, one o s _ _ (rest o s _ _ a))
 
   pub ring-covers : (i : ℕ) → i < o .rings .count → (v : RingRecord) → ok v ≡ ringAt o s i → (j : ℕ) → v .first ≤ j → j < v .first + v .count
-      → (g : GroupRecord) → ok g ≡ opGroup o s j → covers (v .bbox) (g .bbox) ≡ true
+      → (g : GroupRecord) → ok g ≡ groupOfOp o s j → covers (v .bbox) (g .bbox) ≡ true
   unfolding ringCovers groupUnder
   ring-covers i m v e j a b g f =
-      holds-at (λ g. covers (v .bbox) (g .bbox)) (opGroup o s j) g f
+      holds-at (λ g. covers (v .bbox) (g .bbox)) (groupOfOp o s j) g f
       (all-at (groupUnder o s (v .bbox)) (v .count) (v .first) (holds-at (ringCovers o s) (ringAt o s i) v e (each o s D.RingBox (levels .0) i m)) j a b)
 
   pub poly-covers : (i : ℕ) → i < o .polys .count → (v : ListRecord) → ok v ≡ polyAt o s i → (j : ℕ) → v .first ≤ j → j < v .first + v .count

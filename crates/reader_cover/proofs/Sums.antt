@@ -11,50 +11,50 @@ use Rattle.opened.specs.declared.Opened.{Opened}
 use Rattle.reader_records.specs.declared.RingRecord.{RingRecord}
 use Rattle.reader_records.specs.declared.GroupRecord.{GroupRecord}
 use Rattle.reader_records.specs.Records.{countRule}
-use Rattle.reader_cover.specs.Cover.{opGroup, opPoints, pointsAdd}
+use Rattle.reader_cover.specs.Cover.{pointsAdd, groupOfOp, sumOfOps}
 
 -- with `sum` counted so far, n ops from op j on
 unfoldable pub addsUp : Opened → List ℕ → RingRecord → ℕ → ℕ → ℕ → Bool
-addsUp o s v sum n j = holds (λ t. countRule v (sum + t)) (opPoints o s n j)
+addsUp o s v sum n j = holds (λ t. countRule v (sum + t)) (sumOfOps o s n j)
 
 module _ (o : Opened) (s : List ℕ) (v : RingRecord) where
   pub adds-start : (j : ℕ) → j ≡ v .first → addsUp o s v 0 (v .count) j ≡ pointsAdd o s v
   unfolding addsUp pointsAdd holds
-  adds-start j e = rw e (go (opPoints o s (v .count) (v .first)))
+  adds-start j e = rw e (go (sumOfOps o s (v .count) (v .first)))
     where
       go : (x : Answer ℕ) → holds (λ t. countRule v (0 + t)) x ≡ holds (countRule v) x
       go (ok t) = let z : 0 + t ≡ t = omega arith in ap (countRule v) z
       go (refused r) = refl
 
   module _ (n j : ℕ) (h : 0 < n) where
-    one-no : (r : Refusal) → refused r ≡ opGroup o s j → opPoints o s n j ≡ refused r
-    unfolding opPoints
+    one-no : (r : Refusal) → refused r ≡ groupOfOp o s j → sumOfOps o s n j ≡ refused r
+    unfolding sumOfOps
     one-no r e =
         let m : n ≡ suc (n - 1) = omega arith in
         rw (m, ← e)
 
-    one-more : (g : GroupRecord) → ok g ≡ opGroup o s j → opPoints o s n j ≡ (opPoints o s (n - 1) (j + 1) then λ t. ok (g .points + t))
-    unfolding opPoints
-    one-more g e = ap (λ (k : ℕ). opPoints o s k j) m ∙ ap (λ (y : Answer GroupRecord). y then λ g. opPoints o s (n - 1) (j + 1) then λ t. ok (g .points + t)) (sym e)
+    one-more : (g : GroupRecord) → ok g ≡ groupOfOp o s j → sumOfOps o s n j ≡ (sumOfOps o s (n - 1) (j + 1) then λ t. ok (g .points + t))
+    unfolding sumOfOps
+    one-more g e = ap (λ (k : ℕ). sumOfOps o s k j) m ∙ ap (λ (y : Answer GroupRecord). y then λ g. sumOfOps o s (n - 1) (j + 1) then λ t. ok (g .points + t)) (sym e)
       where
         m : n ≡ suc (n - 1)
         m = omega arith
 
   module _ (sum n j : ℕ) (whole : Bool) (inv : addsUp o s v sum n j ≡ whole) where
-    pub adds-no : 0 < n → (r : Refusal) → refused r ≡ opGroup o s j → false ≡ whole
+    pub adds-no : 0 < n → (r : Refusal) → refused r ≡ groupOfOp o s j → false ≡ whole
     unfolding addsUp holds
     adds-no h r e = ap (holds (λ t. countRule v (sum + t))) (sym (one-no n j h r e)) ∙ inv
 
-    pub adds-on : 0 < n → (g : GroupRecord) → ok g ≡ opGroup o s j → (x : ℕ) → x ≡ g .points → addsUp o s v (sum + x) (n - 1) (j + 1) ≡ whole
+    pub adds-on : 0 < n → (g : GroupRecord) → ok g ≡ groupOfOp o s j → (x : ℕ) → x ≡ g .points → addsUp o s v (sum + x) (n - 1) (j + 1) ≡ whole
     unfolding addsUp holds
-    adds-on h g e x f = step (opPoints o s (n - 1) (j + 1)) ∙ ap (holds (λ t. countRule v (sum + t))) (sym (one-more n j h g e)) ∙ inv
+    adds-on h g e x f = step (sumOfOps o s (n - 1) (j + 1)) ∙ ap (holds (λ t. countRule v (sum + t))) (sym (one-more n j h g e)) ∙ inv
       where
         step : (y : Answer ℕ) → holds (λ t. countRule v (sum + x + t)) y ≡ holds (λ t. countRule v (sum + t)) (y then λ t. ok (g .points + t))
         step (ok t) = let z : sum + x + t ≡ sum + (g .points + t) = omega arith in ap (countRule v) z
         step (refused r) = refl
 
     pub adds-end : n ≡ 0 → countRule v sum ≡ whole
-    unfolding addsUp opPoints holds
+    unfolding addsUp sumOfOps holds
     adds-end z =
         let y : sum + 0 ≡ sum = omega arith in
         let i : countRule v (sum + 0) ≡ whole = rw z at inv in

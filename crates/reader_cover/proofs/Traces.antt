@@ -6,7 +6,6 @@ use mathlib.Core.Bool.{Bool, true, false}
 use mathlib.Core.List.{List}
 use lib.Dec.{ltb}
 use Rattle.plane.specs.declared.I32Point.{I32Point}
-use Rattle.plane.specs.Segment.{same}
 use Rattle.plane.specs.Lines.{every, lastOf}
 use Rattle.answer.specs.declared.Refusal.{Refusal}
 use Rattle.answer.specs.Answers.{Answer, ok, refused, _then_, need, holds, answered}
@@ -22,6 +21,7 @@ use Rattle.reader_chunks.specs.Chunks.{startOf, endOf, span, bytesOf, traceIn, 
 use Rattle.reader_cover.specs.Cover.{chunkCovers}
 use Rattle.answer.proofs.AnswersLaws.{holds-no, holds-ok}
 use Rattle.tzb_core.proofs.DecodeLaws.{points-are}
+use Rattle.plane.specs.Segment.{samePoint}
 
 -- a test of points, made on their trace
 traced-holds : (b : BBox) (P : List I32Point → Bool) (Q : Bool × I32Point → Bool) → ((l : List I32Point) → Q (every (inBox b) l, lastOf l) ≡ P l)
@@ -96,8 +96,8 @@ module _ (o : Opened) (s : List ℕ) (i : ℕ) where
 
   -- F5: the last point
   module _ (q : I32Point) where
-    pub last-no : (r : Refusal) → refused r ≡ traceAt o s i → false ≡ holds (λ l. same q (lastOf l)) (chunkPoints o s i)
-    last-no r e = holds-no (λ t. same q (t .1)) (traceAt o s i) r e ∙ trace-holds (λ l. same q (lastOf l)) (λ t. same q (t .1)) (λ b l. refl)
+    pub last-no : (r : Refusal) → refused r ≡ traceAt o s i → false ≡ holds (λ l. samePoint q (lastOf l)) (chunkPoints o s i)
+    last-no r e = holds-no (λ t. samePoint q (t .1)) (traceAt o s i) r e ∙ trace-holds (λ l. samePoint q (lastOf l)) (λ t. samePoint q (t .1)) (λ b l. refl)
 
-    pub last-ok : (inside : Bool) (p : I32Point) → ok (inside, p) ≡ traceAt o s i → (r : Bool) → r ≡ same q p → r ≡ holds (λ l. same q (lastOf l)) (chunkPoints o s i)
-    last-ok inside p e r h = holds-ok (λ t. same q (t .1)) (traceAt o s i) (inside, p) e r h ∙ trace-holds (λ l. same q (lastOf l)) (λ t. same q (t .1)) (λ b l. refl)
+    pub last-ok : (inside : Bool) (p : I32Point) → ok (inside, p) ≡ traceAt o s i → (r : Bool) → r ≡ samePoint q p → r ≡ holds (λ l. samePoint q (lastOf l)) (chunkPoints o s i)
+    last-ok inside p e r h = holds-ok (λ t. samePoint q (t .1)) (traceAt o s i) (inside, p) e r h ∙ trace-holds (λ l. samePoint q (lastOf l)) (λ t. samePoint q (t .1)) (λ b l. refl)

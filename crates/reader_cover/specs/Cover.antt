@@ -3,7 +3,6 @@
 use Prim.Native.Nat.{ℕ, zero, suc, _+_, _-_}
 use mathlib.Core.Bool.{Bool, _&&_}
 use mathlib.Core.List.{List}
-use Rattle.plane.specs.Segment.{same}
 use Rattle.plane.specs.Lines.{every, lastOf}
 use Rattle.answer.specs.Answers.{Answer, ok, _then_, holds}
 use Rattle.boxes.specs.declared.BBox.{BBox}
@@ -16,20 +15,21 @@ use Rattle.reader_records.specs.Records.{polyAt, ringAt, groupIndex, opAt, grou
 use Rattle.reader_chunks.specs.Chunks.{firstAt, chunkPoints}
 use Rattle.shapes.specs.Shapes.{covers}
 use Rattle.reader_cover.specs.All.{all}
+use Rattle.plane.specs.Segment.{samePoint}
 
 -- the group that op j names
-unfoldable pub opGroup : Opened → List ℕ → ℕ → Answer GroupRecord
-opGroup o s j = opAt o s j then λ w. groupAt o s (groupIndex w)
+unfoldable pub groupOfOp : Opened → List ℕ → ℕ → Answer GroupRecord
+groupOfOp o s j = opAt o s j then λ w. groupAt o s (groupIndex w)
 
 -- ---- F2 Every ring's groups' point counts, less its number of groups, add to its point count.
 -- the point counts of the groups that n ops name, from op j on, added
-unfoldable pub opPoints : Opened → List ℕ → ℕ → ℕ → Answer ℕ
-opPoints o s zero j = ok 0
-opPoints o s (suc n) j = opGroup o s j then λ g. opPoints o s n (j + 1) then λ t. ok (g .points + t)
+unfoldable pub sumOfOps : Opened → List ℕ → ℕ → ℕ → Answer ℕ
+sumOfOps o s zero j = ok 0
+sumOfOps o s (suc n) j = groupOfOp o s j then λ g. sumOfOps o s n (j + 1) then λ t. ok (g .points + t)
 
 -- of a ring
 unfoldable pub pointsAdd : Opened → List ℕ → RingRecord → Bool
-pointsAdd o s r = holds (countRule r) (opPoints o s (r .count) (r .first))
+pointsAdd o s r = holds (countRule r) (sumOfOps o s (r .count) (r .first))
 
 -- ---- F4 Each chunk's box covers its points and, within a group, the next chunk's first.
 -- chunk i's box covers its points
@@ -50,7 +50,7 @@ unfoldable pub chunkUnder : Opened → List ℕ → BBox → ℕ → Bool
 chunkUnder o s b j = holds (λ v. covers b (v .bbox)) (chunkAt o s j)
 
 unfoldable pub groupUnder : Opened → List ℕ → BBox → ℕ → Bool
-groupUnder o s b j = holds (λ g. covers b (g .bbox)) (opGroup o s j)
+groupUnder o s b j = holds (λ g. covers b (g .bbox)) (groupOfOp o s j)
 
 unfoldable pub ringUnder : Opened → List ℕ → BBox → ℕ → Bool
 ringUnder o s b j = holds (λ r. covers b (r .bbox)) (ringAt o s j)
@@ -61,8 +61,8 @@ polyUnder o s b j = holds (λ v. covers b (v .bbox)) (polyAt o s j)
 -- F5: entry and exit are the group's first and last point: the first of its first chunk, the last of its last
 unfoldable pub endsFit : Opened → List ℕ → GroupRecord → Bool
 endsFit o s g =
-    holds (same (g .entry)) (firstAt o s (g .first))
-    && holds (λ l. same (g .exit) (lastOf l)) (chunkPoints o s (g .first + (g .count - 1)))
+    holds (samePoint (g .entry)) (firstAt o s (g .first))
+    && holds (λ l. samePoint (g .exit) (lastOf l)) (chunkPoints o s (g .first + (g .count - 1)))
 
 -- F5: the group's box covers its chunks' boxes, and its ends fit
 unfoldable pub groupCovers : Opened → List ℕ → GroupRecord → Bool

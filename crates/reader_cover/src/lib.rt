@@ -1,16 +1,16 @@
 // What the full check asks of one record: a ring's point count, a group's joints and ends, a box and those below it.
 ghost use mathlib.Core.Path.{_≡_};
 ghost use Prim.Native.Nat.{_+_, _-_, _<_};
-ghost use Rattle.plane.specs.Segment.{same};
 ghost use Rattle.plane.specs.Lines.{lastOf};
 ghost use Rattle.boxes.specs.Box.{inBox};
 ghost use Rattle.shapes.specs.Shapes.{covers};
 ghost use Rattle.reader_records.specs.Records.{toldGroup};
 ghost use Rattle.reader_chunks.specs.Chunks.{firstAt, chunkPoints};
-ghost use Rattle.reader_cover.specs.Cover.{opGroup, pointsAdd, jointCovers, jointsCover, chunkUnder, groupUnder, ringUnder, polyUnder, endsFit, groupCovers};
+ghost use Rattle.reader_cover.specs.Cover.{pointsAdd, jointCovers, jointsCover, chunkUnder, groupUnder, ringUnder, polyUnder, endsFit, groupCovers, groupOfOp};
 ghost use Rattle.answer.specs.Answers.{holds};
 ghost use Rattle.reader_cover.specs.All.{all};
 ghost use Rattle.reader_cover.specs.Steps.{partFits};
+ghost use Rattle.plane.specs.Segment.{samePoint};
 use boxes::BBox;
 use opened::Opened;
 use plane::I32Point;
@@ -47,7 +47,7 @@ fn covers(b: BBox, c: BBox) -> bool
 
 // The group that an op names.
 fn op_group(o: Opened, s: &[u8], index: usize) -> GroupAt
-    ensures { λ r. ⌜ toldGroup r ≡ opGroup o (now (s .entry)) index ⌝ }
+    ensures { λ r. ⌜ toldGroup r ≡ groupOfOp o (now (s .entry)) index ⌝ }
 {
     let t = reader_records::op_at(o, s, index);
     match t {
@@ -188,7 +188,7 @@ pub fn joints_cover(o: Opened, s: &[u8], v: GroupRecord) -> bool
 
 // The point is the first of chunk `index`.
 fn is_first(o: Opened, s: &[u8], q: I32Point, index: usize) -> bool
-    ensures { λ r. ⌜ r ≡ holds (same q) (firstAt o (now (s .entry)) index) ⌝ }
+    ensures { λ r. ⌜ r ≡ holds (samePoint q) (firstAt o (now (s .entry)) index) ⌝ }
 {
     let t = reader_chunks::first_at(o, s, index);
     match t {
@@ -199,7 +199,7 @@ fn is_first(o: Opened, s: &[u8], q: I32Point, index: usize) -> bool
 
 // The point is the last of chunk `index`.
 fn is_last(o: Opened, s: &[u8], q: I32Point, index: usize) -> bool
-    ensures { λ r. ⌜ r ≡ holds (λ l. same q (lastOf l)) (chunkPoints o (now (s .entry)) index) ⌝ }
+    ensures { λ r. ⌜ r ≡ holds (λ l. samePoint q (lastOf l)) (chunkPoints o (now (s .entry)) index) ⌝ }
 {
     let t = reader_chunks::trace_at(o, s, index);
     match t {

@@ -28,7 +28,7 @@ use Rattle.reader_records.specs.declared.ChunkRecord.{ChunkRecord}
 use Rattle.reader_records.specs.Records.{recordAt, chunkIn, chunkRule, chunkAt}
 use Rattle.reader_chunks.specs.Chunks.{startOf, endOf, span, bytesOf, firstIn, scanIn, firstAt, chunkPoints}
 use Rattle.reader_groups.specs.Groups.{nextFirst, skipTo, scanTo, joinedTo, lastIn, lastAt}
-use Rattle.reader_exact.specs.Directories.{chunkShape, shapeOf}
+use Rattle.reader_exact.specs.Directories.{chunkShape, shapeFrom}
 use Rattle.reader_exact.proofs.Walks.{past-go}
 use Rattle.reader_exact.proofs.Given.{ruled-kept}
 use Rattle.answer.proofs.AnswersLaws.{then-inv, need-inv, ok-inv}
@@ -47,7 +47,7 @@ pub record Holds (o : Opened) (s : List ℕ) (i : ℕ) : Type 0 where
   pub points : ok (chunkShape o s i .first ∷ chunkShape o s i .rest) ≡ chunkPoints o s i
 
 -- the shape is made of the record and the points
-pub shape-is : (o : Opened) (s : List ℕ) (i : ℕ) (l : List I32Point) (v : ChunkRecord) → ok l ≡ chunkPoints o s i → ok v ≡ chunkAt o s i → chunkShape o s i ≡ shapeOf (v .bbox) l
+pub shape-is : (o : Opened) (s : List ℕ) (i : ℕ) (l : List I32Point) (v : ChunkRecord) → ok l ≡ chunkPoints o s i → ok v ≡ chunkAt o s i → chunkShape o s i ≡ shapeFrom (v .bbox) l
 unfolding chunkShape
 shape-is o s i l v p t = rw (← t, ← p)
 
@@ -64,7 +64,7 @@ holds o s i g =
     make : (l : List I32Point) → ok l ≡ chunkPoints o s i → (v : ChunkRecord) → ok v ≡ chunkAt o s i → (e : ℕ) → ok e ≡ endOf o s i → (b : List ℕ) → ok b ≡ span s (startOf o v) e → ok l ≡ pointsOf b (v .count) → Holds o s i
     make [] p v t e m b n d = absurd (never-empty b (v .count) d)
     make (q ∷ l) p v t e m b n d =
-        let shape : chunkShape o s i ≡ shapeOf (v .bbox) (q ∷ l) = shape-is o s i (q ∷ l) v p t in
+        let shape : chunkShape o s i ≡ shapeFrom (v .bbox) (q ∷ l) = shape-is o s i (q ∷ l) v p t in
         record {
           found = v;
           there = t;

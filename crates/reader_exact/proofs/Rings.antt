@@ -10,7 +10,6 @@ use Rattle.plane.specs.declared.I32Point.{I32Point}
 use Rattle.plane.specs.Sight.{Sight}
 use Rattle.plane.specs.Tally as Tally
 use Rattle.plane.specs.Tally.{_⊕_, none, ⊕-assoc}
-use Rattle.plane.specs.Segment.{same}
 use Rattle.plane.specs.Lines.{link, onward, around, Stretch}
 use Rattle.plane.specs.Runs.{run}
 use Rattle.answer.specs.Answers.{ok}
@@ -37,6 +36,7 @@ use Rattle.reader_exact.proofs.Groups.{group-walk}
 use Rattle.basics.specs.Total.{total}
 use Rattle.answer.proofs.WalksLaws.{add-none}
 use Rattle.reader_rings.proofs.RingsLaws.{turned-is, end-is}
+use Rattle.plane.specs.Segment.{samePoint}
 
 -- ---- a group as an op has it
 turn-is : (w : ℕ) (g : GroupRecord) → record { entry = cond (turnsRound w) (g .exit) (g .entry); exit = cond (turnsRound w) (g .entry) (g .exit); group = g } ≡ turnOf w g
@@ -50,7 +50,7 @@ turn-is w g = either (turnsRound w)
 -- ---- the segment that joins two ends
 joint-link : (p : Point) (a b : I32Point) → jointOf p a b ≡ past (link (λ x y. rayOf x y p) a b) tt
 unfolding jointOf
-joint-link p a b = either (same a b)
+joint-link p a b = either (samePoint a b)
   where
     either : (t : Bool) → _≡_ {A = Walk One} (cond t (done tt) (past (rayOf a b p) tt)) (past (cond t none (rayOf a b p)) tt)
     either true = refl

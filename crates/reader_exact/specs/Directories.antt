@@ -33,9 +33,9 @@ pub noChunk : Chunk
 noChunk = record { box = nowhere; first = origin; rest = [] }
 
 -- a chunk with its points
-abbrev pub shapeOf : BBox → List I32Point → Chunk
-shapeOf b [] = record { box = b; first = origin; rest = [] }
-shapeOf b (q ∷ l) = record { box = b; first = q; rest = l }
+abbrev pub shapeFrom : BBox → List I32Point → Chunk
+shapeFrom b [] = record { box = b; first = origin; rest = [] }
+shapeFrom b (q ∷ l) = record { box = b; first = q; rest = l }
 
 -- what a record names: of a zone or a polygon, of a ring, of a group
 abbrev pub listSpan : ListRecord → Span
@@ -66,7 +66,7 @@ module _ (o : Opened) (s : List ℕ) where
   groupRecord i = valueOr noGroup (groupAt o s i)
 
   unfoldable pub chunkShape : ℕ → Chunk
-  chunkShape i = valueOr noChunk (chunkAt o s i then λ v. chunkPoints o s i then λ l. ok (shapeOf (v .bbox) l))
+  chunkShape i = valueOr noChunk (chunkAt o s i then λ v. chunkPoints o s i then λ l. ok (shapeFrom (v .bbox) l))
 
   -- the group that an op names, and its point count
   abbrev pub opGroup : ℕ → ℕ

@@ -9,7 +9,6 @@ use lib.Dec.{T}
 use lib.Ieee as Ieee
 use lib.Ieee.{lt, eq, ofInt, sub, div}
 use Rattle.plane.specs.Domain.{inDomain}
-use Rattle.plane.specs.Segment.{same}
 use Rattle.plane.specs.Lines.{every}
 use Rattle.rounding.specs.Upward.{nextUp}
 use Rattle.answer.specs.Answers.{Answer, ok, refused}
@@ -26,7 +25,7 @@ use Rattle.varints.specs.Varint.{numberAt, digits}
 use Rattle.tzb_core.specs.Points as Points
 use Rattle.tzb_core.specs.Decode.{pointsOf}
 use Rattle.shapes.specs.Example.{zone, Row, rows}
-use Rattle.shapes.specs.Layout.{groupAt, legAt, ringAt, polygonAt, zoneAt}
+use Rattle.shapes.specs.Layout.{groupAt, legAt, ringAt, polygonAt, zoneShape}
 use Rattle.opened.specs.declared.Opened.{Opened}
 use Rattle.reader_records.specs.Records as Records
 use Rattle.reader_chunks.specs.Chunks.{startOf, endOf, span, bytesOf, chunkPoints, firstIn, scanIn}
@@ -35,6 +34,7 @@ use Rattle.reader_rings.specs.Rings.{turnOf, turnedAt, jointOf, groupWalk, turn
 use Rattle.reader_zones.specs.Zones.{polyOf, zoneOf, containsAt, firstSo}
 use Rattle.reader_exact.specs.Directories.{zoneRecord, polyRecord, ringRecord, opWord, groupRecord, chunkShape, directories}
 use Rattle.tzb_core.specs.Steps.{onward, pointsFrom}
+use Rattle.plane.specs.Segment.{samePoint}
 
 abbrev pub bytes : List ℕ
 bytes =
@@ -91,8 +91,8 @@ opened =
       grid = record { off = 0; lng = pos 0; lat = pos 0; cols = 0; rows = 0; total = 0 };
     }
 
-pub made : zoneAt (directories opened bytes) 0 ≡ zone
-unfolding directories zoneRecord polyRecord ringRecord opWord groupRecord chunkShape zoneAt polygonAt ringAt legAt groupAt run Records.listAt Records.ringAt Records.opAt Records.groupAt Records.chunkAt Records.ruled Records.recordAt Records.listIn Records.listRule Records.ringIn Records.ringRule Records.opRule Records.groupIn Records.groupRule Records.chunkIn Records.chunkRule Records.boxIn Records.pointIn Records.fitsBelow Loads.inside le ordered boxInDomain inDomain chunkPoints bytesOf endOf span startOf pointsOf pointsFrom walkOf along Points.firstOf Points.nextAt Points.numbersAt Points.movedBy Points.mustLie addDelta fits32 numberAt digits
+pub made : zoneShape (directories opened bytes) 0 ≡ zone
+unfolding directories zoneRecord polyRecord ringRecord opWord groupRecord chunkShape zoneShape polygonAt ringAt legAt groupAt run Records.listAt Records.ringAt Records.opAt Records.groupAt Records.chunkAt Records.ruled Records.recordAt Records.listIn Records.listRule Records.ringIn Records.ringRule Records.opRule Records.groupIn Records.groupRule Records.chunkIn Records.chunkRule Records.boxIn Records.pointIn Records.fitsBelow Loads.inside le ordered boxInDomain inDomain chunkPoints bytesOf endOf span startOf pointsOf pointsFrom walkOf along Points.firstOf Points.nextAt Points.numbersAt Points.movedBy Points.mustLie addDelta fits32 numberAt digits
 made = refl
 
 -- a row of the drawing is answered as drawn
@@ -101,5 +101,5 @@ said (ok b) answer = Bool·beq b answer
 said (refused r) answer = false
 
 pub walked : T (every (λ (r : Row). said (containsAt opened bytes 0 (r .p)) (r .answer)) rows)
-unfolding containsAt zoneOf firstSo polyOf ringContains ringOf ringRest ringEnd opsFrom opStep turnWalk groupWalk jointOf turnedAt turnOf groupScan chunksFrom lastAt lastIn passAt joinedTo scanTo skipTo nextFirst scanIn firstIn scanOf onward walkOf along add Records.countRule contains relevant right rayOf rayAt touches crosses aboveOf parityOf same lt Ieee.le eq ofInt sub div Ieee.ne Ieee.toBits Ieee.ofBits nextUp Records.listAt Records.ringAt Records.opAt Records.groupAt Records.chunkAt Records.ruled Records.recordAt Records.listIn Records.listRule Records.ringIn Records.ringRule Records.opRule Records.groupIn Records.groupRule Records.chunkIn Records.chunkRule Records.boxIn Records.pointIn Records.fitsBelow Loads.inside le ordered boxInDomain inDomain endOf span startOf Points.firstOf Points.nextAt Points.numbersAt Points.movedBy Points.mustLie addDelta fits32 numberAt digits
+unfolding containsAt zoneOf firstSo polyOf ringContains ringOf ringRest ringEnd opsFrom opStep turnWalk groupWalk jointOf turnedAt turnOf groupScan chunksFrom lastAt lastIn passAt joinedTo scanTo skipTo nextFirst scanIn firstIn scanOf onward walkOf along add Records.countRule contains relevant right rayOf rayAt touches crosses aboveOf parityOf samePoint lt Ieee.le eq ofInt sub div Ieee.ne Ieee.toBits Ieee.ofBits nextUp Records.listAt Records.ringAt Records.opAt Records.groupAt Records.chunkAt Records.ruled Records.recordAt Records.listIn Records.listRule Records.ringIn Records.ringRule Records.opRule Records.groupIn Records.groupRule Records.chunkIn Records.chunkRule Records.boxIn Records.pointIn Records.fitsBelow Loads.inside le ordered boxInDomain inDomain endOf span startOf Points.firstOf Points.nextAt Points.numbersAt Points.movedBy Points.mustLie addDelta fits32 numberAt digits
 walked = tt

@@ -9,7 +9,6 @@ use borrow.Author.Tests.{lt-ltb, le-ltb}
 use Rattle.basics.specs.Parity.{⊻-idr}
 use Rattle.plane.specs.declared.Point.{Point}
 use Rattle.plane.specs.declared.I32Point.{I32Point}
-use Rattle.plane.specs.Segment.{same}
 use Rattle.answer.specs.declared.Refusal.{Refusal}
 use Rattle.answer.specs.Refusals.{refusal}
 use Rattle.answer.specs.Answers.{ok, refused}
@@ -25,6 +24,7 @@ use Rattle.reader_groups.specs.Groups.{One, groupScan}
 use Rattle.reader_rings.specs.declared.Turned.{Turned}
 use Rattle.reader_rings.specs.declared.Round.{Round}
 use Rattle.reader_rings.specs.Rings.{turnOf, turnedAt, jointOf, groupWalk, turnWalk, opStep, opsFrom, ringEnd, ringRest, ringOf, ringContains}
+use Rattle.plane.specs.Segment.{samePoint}
 
 pub turn-as : (w : ℕ) (g : GroupRecord) → w < 0x8000_0000 → record { entry = g .entry; exit = g .exit; group = g } ≡ turnOf w g
 unfolding turnOf
@@ -49,11 +49,11 @@ module _ (o : Opened) (s : List ℕ) (i : ℕ) where
     turned-is g k t e = rw (← h, ← k, e)
 
 module _ (p : Point) (a b : I32Point) where
-  pub joint-none : same a b ≡ true → done tt ≡ jointOf p a b
+  pub joint-none : samePoint a b ≡ true → done tt ≡ jointOf p a b
   unfolding jointOf
   joint-none h = rw h
 
-  pub joint-seg : same a b ≡ false → past (rayOf a b p) tt ≡ jointOf p a b
+  pub joint-seg : samePoint a b ≡ false → past (rayOf a b p) tt ≡ jointOf p a b
   unfolding jointOf
   joint-seg h = rw h
 

@@ -5,7 +5,6 @@ use mathlib.Core.Bool.{Bool, false, cond}
 use mathlib.Core.List.{List}
 use Rattle.plane.specs.declared.Point.{Point}
 use Rattle.plane.specs.declared.I32Point.{I32Point}
-use Rattle.plane.specs.Segment.{same}
 use Rattle.answer.specs.Answers.{Answer, ok, _then_}
 use Rattle.answer.specs.Walks.{Walk, off, _go_, _yields_, done, must, verdict}
 use Rattle.boxes.specs.Box.{contains, relevant, right}
@@ -18,6 +17,7 @@ use Rattle.reader_records.specs.Records.{groupIndex, turnsRound, opAt, groupAt,
 use Rattle.reader_groups.specs.Groups.{One, groupScan}
 use Rattle.reader_rings.specs.declared.Turned.{Turned}
 use Rattle.reader_rings.specs.declared.Round.{Round}
+use Rattle.plane.specs.Segment.{samePoint}
 
 -- ---- the ops
 -- a group with its ends as the op has them
@@ -31,7 +31,7 @@ turnedAt o s i = opAt o s i then λ w. groupAt o s (groupIndex w) then λ g. ok 
 -- ---- the walk
 -- the segment that joins two ends, where they differ
 unfoldable pub jointOf : Point → I32Point → I32Point → Walk One
-jointOf p a b = cond (same a b) (done tt) (past (rayOf a b p) tt)
+jointOf p a b = cond (samePoint a b) (done tt) (past (rayOf a b p) tt)
 
 -- a group: nothing, by its ends alone, or through its chunks
 unfoldable pub groupWalk : Opened → List ℕ → Point → GroupRecord → Walk One

@@ -8,13 +8,13 @@ use Rattle.basics.specs.Parity.{_⊻_}
 use Rattle.plane.specs.declared.I32Point.{I32Point}
 use Rattle.plane.specs.Sight.{Sight, Off}
 use Rattle.plane.specs.Tally.{_⊕_, none, verdict}
-use Rattle.plane.specs.Segment.{same}
 use Rattle.plane.specs.Domain.{inDomain}
 use Rattle.plane.specs.Lines.{every, every-last, some-agree, lastFrom, chain, link, Stretch, stretch-is, onward, around}
 use Rattle.boxes.specs.declared.BBox.{BBox}
 use Rattle.boxes.specs.Box.{boxInDomain}
 use Rattle.shapes.specs.Shapes.{Chunk, Group, Leg, Ring, Polygon, Zone, groupChunks, chunkPoints, chunkInDomain, groupInDomain, legInDomain, ringInDomain, polygonInDomain, zoneInDomain}
 use Rattle.shapes.specs.Walk.{Tests, goal, parity, joint, chunkWalk, chunksWalk, groupWalk, legWalk, ringWalk, polygonWalk, zoneWalk}
+use Rattle.plane.specs.Segment.{samePoint}
 
 pub record Agree (t u : Tests) : Type 0 where
   pub contains : (b : BBox) → boxInDomain b ≡ true → t .contains b ≡ u .contains b
@@ -94,7 +94,7 @@ module _ (t u : Tests) (k : Agree t u) where
 
   -- ---- legs
   link-agree : (a b : I32Point) → inDomain a ≡ true → inDomain b ≡ true → link (t .seg) a b ≡ link (u .seg) a b
-  link-agree a b i j = ap (cond (same a b) none) (k .seg a b i j)
+  link-agree a b i j = ap (cond (samePoint a b) none) (k .seg a b i j)
 
   -- where a leg begins and ends
   picked : (s : Bool) (a b : I32Point) → inDomain a ≡ true → inDomain b ≡ true → inDomain (cond s a b) ≡ true

@@ -6,11 +6,11 @@ use mathlib.Core.Path.{_≡_, refl, ap, _∙_}
 use mathlib.Core.Bool.{Bool, true, _&&_}
 use mathlib.Core.List.{_∷_, _++_, append-nil}
 use Rattle.basics.specs.Truth.{and-i}
-use Rattle.plane.specs.Segment.{same}
 use Rattle.plane.specs.Lines.{every, every-append, firstOf, lastOf, last-append}
 use Rattle.plane.specs.Runs.{run, run-every}
 use Rattle.shapes.specs.Shapes.{Chunk, chunkPoints, points, groupChunks, groupPoints, inBox, covers, next, chunksFit, groupFits, legFits, ringFits, polygonFits, zoneFits}
-use Rattle.shapes.specs.Layout.{Span, Names, Among, Directories, groupAt, legAt, ringAt, polygonAt, zoneAt, Named, Covered}
+use Rattle.shapes.specs.Layout.{Span, Names, Among, Directories, groupAt, legAt, ringAt, polygonAt, Named, Covered, zoneShape}
+use Rattle.plane.specs.Segment.{samePoint}
 
 -- a place that a record names is inside the directory below
 pub below : (s : Span) (size j : ℕ) → Names s size → Among s j → j < size
@@ -67,11 +67,11 @@ module _ (d : Directories) (n : Named d) (c : Covered d) where
     unfolding groupFits groupAt
     group-fits =
         let g = groupAt d i in
-        and-i (every (λ k. covers (d .groupSpan i .box) (k .box)) (groupChunks g) && same (d .entryAt i) (firstOf (groupPoints g))) (same (d .exitAt i) (lastOf (groupPoints g)))
-        (and-i (every (λ k. covers (d .groupSpan i .box) (k .box)) (groupChunks g)) (same (d .entryAt i) (firstOf (groupPoints g)))
+        and-i (every (λ k. covers (d .groupSpan i .box) (k .box)) (groupChunks g) && samePoint (d .entryAt i) (firstOf (groupPoints g))) (samePoint (d .exitAt i) (lastOf (groupPoints g)))
+        (and-i (every (λ k. covers (d .groupSpan i .box) (k .box)) (groupChunks g)) (samePoint (d .entryAt i) (firstOf (groupPoints g)))
         (named-apart (λ k. covers (d .groupSpan i .box) (k .box)) (d .chunkAt) (d .groupSpan i) (n .group-names i h .some) (λ j a. c .group-covers i j h a))
         (c .entry-first i h))
-        (ap (same (d .exitAt i)) (row-last (d .chunkAt) (d .groupSpan i .count - 1) (d .groupSpan i .first)) ∙ c .exit-last i h)
+        (ap (samePoint (d .exitAt i)) (row-last (d .chunkAt) (d .groupSpan i .count - 1) (d .groupSpan i .first)) ∙ c .exit-last i h)
 
   -- ---- rings, polygons, zones
   leg-fits : (i j : ℕ) → i < d .rings → Among (d .ringSpan i) j → legFits (d .ringSpan i .box) (legAt d j) ≡ true
@@ -98,6 +98,6 @@ module _ (d : Directories) (n : Named d) (c : Covered d) where
       (c .zone-covers i j h m)
       (named-apart (ringFits (d .polygonSpan j .box)) (ringAt d) (d .polygonSpan j) (n .polygon-names j o .some) (λ k. ring-fits j k o))
 
-  pub zone-fits : (i : ℕ) → i < d .zones → zoneFits (zoneAt d i) ≡ true
-  unfolding zoneFits zoneAt
+  pub zone-fits : (i : ℕ) → i < d .zones → zoneFits (zoneShape d i) ≡ true
+  unfolding zoneFits zoneShape
   zone-fits i h = named (polygonFits (d .zoneSpan i .box)) (polygonAt d) (d .zoneSpan i) (λ j. polygon-fits i j h)

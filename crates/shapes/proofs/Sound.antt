@@ -10,12 +10,12 @@ use Rattle.basics.specs.Whole.{le-le}
 use Rattle.plane.specs.declared.I32Point.{I32Point}
 use Rattle.plane.specs.Sight.{Off}
 use Rattle.plane.specs.Tally.{_⊕_, none, ⊕-idr, verdict}
-use Rattle.plane.specs.Segment.{same}
 use Rattle.plane.specs.Turns.{same-true}
 use Rattle.plane.specs.Lines.{every, some, every-append, every-prefix, every-weaken, every-last, some-agree, some-none, firstOf, lastOf, lastFrom, last-append, chain, line, chain-joint, chain-last, Stretch, stretch-is, around, stretch, ringTally, stretch-reverse, chain-tells, line-tells, Tells, AllTell, around-tells}
 use Rattle.boxes.specs.declared.BBox.{BBox}
 use Rattle.shapes.specs.Shapes.{Chunk, Group, Leg, Ring, Polygon, Zone, points, groupChunks, groupPoints, legPoints, ringIn, polygonIn, zoneIn, inBox, covers, next, chunksFit, groupFits, legFits, ringFits, polygonFits, zoneFits}
 use Rattle.shapes.specs.Walk.{Tests, goal, parity, joint, chunkWalk, chunksWalk, groupWalk, legWalk, ringWalk, polygonWalk, zoneWalk}
+use Rattle.plane.specs.Segment.{samePoint}
 
 -- ---- the four sides of a box
 pub sides : (a b c d : Bool) → (a && b) && (c && d) ≡ true → (a ≡ true) × (b ≡ true) × (c ≡ true) × (d ≡ true)
@@ -62,7 +62,7 @@ pub record Sits (g : Group) : Type 0 where
 pub sits : (g : Group) → chunksFit (groupChunks g) ≡ true → groupFits g ≡ true → Sits g
 unfolding groupFits
 sits g h k =
-    let u = and3 (every (λ c. covers (g .box) (c .box)) (groupChunks g)) (same (g .entry) (firstOf (groupPoints g))) (same (g .exit) (lastOf (groupPoints g))) k in
+    let u = and3 (every (λ c. covers (g .box) (c .box)) (groupChunks g)) (samePoint (g .entry) (firstOf (groupPoints g))) (samePoint (g .exit) (lastOf (groupPoints g))) k in
     record {
       parts = h;
       all-in = points-in (g .box) (groupChunks g) (u .0) h;

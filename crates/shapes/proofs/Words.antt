@@ -7,10 +7,10 @@ use mathlib.Core.List.{List, [], _∷_, _++_, map}
 use Rattle.plane.specs.declared.I32Point.{I32Point}
 use Rattle.plane.specs.Sight.{Sight, On, Off}
 use Rattle.plane.specs.Tally.{_⊕_, none, ⊕-idl, ⊕-idr, ⊕-assoc, verdict}
-use Rattle.plane.specs.Segment.{same}
 use Rattle.plane.specs.Lines.{firstOf, lastOf, chain, line, link, onward, stretch, ringTally}
 use Rattle.shapes.specs.Shapes.{Ring, legPoints, ringIn}
 use Rattle.shapes.specs.Words.{Side, sidesFrom, neighbours, joining, roundTo, sidesOf, ringSides, isOn, countsIn, odd, onAny, counted}
+use Rattle.plane.specs.Segment.{samePoint}
 
 module _ (seg : I32Point → I32Point → Sight) where
   -- ---- the tally of a list of segments
@@ -31,7 +31,7 @@ module _ (seg : I32Point → I32Point → Sight) where
   line-tally (a ∷ r) = chain-tally a r
 
   link-tally : (a b : I32Point) → link seg a b ≡ tally (joining a b)
-  link-tally a b = either (same a b)
+  link-tally a b = either (samePoint a b)
     where
       either : (t : Bool) → cond t none (seg a b) ≡ tally (cond t [] (record { from = a; to = b } ∷ []))
       either true = refl

@@ -5,7 +5,7 @@ use mathlib.Core.List.{List, [], _∷_}
 use lib.Dec.{T}
 use lib.IntN.{ℤ, pos, negsuc}
 use Rattle.plane.specs.declared.I32Point.{I32Point}
-use Rattle.plane.specs.Segment.{cross, amidZ, onZ, countsZ, seg, above, same}
+use Rattle.plane.specs.Segment.{cross, amidZ, onZ, countsZ, seg, above, samePoint}
 use Rattle.plane.specs.Domain.{inDomain}
 use Rattle.plane.specs.Lines.{every}
 use Rattle.boxes.specs.declared.BBox.{BBox}
@@ -98,7 +98,7 @@ zone =
     }
 
 pub fits : T (zoneFits zone)
-unfolding zoneFits polygonFits ringFits legFits groupFits chunksFit covers inBox same
+unfolding zoneFits polygonFits ringFits legFits groupFits chunksFit covers inBox samePoint
 fits = tt
 
 pub lies-within : T (zoneInDomain zone)
@@ -128,9 +128,9 @@ rows =
     ∷ []
 
 pub meant : T (every (λ (r : Row). Bool·beq (zoneIn (seg (r .p)) zone) (r .answer)) rows)
-unfolding zoneIn polygonIn ringIn seg onZ countsZ amidZ cross same
+unfolding zoneIn polygonIn ringIn seg onZ countsZ amidZ cross samePoint
 meant = tt
 
 pub walked : T (every (λ (r : Row). Bool·beq (zoneWalk (wholeTests (r .p)) zone) (r .answer)) rows)
-unfolding zoneWalk polygonWalk ringWalk legWalk groupWalk chunksWalk chunkWalk inBox above seg onZ countsZ amidZ cross same
+unfolding zoneWalk polygonWalk ringWalk legWalk groupWalk chunksWalk chunkWalk inBox above seg onZ countsZ amidZ cross samePoint
 walked = tt

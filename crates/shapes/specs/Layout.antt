@@ -5,12 +5,12 @@ use mathlib.Core.Path.{_≡_}
 use mathlib.Core.Bool.{Bool, true}
 use Rattle.plane.specs.declared.I32Point.{I32Point}
 use Rattle.plane.specs.Domain.{inDomain}
-use Rattle.plane.specs.Segment.{same}
 use Rattle.plane.specs.Lines.{every, lastOf}
 use Rattle.plane.specs.Runs.{run}
 use Rattle.boxes.specs.declared.BBox.{BBox}
 use Rattle.boxes.specs.Box.{boxInDomain}
 use Rattle.shapes.specs.Shapes.{Chunk, Group, Leg, Ring, Polygon, Zone, chunkPoints, inBox, covers, chunkInDomain}
+use Rattle.plane.specs.Segment.{samePoint}
 
 -- a record: its box, and the run of records of the directory below that it names
 pub record Span : Type 0 where
@@ -72,8 +72,8 @@ module _ (d : Directories) where
         holes = run ringAt (d .polygonSpan i .count - 1) (d .polygonSpan i .first + 1);
       }
 
-  unfoldable pub zoneAt : ℕ → Zone
-  zoneAt i = record { box = d .zoneSpan i .box; polygons = run polygonAt (d .zoneSpan i .count) (d .zoneSpan i .first) }
+  unfoldable pub zoneShape : ℕ → Zone
+  zoneShape i = record { box = d .zoneSpan i .box; polygons = run polygonAt (d .zoneSpan i .count) (d .zoneSpan i .first) }
 
   -- ---- what the record rule and F2 say of every entry: what it names is there
   pub record Named : Type 0 where
@@ -92,8 +92,8 @@ module _ (d : Directories) where
     -- "F5 Each group's box covers its chunks' boxes;"
     pub group-covers : (i j : ℕ) → i < d .groups → Among (d .groupSpan i) j → covers (d .groupSpan i .box) (d .chunkAt j .box) ≡ true
     -- "entry and exit are its first and last point."
-    pub entry-first : (i : ℕ) → i < d .groups → same (d .entryAt i) (d .chunkAt (d .groupSpan i .first) .first) ≡ true
-    pub exit-last : (i : ℕ) → i < d .groups → same (d .exitAt i) (lastOf (chunkPoints (d .chunkAt (d .groupSpan i .first + (d .groupSpan i .count - 1))))) ≡ true
+    pub entry-first : (i : ℕ) → i < d .groups → samePoint (d .entryAt i) (d .chunkAt (d .groupSpan i .first) .first) ≡ true
+    pub exit-last : (i : ℕ) → i < d .groups → samePoint (d .exitAt i) (lastOf (chunkPoints (d .chunkAt (d .groupSpan i .first + (d .groupSpan i .count - 1))))) ≡ true
     -- "F6 Each ring's box covers its groups', each polygon's its rings', each zone's its polygons'."
     pub ring-covers : (i j : ℕ) → i < d .rings → Among (d .ringSpan i) j → covers (d .ringSpan i .box) (d .groupSpan (d .opGroup j) .box) ≡ true
     pub polygon-covers : (i j : ℕ) → i < d .polygons → Among (d .polygonSpan i) j → covers (d .polygonSpan i .box) (d .ringSpan j .box) ≡ true

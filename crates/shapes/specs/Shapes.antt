@@ -6,11 +6,11 @@ use lib.Signed.{leZ}
 use Rattle.plane.specs.declared.I32Point.{I32Point}
 use Rattle.plane.specs.Sight.{Sight}
 use Rattle.plane.specs.Tally.{verdict}
-use Rattle.plane.specs.Segment.{same}
 use Rattle.plane.specs.Domain.{inDomain}
 use Rattle.plane.specs.Lines.{every, some, firstOf, lastOf, ringTally}
 use Rattle.boxes.specs.declared.BBox.{BBox}
 use Rattle.boxes.specs.Box.{boxInDomain}
+use Rattle.plane.specs.Segment.{samePoint}
 unfoldable pub use Rattle.boxes.specs.Box.{inBox}
 
 -- ---- the shapes
@@ -99,8 +99,8 @@ chunksFit (c ∷ cs) = every (inBox (c .box)) (chunkPoints c ++ next cs) && chun
 unfoldable pub groupFits : Group → Bool
 groupFits g =
     every (λ c. covers (g .box) (c .box)) (groupChunks g)
-    && same (g .entry) (firstOf (groupPoints g))
-    && same (g .exit) (lastOf (groupPoints g))
+    && samePoint (g .entry) (firstOf (groupPoints g))
+    && samePoint (g .exit) (lastOf (groupPoints g))
 
 -- "F6 Each ring's box covers its groups', each polygon's its rings', each zone's its polygons'." Each line has the box above it, and all that lies below.
 unfoldable pub legFits : BBox → Leg → Bool

@@ -5,9 +5,9 @@ use mathlib.Core.Bool.{Bool, true, false, not, cond}
 use mathlib.Core.List.{List, [], _∷_, _++_, map}
 use Rattle.plane.specs.declared.I32Point.{I32Point}
 use Rattle.plane.specs.Sight.{Sight, On, Off}
-use Rattle.plane.specs.Segment.{same}
 use Rattle.plane.specs.Lines.{some, firstOf, lastOf}
 use Rattle.shapes.specs.Shapes.{Ring, legPoints}
+use Rattle.plane.specs.Segment.{samePoint}
 
 -- from one end to the other
 pub record Side : Type 0 where
@@ -26,7 +26,7 @@ neighbours (a ∷ r) = sidesFrom a r
 
 -- "and one from each exit to the next entry … wherever the two differ"
 abbrev pub joining : I32Point → I32Point → List Side
-joining exit entry = cond (same exit entry) [] (record { from = exit; to = entry } ∷ [])
+joining exit entry = cond (samePoint exit entry) [] (record { from = exit; to = entry } ∷ [])
 
 -- the groups after the first, "round to the start"
 abbrev pub roundTo : I32Point → I32Point → List (List I32Point) → List Side

@@ -1,6 +1,6 @@
 -- Any two answers that a promise allows are equal, and so is the lent memory: stated over the contracts themselves.
 -- Assumes nothing.
-use mathlib.Core.Path.{_≡_, sym, _∙_}
+use mathlib.Core.Path.{_≡_, refl, sym, _∙_}
 use Rattle.basics.specs.Determined.{Determined, DeterminedMemory}
 use Rattle.answer.specs.Answers.{Answer}
 use Rattle.opened.specs.declared.Opened.{Opened}
@@ -9,13 +9,14 @@ use Rattle.tzb_record.specs.declared.RecordRead.{RecordRead}
 use Rattle.tzb_record.specs.declared.RecordRead.the-variants as R
 use Rattle.tzb_record.proofs.read_record.Reads as read-record-reads
 use Rattle.tzb_record.proofs.write_record.Reads as write-record-reads
-use Rattle.answer.proofs.AnswersLaws.{checked-one}
+use Rattle.answer.proofs.AnswersLaws.{readBack, one-answer, checked-one}
 
 one-record : (a b : RecordRead) (x : Answer Opened) → recordTold a ≡ x → recordTold b ≡ x → a ≡ b
-one-record (R.Is p) (R.Is q) x e f = cc
-one-record (R.Is p) (R.Refused k) x e f = cc
-one-record (R.Refused k) (R.Is p) x e f = cc
-one-record (R.Refused k) (R.Refused l) x e f = cc
+one-record = one-answer recordTold R.Is R.Refused back
+  where
+    back : (a : RecordRead) → readBack R.Is R.Refused (recordTold a) ≡ a
+    back (R.Is o) = refl
+    back (R.Refused k) = refl
 
 pub read-record : Determined read-record-reads.Learnt
 read-record κ a r r' e e' p q = one-record r r' _ p q

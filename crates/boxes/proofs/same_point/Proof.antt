@@ -2,13 +2,13 @@
 -- Assumes nothing.
 use mathlib.Core.Path.{ap₂}
 use mathlib.Core.Bool.{_&&_}
-use Rattle.plane.specs.Segment.{same}
 use Rattle.boxes.proofs.Equals.{same-bits}
 use Rattle.boxes.proofs.same_point.Statement.{statement}
 use Rattle.boxes.proofs.same_point.Tie as tie
+use Rattle.plane.specs.Segment.{samePoint}
 
 returns : tie.Need-returns
-unfolding same
+unfolding samePoint
 returns c =
     let s = c .before .before .before .before .before .before .before .before .args in
     let a = c .before .before .struct-told3 .given in
