@@ -10,8 +10,8 @@ use lib.Bits.{bitXor, xor-comm, xor-shifted}
 use lib.Pow.{pow-pos, pow-mono}
 use lib.ListN.{length, getD, set, length-set}
 use lib.Seq.{getD-set-same, getD-set-other}
-use Rattle.crc.specs.Crc32.{step, steps, entry, Filled}
-use Rattle.crc.proofs.Linear.{steps-linear, steps-add, steps-split}
+use Rattle.checksum.specs.Crc32.{step, steps, entry, Filled}
+use Rattle.checksum.proofs.Linear.{steps-linear, steps-add, steps-split}
 use Rattle.crc.specs.Steps.{First, Power}
 
 -- a rule that holds of the entries below i, at one more

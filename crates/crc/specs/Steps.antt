@@ -4,7 +4,7 @@ use Prim.Native.Nat.{ℕ, _^_, _≤_, _<_}
 use mathlib.Core.List.{List}
 use mathlib.Core.Path.{_≡_}
 use lib.ListN.{length, getD}
-use Rattle.crc.specs.Crc32.{steps}
+use Rattle.checksum.specs.Crc32.{steps}
 
 -- the first table's rule, at its first n entries, where there is room for it
 pub record First (t : List ℕ) (n : ℕ) : Type 0 where

@@ -2,7 +2,7 @@
 ghost use mathlib.Core.Path.{_≡_};
 ghost use Prim.Native.Nat.{_+_, _*_, _%_, _<_, _≤_};
 ghost use lib.ListN.{length, drop, take};
-ghost use Rattle.crc.specs.Crc32.{step, steps, bytes, crc32, Filled};
+ghost use Rattle.checksum.specs.Crc32.{step, steps, bytes, crc32, Filled};
 ghost use Rattle.crc.specs.Steps.{First, Power};
 
 fn wide(b: u8) -> u32

@@ -15,13 +15,13 @@ use Rattle.answer.specs.Answers.{ok, holds, answered}
 use Rattle.answer.specs.Checks as K
 use Rattle.fields.specs.Le as E
 use Rattle.fields.specs.Loads as L
-use Rattle.crc.specs.Crc32 as R
+use Rattle.checksum.specs.Crc32 as R
 use Rattle.boxes.specs.Box as B
-use Rattle.tzb_core.specs.Delta as Deltas
+use Rattle.chunks.specs.Delta as Deltas
 use Rattle.varints.specs.Varint.{numberAt, digits}
-use Rattle.tzb_core.specs.Points as Points
-use Rattle.tzb_core.specs.Along.{along, walkOf}
-use Rattle.tzb_core.specs.Decode.{pointsOf}
+use Rattle.chunks.specs.Points as Points
+use Rattle.chunks.specs.Along.{along, walkOf}
+use Rattle.chunks.specs.Decode.{pointsOf}
 use Rattle.shapes.specs.Shapes.{Zone, ringIn, polygonIn, zoneIn, inBox, covers}
 use Rattle.shapes.specs.Layout.{groupAt, legAt, ringAt, polygonAt, zoneShape}
 use Rattle.shapes.specs.Example.{zone}
@@ -52,7 +52,7 @@ use Rattle.replies.specs.Replies.{accepted, nowhere, inZone}
 use Rattle.basics.specs.Total.{total}
 use Rattle.replies.specs.Replies as Told
 use Rattle.tzb.proofs.FullCheckLaws.{full-accepted}
-use Rattle.tzb_core.specs.Steps.{pointsFrom}
+use Rattle.chunks.specs.Steps.{pointsFrom}
 
 -- F1
 pub opens : ok opened ≡ P.openOf file

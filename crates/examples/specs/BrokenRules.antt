@@ -12,11 +12,11 @@ use Rattle.plane.specs.Runs.{run}
 use Rattle.fields.specs.Le.{le}
 use Rattle.fields.specs.Loads as Loads
 use Rattle.boxes.specs.Box.{ordered, boxInDomain}
-use Rattle.tzb_core.specs.Delta.{addDelta, fits32}
+use Rattle.chunks.specs.Delta.{addDelta, fits32}
 use Rattle.varints.specs.Varint.{numberAt, digits}
-use Rattle.tzb_core.specs.Points as Points
-use Rattle.tzb_core.specs.Along.{along, walkOf}
-use Rattle.tzb_core.specs.Decode.{pointsOf}
+use Rattle.chunks.specs.Points as Points
+use Rattle.chunks.specs.Along.{along, walkOf}
+use Rattle.chunks.specs.Decode.{pointsOf}
 use Rattle.shapes.specs.Shapes.{inBox, covers}
 use Rattle.opened.specs.declared.Opened.{Opened}
 use Rattle.reader_records.specs.Records as Records
@@ -25,8 +25,8 @@ use Rattle.reader_cover.specs.Cover.{pointsAdd, chunkCovers, jointCovers, joint
 use Rattle.reader_check.specs.FullCheck.{met, allMet, recordsHold, chunksDecode, chunkBoxesCover, groupsCover, boxesCover, rule, lowestBroken}
 use Rattle.answer.specs.Answers.{holds, answered}
 use Rattle.reader_cover.specs.All.{all}
-use Rattle.tzb_core.specs.Steps.{pointsFrom}
 use Rattle.plane.specs.Segment.{samePoint}
+use Rattle.chunks.specs.Steps.{pointsFrom}
 
 -- a zone of two polygons with a ring each; the first ring is a square from two groups, the second goes back along one of them
 abbrev pub bytes : List ℕ

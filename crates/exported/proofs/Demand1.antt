@@ -14,7 +14,7 @@ use Rattle.answer.specs.declared.Refusal.{Refusal}
 use Rattle.answer.specs.Refusals.{refusal}
 use Rattle.answer.specs.Answers.{Answer, ok, refused, _then_, left, howMany}
 use Rattle.answer.specs.Checks.{atMost}
-use Rattle.tzb_core.specs.Decode.{filled}
+use Rattle.chunks.specs.Decode.{filled}
 use Rattle.opened.specs.declared.Opened.{Opened}
 use Rattle.reader_lookup.specs.Asking.{lookupOf}
 use Rattle.reader_check.specs.FullCheck as Rules

@@ -20,12 +20,12 @@ use Rattle.answer.specs.Checks.{atMost, same}
 use Rattle.answer.specs.declared.Refusal.{Refusal}
 use Rattle.answer.specs.Answers.{Answer, ok, refused}
 use Rattle.answer.specs.Walks.{Walk}
-use Rattle.tzb_core.specs.Delta.{fits32, addDelta}
+use Rattle.chunks.specs.Delta.{fits32, addDelta}
 use Rattle.varints.specs.Varint.{digits, numberAt, atEnd}
-use Rattle.tzb_core.specs.Points.{numbersAt, movedBy, firstOf, nextAt, mustLie}
-use Rattle.tzb_core.specs.Along.{Walker, follow, along, walkOf}
-use Rattle.tzb_core.specs.Scan.{scanner, scanOf}
-use Rattle.tzb_core.specs.Decode.{decoder, pointsOf}
+use Rattle.chunks.specs.Points.{numbersAt, movedBy, firstOf, nextAt, mustLie}
+use Rattle.chunks.specs.Along.{Walker, follow, along, walkOf}
+use Rattle.chunks.specs.Scan.{scanner, scanOf}
+use Rattle.chunks.specs.Decode.{decoder, pointsOf}
 use Rattle.rays.specs.Ray.{rayOf}
 use Rattle.opened.specs.declared.Directory.{Directory}
 use Rattle.opened.specs.declared.Grid.{Grid}

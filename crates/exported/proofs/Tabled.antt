@@ -14,7 +14,7 @@ use Rattle.answer.specs.Refusals.{refusal}
 use Rattle.answer.specs.Answers.{Answer, ok, refused, need, Check, fine, _then_, _before_, outcome}
 use Rattle.answer.specs.Walks.{Walk, broken, on, off, add, _go_, _yields_, must, verdict}
 use Rattle.answer.specs.Checks.{claim, deny, andThen, first, each}
-use Rattle.tzb_core.specs.Scan.{past}
+use Rattle.chunks.specs.Scan.{past}
 
 -- the number goes from 1 up to top
 pub record Numbered (top : ℕ) (k : Refusal) : Type 0 where

@@ -13,10 +13,10 @@ use Rattle.answer.specs.Answers.{ok, refused, no}
 use Rattle.answer.specs.Walks.{broken}
 use Rattle.boxes.specs.declared.BBox.{BBox}
 use Rattle.fields.specs.Part.{part}
-use Rattle.tzb_core.specs.Points.{firstOf}
-use Rattle.tzb_core.specs.Scan.{scanOf}
-use Rattle.tzb_core.specs.Decode.{pointsOf, intoRoom}
-use Rattle.tzb_core.specs.Trace.{traceOf}
+use Rattle.chunks.specs.Points.{firstOf}
+use Rattle.chunks.specs.Scan.{scanOf}
+use Rattle.chunks.specs.Decode.{pointsOf, intoRoom}
+use Rattle.chunks.specs.Trace.{traceOf}
 use Rattle.opened.specs.declared.Opened.{Opened}
 use Rattle.reader_records.specs.declared.ChunkRecord.{ChunkRecord}
 use Rattle.reader_records.specs.Records.{chunkAt}

@@ -11,8 +11,8 @@ use lib.IntN.{ℤ}
 use borrow.Author.Tests.{le-leb, lt-leb}
 use Rattle.plane.specs.declared.I32Point.{I32Point}
 use Rattle.answer.specs.Answers.{ok, no, _then_, need, fine}
-use Rattle.tzb_core.specs.Decode.{pointsOf, flat, filled}
-use Rattle.tzb_core.proofs.Neighbours.{count-list, never-empty}
+use Rattle.chunks.specs.Decode.{pointsOf, flat, filled}
+use Rattle.chunks.proofs.Neighbours.{count-list, never-empty}
 use Rattle.opened.specs.declared.Opened.{Opened}
 use Rattle.reader_records.specs.declared.ChunkRecord.{ChunkRecord}
 use Rattle.reader_records.specs.Records.{chunkAt}

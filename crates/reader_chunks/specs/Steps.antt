@@ -4,7 +4,7 @@ use Prim.Native.Nat.{ℕ}
 use mathlib.Core.List.{List}
 use Rattle.plane.specs.declared.I32Point.{I32Point}
 use Rattle.answer.specs.Answers.{Answer, _then_}
-use Rattle.tzb_core.specs.Decode.{pointsOf}
+use Rattle.chunks.specs.Decode.{pointsOf}
 use Rattle.reader_chunks.specs.Chunks.{span}
 
 -- all n points in the bytes from a to e

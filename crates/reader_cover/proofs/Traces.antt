@@ -11,16 +11,16 @@ use Rattle.answer.specs.declared.Refusal.{Refusal}
 use Rattle.answer.specs.Answers.{Answer, ok, refused, _then_, need, holds, answered}
 use Rattle.boxes.specs.declared.BBox.{BBox}
 use Rattle.boxes.specs.Box.{inBox}
-use Rattle.tzb_core.specs.Decode.{pointsOf}
-use Rattle.tzb_core.specs.Trace.{traceOf, traced}
-use Rattle.tzb_core.proofs.Neighbours.{trace-points}
+use Rattle.chunks.specs.Decode.{pointsOf}
+use Rattle.chunks.specs.Trace.{traceOf, traced}
+use Rattle.chunks.proofs.Neighbours.{trace-points}
 use Rattle.opened.specs.declared.Opened.{Opened}
 use Rattle.reader_records.specs.declared.ChunkRecord.{ChunkRecord}
 use Rattle.reader_records.specs.Records.{chunkAt}
 use Rattle.reader_chunks.specs.Chunks.{startOf, endOf, span, bytesOf, traceIn, traceAt, chunkPoints}
 use Rattle.reader_cover.specs.Cover.{chunkCovers}
 use Rattle.answer.proofs.AnswersLaws.{holds-no, holds-ok}
-use Rattle.tzb_core.proofs.DecodeLaws.{points-are}
+use Rattle.chunks.proofs.DecodeLaws.{points-are}
 use Rattle.plane.specs.Segment.{samePoint}
 
 -- a test of points, made on their trace

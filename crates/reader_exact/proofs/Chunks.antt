@@ -17,9 +17,9 @@ use Rattle.answer.specs.Walks.{done}
 use Rattle.boxes.specs.declared.BBox.{BBox}
 use Rattle.boxes.specs.Box.{boxInDomain, relevant, right}
 use Rattle.rays.specs.Ray.{rayOf, parityOf}
-use Rattle.tzb_core.specs.Scan.{past}
-use Rattle.tzb_core.specs.Decode.{pointsOf}
-use Rattle.tzb_core.proofs.Neighbours.{scan-list, first-list, domain-list, never-empty}
+use Rattle.chunks.specs.Scan.{past}
+use Rattle.chunks.specs.Decode.{pointsOf}
+use Rattle.chunks.proofs.Neighbours.{scan-list, first-list, domain-list, never-empty}
 use Rattle.shapes.specs.Shapes.{Chunk, chunkInDomain}
 use Rattle.shapes.specs.Walk.{floatTests, chunkWalk}
 use Rattle.opened.specs.declared.Opened.{Opened}

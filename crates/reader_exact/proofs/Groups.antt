@@ -12,7 +12,7 @@ use Rattle.plane.specs.Tally.{⊕-idr}
 use Rattle.plane.specs.Runs.{run}
 use Rattle.boxes.specs.Box.{relevant, right}
 use Rattle.rays.specs.Ray.{parityOf}
-use Rattle.tzb_core.specs.Scan.{past}
+use Rattle.chunks.specs.Scan.{past}
 use Rattle.shapes.specs.Shapes.{Chunk, groupChunks}
 use Rattle.shapes.specs.Walk as Shapes
 use Rattle.shapes.specs.Walk.{floatTests, chunkWalk, chunksWalk}

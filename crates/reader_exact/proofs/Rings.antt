@@ -16,7 +16,7 @@ use Rattle.answer.specs.Answers.{ok}
 use Rattle.answer.specs.Walks.{Walk, _go_, done, verdict}
 use Rattle.boxes.specs.Box.{contains}
 use Rattle.rays.specs.Ray.{rayOf}
-use Rattle.tzb_core.specs.Scan.{past}
+use Rattle.chunks.specs.Scan.{past}
 use Rattle.shapes.specs.Walk.{floatTests, legWalk, ringWalk}
 use Rattle.shapes.specs.Layout.{legAt}
 use Rattle.shapes.specs.Layout as Layout

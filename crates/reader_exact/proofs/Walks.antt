@@ -7,7 +7,7 @@ use Rattle.plane.specs.Tally as Tally
 use Rattle.plane.specs.Tally.{_⊕_, none, ⊕-idr}
 use Rattle.answer.specs.Answers.{ok}
 use Rattle.answer.specs.Walks.{Walk, broken, on, off, add, _go_, done, verdict}
-use Rattle.tzb_core.specs.Scan.{past}
+use Rattle.chunks.specs.Scan.{past}
 use Rattle.answer.proofs.WalksLaws.{add-add}
 
 -- what follows a tally is added to it

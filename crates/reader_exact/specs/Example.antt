@@ -17,13 +17,13 @@ use Rattle.plane.specs.Runs.{run}
 use Rattle.fields.specs.Le.{le}
 use Rattle.fields.specs.Loads as Loads
 use Rattle.boxes.specs.Box.{ordered, boxInDomain, contains, relevant, right}
-use Rattle.tzb_core.specs.Delta.{addDelta, fits32}
+use Rattle.chunks.specs.Delta.{addDelta, fits32}
 use Rattle.rays.specs.Ray.{rayOf, rayAt, touches, crosses, aboveOf, parityOf}
-use Rattle.tzb_core.specs.Along.{along, walkOf}
-use Rattle.tzb_core.specs.Scan.{scanOf}
+use Rattle.chunks.specs.Along.{along, walkOf}
+use Rattle.chunks.specs.Scan.{scanOf}
 use Rattle.varints.specs.Varint.{numberAt, digits}
-use Rattle.tzb_core.specs.Points as Points
-use Rattle.tzb_core.specs.Decode.{pointsOf}
+use Rattle.chunks.specs.Points as Points
+use Rattle.chunks.specs.Decode.{pointsOf}
 use Rattle.shapes.specs.Example.{zone, Row, rows}
 use Rattle.shapes.specs.Layout.{groupAt, legAt, ringAt, polygonAt, zoneShape}
 use Rattle.opened.specs.declared.Opened.{Opened}
@@ -33,8 +33,8 @@ use Rattle.reader_groups.specs.Groups.{nextFirst, skipTo, scanTo, joinedTo, pas
 use Rattle.reader_rings.specs.Rings.{turnOf, turnedAt, jointOf, groupWalk, turnWalk, opStep, opsFrom, ringEnd, ringRest, ringOf, ringContains}
 use Rattle.reader_zones.specs.Zones.{polyOf, zoneOf, containsAt, firstSo}
 use Rattle.reader_exact.specs.Directories.{zoneRecord, polyRecord, ringRecord, opWord, groupRecord, chunkShape, directories}
-use Rattle.tzb_core.specs.Steps.{onward, pointsFrom}
 use Rattle.plane.specs.Segment.{samePoint}
+use Rattle.chunks.specs.Steps.{onward, pointsFrom}
 
 abbrev pub bytes : List ℕ
 bytes =

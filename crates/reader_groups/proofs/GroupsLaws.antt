@@ -13,7 +13,7 @@ use Rattle.answer.specs.Answers.{ok, refused}
 use Rattle.answer.specs.Walks.{Walk, broken, on, off, add, _go_, done}
 use Rattle.boxes.specs.Box.{relevant, right}
 use Rattle.rays.specs.Ray.{rayOf, parityOf}
-use Rattle.tzb_core.specs.Scan.{past}
+use Rattle.chunks.specs.Scan.{past}
 use Rattle.opened.specs.declared.Opened.{Opened}
 use Rattle.reader_records.specs.declared.GroupRecord.{GroupRecord}
 use Rattle.reader_records.specs.declared.ChunkRecord.{ChunkRecord}

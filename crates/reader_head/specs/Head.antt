@@ -8,7 +8,7 @@ use lib.ListN.{length, getD, take}
 use Rattle.fields.specs.Part.{part}
 use Rattle.fields.specs.Le.{le}
 use Rattle.utf8.specs.Rfc3629.{utf8}
-use Rattle.crc.specs.Crc32.{crc32}
+use Rattle.checksum.specs.Crc32.{crc32}
 use Rattle.answer.specs.Answers.{Check}
 use Rattle.answer.specs.Checks.{claim, deny, first, seek, atMost, same}
 use Rattle.reader_head.specs.Magic.{startsWith, tzfb}

@@ -9,7 +9,7 @@ use Rattle.answer.specs.Answers.{Answer, ok, _then_}
 use Rattle.answer.specs.Walks.{Walk, off, _go_, _yields_, done, must, verdict}
 use Rattle.boxes.specs.Box.{contains, relevant, right}
 use Rattle.rays.specs.Ray.{rayOf, parityOf}
-use Rattle.tzb_core.specs.Scan.{past}
+use Rattle.chunks.specs.Scan.{past}
 use Rattle.opened.specs.declared.Opened.{Opened}
 use Rattle.reader_records.specs.declared.GroupRecord.{GroupRecord}
 use Rattle.reader_records.specs.declared.RingRecord.{RingRecord}

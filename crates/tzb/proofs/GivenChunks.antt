@@ -12,8 +12,8 @@ use lib.IntN.{ℤ}
 use Rattle.fields.specs.Part.{part}
 use Rattle.plane.specs.declared.I32Point.{I32Point}
 use Rattle.answer.specs.Answers.{Answer, ok, need, _then_}
-use Rattle.tzb_core.specs.Points.{firstOf}
-use Rattle.tzb_core.specs.Decode.{pointsOf}
+use Rattle.chunks.specs.Points.{firstOf}
+use Rattle.chunks.specs.Decode.{pointsOf}
 use Rattle.opened.specs.declared.Opened.{Opened}
 use Rattle.reader_records.specs.declared.ChunkRecord.{ChunkRecord}
 use Rattle.reader_records.specs.Records.{chunkAt}

@@ -2,7 +2,7 @@
 ghost use mathlib.Core.Path.{_≡_};
 ghost use lib.ListN.{length};
 ghost use Rattle.answer.specs.Answers.{checkedTold, outcome, left, howMany};
-ghost use Rattle.tzb_core.specs.Decode.{filled};
+ghost use Rattle.chunks.specs.Decode.{filled};
 ghost use Rattle.reader_chunks.specs.Chunks.{decodeIn};
 ghost use Rattle.tzb_asked.specs.Asked.{nameAsked, endsAsked, endsAfter, choiceAsked, candidateAsked, containsAsked, decodeAsked, lookupAsked, listAsked};
 ghost use Rattle.plane.specs.Places.{point};

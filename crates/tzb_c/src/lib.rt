@@ -1,14 +1,14 @@
 // The exports, for programs in other languages: numbers and byte slices in, one number out. Each is total, and asks nothing of its caller.
 ghost use mathlib.Core.Path.{_≡_};
 ghost use Rattle.rounding.specs.Upward.{nextUp};
-ghost use Rattle.crc.specs.Crc32.{crc32};
+ghost use Rattle.checksum.specs.Crc32.{crc32};
 ghost use Rattle.utf8.specs.Rfc3629.{utf8};
 ghost use mathlib.Core.List.{[]};
 ghost use lib.ListN.{length};
 ghost use Rattle.boxes.specs.Box.{contains, relevant};
 ghost use Rattle.rays.specs.Ray.{rayOf, parityOf};
 ghost use Rattle.varints.specs.Varint.{numberAt};
-ghost use Rattle.tzb_core.specs.Decode.{filled};
+ghost use Rattle.chunks.specs.Decode.{filled};
 ghost use Rattle.tzb.specs.FullCheck.{fullCheckOf};
 ghost use Rattle.tzb_asked.specs.Asked.{zonesAsked, nameAsked, endsAsked, endsAfter, choiceAsked, candidateAsked, containsAsked, decodeAsked, lookupAsked, listAsked};
 ghost use Rattle.tzb_codes.specs.Codes.{bitOf, doneCode, kindCode, listedOf, insideCode, zoneCode, checkCode, ruleOf, seenCode, numberCode, startCode, endCode};

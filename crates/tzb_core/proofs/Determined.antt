@@ -6,7 +6,6 @@ use lib.IntN.{ℤ}
 use Rattle.basics.specs.Determined.{Determined}
 use Rattle.answer.proofs.AnswersLaws.{readBack, one-answer}
 use Rattle.answer.specs.Answers.{Answer}
-use Rattle.tzb_core.specs.Delta.{summed}
 use Rattle.tzb_core.specs.declared.delta.Sum.{Sum}
 use Rattle.tzb_core.specs.declared.delta.Sum.the-variants as S
 use Rattle.tzb_core.specs.declared.varint.Read.{Read}
@@ -15,7 +14,7 @@ use Rattle.tzb_core.proofs.delta.add_delta.Reads as add-delta-reads
 use Rattle.tzb_core.proofs.varint.unzigzag.Reads as unzigzag-reads
 use Rattle.tzb_core.proofs.varint.Place.at_end.Reads as at-end-reads
 use Rattle.tzb_core.proofs.varint.Place.varint.Reads as varint-reads
-use Rattle.tzb_core.specs.Reading.{readTold}
+use Rattle.tzb_core.specs.Reading.{readTold, summed}
 
 one-sum : (a b : Sum) (x : Answer ℤ) → summed a ≡ x → summed b ≡ x → a ≡ b
 one-sum = one-answer summed S.Of S.Refused back

@@ -8,9 +8,6 @@ use Rattle.basics.specs.Told.{one-told}
 use Rattle.answer.specs.Answers.{Answer}
 use Rattle.answer.specs.Walks.{Walk, broken, on, off}
 use Rattle.plane.specs.declared.I32Point.{I32Point}
-use Rattle.tzb_core.specs.Points.{spotted}
-use Rattle.tzb_core.specs.Scan.{scanned}
-use Rattle.tzb_core.specs.Trace.{toldTrace}
 use Rattle.tzb_core.specs.declared.chunk.Spotted.{Spotted}
 use Rattle.tzb_core.specs.declared.chunk.Spotted.the-variants as S
 use Rattle.tzb_core.specs.declared.chunk.Scan.{Scan}
@@ -23,6 +20,7 @@ use Rattle.tzb_core.proofs.chunk.scan_chunk.Reads as scan-chunk-reads
 use Rattle.tzb_core.proofs.chunk.trace_chunk.Reads as trace-chunk-reads
 use Rattle.tzb_core.proofs.chunk.decode_points.Reads as decode-points-reads
 use Rattle.answer.proofs.AnswersLaws.{readBack, one-answer, checked-one}
+use Rattle.tzb_core.specs.Reading.{spotted, scanned, toldTrace}
 
 pub one-spotted : (a b : Spotted) (x : Answer (I32Point × ℕ)) → spotted a ≡ x → spotted b ≡ x → a ≡ b
 one-spotted = one-answer spotted point S.Refused back

@@ -1,6 +1,7 @@
 // A delta added to a coordinate.
 ghost use mathlib.Core.Path.{_≡_};
-ghost use Rattle.tzb_core.specs.Delta.{addDelta, summed};
+ghost use Rattle.chunks.specs.Delta.{addDelta};
+ghost use Rattle.tzb_core.specs.Reading.{summed};
 use answer::Refusal;
 
 // A coordinate moved by a delta.

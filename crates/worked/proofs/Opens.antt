@@ -7,7 +7,7 @@ use lib.Ieee as I
 use Rattle.answer.specs.Answers.{ok}
 use Rattle.fields.specs.Le as E
 use Rattle.fields.specs.Loads as L
-use Rattle.crc.specs.Crc32 as R
+use Rattle.checksum.specs.Crc32 as R
 use Rattle.answer.specs.Checks as K
 use Rattle.reader_head.specs.Magic as M
 use Rattle.reader_head.specs.Head as H
@@ -23,7 +23,7 @@ use Rattle.reader_records.specs.Records as S
 use Rattle.reader_dirs.specs.Dirs as D
 use Rattle.tzb.specs.Opening as P
 use Rattle.boxes.specs.Box as B
-use Rattle.tzb_core.specs.Delta as Deltas
+use Rattle.chunks.specs.Delta as Deltas
 use Rattle.plane.specs.Domain as A
 use Rattle.tzb.proofs.Given.{Answered, answered}
 use Rattle.worked.specs.File.{file, opened}

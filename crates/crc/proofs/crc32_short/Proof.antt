@@ -3,7 +3,7 @@
 use mathlib.Core.Path.{ap}
 use Prim.Native.Nat.{ℕ}
 use lib.Bits.{bitXor}
-use Rattle.crc.specs.Crc32.{crc32}
+use Rattle.checksum.specs.Crc32.{crc32}
 use borrow.Author.Needs.{needs}
 use Rattle.crc.proofs.crc32_short.Statement.{statement}
 use Rattle.crc.proofs.crc32_short.Tie as tie

@@ -4,7 +4,7 @@ use mathlib.Core.Path.{_≡_, refl, ap, _∙_, subst}
 use Prim.Native.Nat.{_+_, _-_, _*_, _≤_}
 use lib.Bits.{bitXor}
 use lib.ListN.{length, getD, length-set}
-use Rattle.crc.specs.Crc32.{steps}
+use Rattle.checksum.specs.Crc32.{steps}
 use Rattle.crc.proofs.Front.{wider, doubles}
 use native.Mathlib.Omega.{arith}
 use borrow.Author.Needs.{needs}

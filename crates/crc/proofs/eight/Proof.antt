@@ -1,7 +1,7 @@
 -- Eight bits leave, one after the other.
 -- Assumes nothing.
 use mathlib.Core.Path.{ap, _∙_}
-use Rattle.crc.specs.Crc32.{steps}
+use Rattle.checksum.specs.Crc32.{steps}
 use borrow.Author.Needs.{needs}
 use Rattle.crc.proofs.eight.Statement.{statement}
 use Rattle.crc.proofs.eight.Tie as tie

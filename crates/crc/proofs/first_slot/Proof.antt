@@ -1,7 +1,7 @@
 -- An entry of the first table is what its byte leaves.
 -- Assumes nothing.
 use mathlib.Core.Path.{ap, _∙_}
-use Rattle.crc.specs.Crc32.{steps}
+use Rattle.checksum.specs.Crc32.{steps}
 use borrow.Author.Needs.{needs}
 use Rattle.crc.proofs.first_slot.Statement.{statement}
 use Rattle.crc.proofs.first_slot.Tie as tie

@@ -4,7 +4,7 @@ use mathlib.Core.Path.{_≡_, sym, ap}
 use Prim.Native.Nat.{ℕ, _/_, _%_}
 use native.Mathlib.Omega.{arith}
 use lib.Bits.{bitXor}
-use Rattle.crc.specs.Crc32.{tap, step}
+use Rattle.checksum.specs.Crc32.{tap, step}
 use Rattle.crc.proofs.one.Statement.{statement}
 use Rattle.crc.proofs.one.Tie as tie
 

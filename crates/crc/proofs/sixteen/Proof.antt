@@ -4,8 +4,8 @@ use mathlib.Core.Path.{sym, ap, ap₂, _∙_}
 use Prim.Native.Nat.{ℕ, _<_}
 use lib.Bits.{bitXor}
 use lib.ListN.{getD}
-use Rattle.crc.specs.Crc32.{steps}
-use Rattle.crc.proofs.Linear.{two-words}
+use Rattle.checksum.specs.Crc32.{steps}
+use Rattle.checksum.proofs.Linear.{two-words}
 use native.Mathlib.Omega.{arith}
 use borrow.Author.Needs.{needs}
 use Rattle.crc.proofs.sixteen.Statement.{statement}

@@ -4,7 +4,7 @@ use mathlib.Core.Path.{_≡_, refl, ap, _∙_, subst}
 use Prim.Native.Nat.{ℕ, _-_, _/_, _%_, _≤_}
 use lib.Bits.{bitXor}
 use lib.ListN.{getD, length-replicate}
-use Rattle.crc.specs.Crc32.{Filled}
+use Rattle.checksum.specs.Crc32.{Filled}
 use Rattle.crc.proofs.Front.{back, more, later}
 use native.Mathlib.Omega.{arith}
 use borrow.Author.Needs.{needs}

@@ -3,7 +3,7 @@
 use mathlib.Core.Path.{sym, ap₂, _∙_}
 use Prim.Native.Nat.{_<_}
 use lib.Bits.{bitXor}
-use Rattle.crc.proofs.Linear.{slices}
+use Rattle.checksum.proofs.Linear.{slices}
 use native.Mathlib.Omega.{arith}
 use borrow.Author.Needs.{needs}
 use Rattle.crc.proofs.word.Statement.{statement}

@@ -1,11 +1,11 @@
 -- `reader_check::chunk_decodes` meets its contract: all points are read, or not.
 -- Assumes nothing.
 use mathlib.Core.Path.{sym, ap, _∙_}
-use Rattle.tzb_core.specs.Trace.{toldTrace}
 use Rattle.reader_cover.proofs.Traces.{decodes-no, decodes-ok}
 use borrow.Author.Needs.{needs}
 use Rattle.reader_check.proofs.chunk_decodes.Statement.{statement}
 use Rattle.reader_check.proofs.chunk_decodes.Tie as tie
+use Rattle.tzb_core.specs.Reading.{toldTrace}
 
 trace-at-requires : tie.Need-trace-at-requires
 trace-at-requires c κs = search needs

@@ -1,7 +1,7 @@
 -- `reader_chunks::decode_chunk_points` meets its contract: the record, then the rest.
 -- Assumes nothing.
 use mathlib.Core.Path.{sym, ap, _∙_}
-use Rattle.tzb_core.specs.Decode.{filled}
+use Rattle.chunks.specs.Decode.{filled}
 use Rattle.reader_records.specs.Records.{toldChunk}
 use borrow.Author.Needs.{needs}
 use Rattle.reader_chunks.proofs.decode_chunk_points.Statement.{statement}

@@ -2,7 +2,7 @@
 -- Assumes nothing.
 use mathlib.Core.Path.{sym, ap, _∙_}
 use Rattle.answer.specs.Answers.{checkedTold, outcome}
-use Rattle.tzb_core.specs.Decode.{filled}
+use Rattle.chunks.specs.Decode.{filled}
 use Rattle.reader_chunks.proofs.Ranges.{span-fine}
 use native.Mathlib.Omega.{arith}
 use borrow.Author.Needs.{needs}

@@ -1,7 +1,7 @@
 -- `reader_chunks::decode_record` meets its contract: the count, the room, the end, then the points.
 -- Assumes nothing.
 use mathlib.Core.Path.{sym, ap, _∙_}
-use Rattle.tzb_core.specs.Decode.{filled}
+use Rattle.chunks.specs.Decode.{filled}
 use Rattle.reader_chunks.specs.Chunks.{toldOffset}
 use native.Mathlib.Omega.{arith}
 use borrow.Author.Needs.{needs}

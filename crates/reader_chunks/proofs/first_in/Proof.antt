@@ -2,7 +2,6 @@
 -- Assumes nothing.
 use mathlib.Core.Path.{sym, ap, _∙_}
 use Rattle.answer.specs.Answers.{checkedTold}
-use Rattle.tzb_core.specs.Points.{spotted}
 use Rattle.reader_chunks.proofs.Ranges.{span-fine}
 use native.Mathlib.Omega.{arith}
 use borrow.Author.Needs.{needs}
@@ -10,6 +9,7 @@ use Rattle.reader_chunks.proofs.first_in.Statement.{statement}
 use Rattle.reader_chunks.proofs.first_in.Tie as tie
 use Rattle.answer.proofs.AnswersLaws.{outcome-no}
 use Rattle.reader_chunks.proofs.ChunksLaws.{span-is, first-no, first-bad, first-is}
+use Rattle.tzb_core.specs.Reading.{spotted}
 
 check-span-requires : tie.Need-check-span-requires
 check-span-requires c κs = search needs

@@ -1,11 +1,11 @@
 -- `reader_cover::is_last` meets its contract: the points, then whether the last is the same.
 -- Assumes nothing.
 use mathlib.Core.Path.{sym, ap, _∙_}
-use Rattle.tzb_core.specs.Trace.{toldTrace}
 use Rattle.reader_cover.proofs.Traces.{last-no, last-ok}
 use borrow.Author.Needs.{needs}
 use Rattle.reader_cover.proofs.is_last.Statement.{statement}
 use Rattle.reader_cover.proofs.is_last.Tie as tie
+use Rattle.tzb_core.specs.Reading.{toldTrace}
 
 trace-at-requires : tie.Need-trace-at-requires
 trace-at-requires c κs = search needs

@@ -1,12 +1,12 @@
 -- `reader_groups::last_in` meets its contract: by its ends, or through its segments.
 -- Assumes nothing.
 use mathlib.Core.Path.{sym, ap, _∙_}
-use Rattle.tzb_core.specs.Scan.{scanned}
 use Rattle.reader_chunks.specs.Chunks.{toldPoint}
 use borrow.Author.Needs.{needs}
 use Rattle.reader_groups.proofs.last_in.Statement.{statement}
 use Rattle.reader_groups.proofs.last_in.Tie as tie
 use Rattle.reader_groups.proofs.GroupsLaws.{last-first-no, last-first, last-scan-no, last-scan-on, last-scan}
+use Rattle.tzb_core.specs.Reading.{scanned}
 
 right-requires : tie.Need-right-requires
 right-requires c κs = search needs

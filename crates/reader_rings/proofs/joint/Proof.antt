@@ -2,7 +2,7 @@
 -- Assumes nothing.
 use mathlib.Core.Path.{sym, ap, _∙_}
 use Rattle.plane.specs.Sight.{Sight, seenTold}
-use Rattle.tzb_core.specs.Scan.{past}
+use Rattle.chunks.specs.Scan.{past}
 use borrow.Author.Needs.{needs}
 use Rattle.reader_rings.proofs.joint.Statement.{statement}
 use Rattle.reader_rings.proofs.joint.Tie as tie

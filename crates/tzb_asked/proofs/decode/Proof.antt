@@ -1,7 +1,7 @@
 -- `decode` meets its contract: the record first, then the chunk.
 -- Assumes nothing.
 use mathlib.Core.Path.{sym, ap, _∙_}
-use Rattle.tzb_core.specs.Decode.{filled}
+use Rattle.chunks.specs.Decode.{filled}
 use Rattle.tzb_record.specs.Layout.{recordTold}
 use borrow.Author.Needs.{needs}
 use Rattle.tzb_asked.proofs.decode.Statement.{statement}

@@ -1,14 +1,14 @@
 -- `chunk::decode_points` meets its contract: the count, the room, the first point, then the rest.
 -- Assumes nothing.
 use mathlib.Core.Path.{sym, ap, _∙_}
-use Rattle.tzb_core.specs.Points.{spotted}
-use Rattle.tzb_core.specs.Decode.{filled}
+use Rattle.chunks.specs.Decode.{filled}
 use native.Mathlib.Omega.{arith}
 use borrow.Author.Needs.{needs}
 use Rattle.tzb_core.proofs.chunk.decode_points.Statement.{statement}
 use Rattle.tzb_core.proofs.chunk.decode_points.Tie as tie
 use Rattle.answer.specs.Answers.{outcome}
-use Rattle.tzb_core.proofs.DecodeLaws.{into-none, into-short, into-no, into-at}
+use Rattle.chunks.proofs.DecodeLaws.{into-none, into-short, into-no, into-at}
+use Rattle.tzb_core.specs.Reading.{spotted}
 
 fail-requires : tie.Need-fail-requires
 fail-requires c κs = search needs

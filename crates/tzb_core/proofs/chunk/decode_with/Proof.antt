@@ -6,13 +6,13 @@ use mathlib.Core.List.{List, _++_}
 use lib.ListN.{take, drop}
 use lib.IntN.{ℤ}
 use Rattle.answer.specs.Answers.{checkedTold, outcome}
-use Rattle.tzb_core.specs.Decode.{filled}
-use Rattle.tzb_core.proofs.Decoded.{wrote, copied, led-same, led-fine, led-no}
+use Rattle.chunks.specs.Decode.{filled}
+use Rattle.chunks.proofs.Decoded.{wrote, copied, led-same, led-fine, led-no}
 use native.Mathlib.Omega.{arith}
 use borrow.Author.Needs.{needs}
 use Rattle.tzb_core.proofs.chunk.decode_with.Statement.{statement}
 use Rattle.tzb_core.proofs.chunk.decode_with.Tie as tie
-use Rattle.tzb_core.specs.Steps.{pointsFrom}
+use Rattle.chunks.specs.Steps.{pointsFrom}
 
 fill-from-requires : tie.Need-fill-from-requires
 fill-from-requires c κs = search needs

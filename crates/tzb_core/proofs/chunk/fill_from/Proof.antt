@@ -10,16 +10,17 @@ use mir.Syntax.{w32}
 use mir.Val.{toZ, ofZ}
 use Rattle.answer.specs.Answers.{ok, outcome}
 use Rattle.varints.specs.Varint.{numberAt}
-use Rattle.tzb_core.specs.Decode.{decoder}
+use Rattle.chunks.specs.Decode.{decoder}
 use Rattle.basics.specs.Signed.{back}
-use Rattle.tzb_core.proofs.Decoded.{put-end, put-on}
-use Rattle.tzb_core.proofs.Turns.{nextOf, turn-none, turn-no, turn-half, turn-to, half-less, point-less, no-more, place-on, place-in, room-first, room-kept, readBy, read-by, check-no, check-on, check-end, read-no, read-on, read-end}
+use Rattle.chunks.proofs.Decoded.{put-end, put-on}
+use Rattle.chunks.proofs.Turns.{nextOf, turn-none, turn-no, turn-half, turn-to, half-less, point-less, no-more, place-on, place-in, room-first, room-kept, readBy, read-by, check-no, check-on, check-end, read-no, read-on, read-end}
 use borrow.Author.Needs.{needs}
 use Rattle.tzb_core.proofs.chunk.fill_from.Statement.{statement}
 use Rattle.tzb_core.proofs.chunk.fill_from.Tie as tie
-use Rattle.tzb_core.specs.Steps.{moved, alongBy, pointsFrom, put, readFrom}
-use Rattle.tzb_core.proofs.AlongLaws.{along-by, by-there}
+use Rattle.tzb_core.specs.Steps.{moved}
+use Rattle.chunks.proofs.AlongLaws.{along-by, by-there}
 use Rattle.tzb_core.specs.Reading.{readTold}
+use Rattle.chunks.specs.Steps.{alongBy, pointsFrom, put, readFrom}
 
 abbrev Inv-loop : tie.InvT-loop
 Inv-loop s count out₀ q₀ at₀ rest₀ i₀ half₀ x₀ out q at rest i half x =

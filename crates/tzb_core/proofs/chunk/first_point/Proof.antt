@@ -2,11 +2,12 @@
 -- Assumes nothing.
 use mathlib.Core.Path.{_≡_, sym, ap, _∙_}
 use Rattle.answer.specs.Answers.{ok, refused}
-use Rattle.tzb_core.specs.Points.{spotted, numbersAt}
+use Rattle.chunks.specs.Points.{numbersAt}
 use borrow.Author.Needs.{needs}
 use Rattle.tzb_core.proofs.chunk.first_point.Statement.{statement}
 use Rattle.tzb_core.proofs.chunk.first_point.Tie as tie
-use Rattle.tzb_core.proofs.PointsLaws.{first-no, first-out, first-in}
+use Rattle.chunks.proofs.PointsLaws.{first-no, first-out, first-in}
+use Rattle.tzb_core.specs.Reading.{spotted}
 
 numbers-requires : tie.Need-numbers-requires
 numbers-requires c κs = search needs

@@ -1,7 +1,7 @@
 -- `chunk::next_point` meets its contract: two numbers, the sums, then the domain.
 -- Assumes nothing.
 use mathlib.Core.Path.{_≡_, sym, ap, ap₂, _∙_}
-use Rattle.tzb_core.specs.Points.{spotted, numbersAt}
+use Rattle.chunks.specs.Points.{numbersAt}
 use lib.IntN.{ℤ}
 use mir.Syntax.{w32}
 use Rattle.answer.specs.Answers.{ok}
@@ -10,8 +10,10 @@ use borrow.Author.Needs.{needs}
 use Rattle.tzb_core.proofs.chunk.next_point.Statement.{statement}
 use Rattle.tzb_core.proofs.chunk.next_point.Tie as tie
 use Rattle.plane.specs.Places.{point}
-use Rattle.tzb_core.specs.Steps.{moved, arrive}
-use Rattle.tzb_core.proofs.PointsLaws.{next-no, next-over, next-to}
+use Rattle.tzb_core.specs.Steps.{moved}
+use Rattle.chunks.proofs.PointsLaws.{next-no, next-over, next-to}
+use Rattle.tzb_core.specs.Reading.{spotted}
+use Rattle.chunks.specs.Steps.{arrive}
 
 module _ (c : tie.After-point-after) where
   -- the two numbers

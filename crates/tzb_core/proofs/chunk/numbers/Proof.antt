@@ -9,7 +9,7 @@ use borrow.Author.Needs.{needs}
 use Rattle.tzb_core.proofs.chunk.numbers.Statement.{statement}
 use Rattle.tzb_core.proofs.chunk.numbers.Tie as tie
 use Rattle.plane.specs.Places.{point}
-use Rattle.tzb_core.proofs.PointsLaws.{numbers-first, numbers-second, numbers-both}
+use Rattle.chunks.proofs.PointsLaws.{numbers-first, numbers-second, numbers-both}
 use Rattle.tzb_core.specs.Reading.{readTold}
 
 varint-requires : tie.Need-varint-requires

@@ -5,12 +5,13 @@ use mir.Syntax.{w32}
 use mir.Val.{toZ, ofZ}
 use mir.ValLaws.{toZ-ofZ}
 use Rattle.answer.specs.Answers.{ok, refused}
-use Rattle.tzb_core.specs.Delta.{addDelta, summed}
+use Rattle.chunks.specs.Delta.{addDelta}
 use Rattle.basics.specs.Signed.{back}
 use borrow.Author.Needs.{needs}
 use Rattle.tzb_core.proofs.chunk.point_after.Statement.{statement}
 use Rattle.tzb_core.proofs.chunk.point_after.Tie as tie
-use Rattle.tzb_core.proofs.PointsLaws.{arrive-x, arrive-y, arrive-out, arrive-in}
+use Rattle.chunks.proofs.PointsLaws.{arrive-x, arrive-y, arrive-out, arrive-in}
+use Rattle.tzb_core.specs.Reading.{summed}
 
 x-sum : (a : tie.After-add-delta) → summed (a .add-delta .result) ≡ addDelta (a .before .before .args .q .x) (a .before .before .args .x)
 x-sum a = a .add-delta .ensures ∙ ap₂ addDelta (back w32 _ (a .before .struct-told .given .0 .1)) (toZ-ofZ w32 _ (a .before .before .fits .x))

@@ -4,11 +4,11 @@ use native.Mathlib.Omega.{arith}
 use borrow.Author.Needs.{needs}
 use mathlib.Core.Path.{sym, ap, _∙_}
 use Rattle.answer.specs.Walks.{broken}
-use Rattle.tzb_core.specs.Points.{spotted}
-use Rattle.tzb_core.proofs.Neighbours.{first-in}
+use Rattle.chunks.proofs.Neighbours.{first-in}
 use Rattle.tzb_core.proofs.chunk.scan_chunk.Statement.{statement}
 use Rattle.tzb_core.proofs.chunk.scan_chunk.Tie as tie
-use Rattle.tzb_core.proofs.ScanLaws.{scan-none, scan-no, scan-from}
+use Rattle.chunks.proofs.ScanLaws.{scan-none, scan-no, scan-from}
+use Rattle.tzb_core.specs.Reading.{spotted}
 
 refuse-requires : tie.Need-refuse-requires
 refuse-requires c κs = search needs

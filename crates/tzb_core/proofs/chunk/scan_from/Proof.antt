@@ -11,16 +11,17 @@ use Rattle.answer.specs.Walks.{broken, add}
 use Rattle.plane.specs.Sight.{seenTold}
 use Rattle.plane.specs.Domain.{inDomain}
 use Rattle.varints.specs.Varint.{numberAt}
-use Rattle.tzb_core.specs.Scan.{scanner}
-use Rattle.tzb_core.proofs.Turns.{nextOf, turn-none, turn-no, turn-half, turn-to, turn-in, half-less, point-less, no-more, by-on, by-off}
+use Rattle.chunks.specs.Scan.{scanner}
+use Rattle.chunks.proofs.Turns.{nextOf, turn-none, turn-no, turn-half, turn-to, turn-in, half-less, point-less, no-more, by-on, by-off}
 use Rattle.basics.specs.Signed.{back}
 use borrow.Author.Needs.{needs}
 use Rattle.tzb_core.proofs.chunk.scan_from.Statement.{statement}
 use Rattle.tzb_core.proofs.chunk.scan_from.Tie as tie
 use Rattle.answer.proofs.WalksLaws.{add-none, breaks, hits, ends, keeps}
-use Rattle.tzb_core.specs.Steps.{moved, alongBy, onward}
-use Rattle.tzb_core.proofs.AlongLaws.{along-by, by-left, by-end, by-no, by-there}
+use Rattle.tzb_core.specs.Steps.{moved}
+use Rattle.chunks.proofs.AlongLaws.{along-by, by-left, by-end, by-no, by-there}
 use Rattle.tzb_core.specs.Reading.{readTold}
+use Rattle.chunks.specs.Steps.{alongBy, onward}
 
 abbrev Inv-loop : tie.InvT-loop
 Inv-loop s p count b q₀ at₀ odd₀ left₀ half₀ x₀ q at odd left half x =

@@ -3,12 +3,12 @@
 use native.Mathlib.Omega.{arith}
 use mathlib.Core.Path.{sym, ap, _∙_}
 use Rattle.answer.specs.Answers.{refused}
-use Rattle.tzb_core.specs.Points.{spotted}
-use Rattle.tzb_core.specs.Trace.{traceOf}
+use Rattle.chunks.specs.Trace.{traceOf}
 use borrow.Author.Needs.{needs}
 use Rattle.tzb_core.proofs.chunk.trace_chunk.Statement.{statement}
 use Rattle.tzb_core.proofs.chunk.trace_chunk.Tie as tie
-use Rattle.tzb_core.proofs.AlongLaws.{walk-none, walk-no, walk-from}
+use Rattle.chunks.proofs.AlongLaws.{walk-none, walk-no, walk-from}
+use Rattle.tzb_core.specs.Reading.{spotted}
 
 refuse-requires : tie.Need-refuse-requires
 refuse-requires c κs = search needs

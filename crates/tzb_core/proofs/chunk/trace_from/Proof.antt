@@ -5,16 +5,17 @@ use mathlib.Core.Path.{_≡_, sym, ap, ap₂, _∙_}
 use mathlib.Core.Bool.{Bool, _&&_}
 use Rattle.answer.specs.Answers.{refused}
 use Rattle.boxes.specs.Box.{inBox}
-use Rattle.tzb_core.specs.Points.{spotted, nextAt}
-use Rattle.tzb_core.specs.Along.{along}
-use Rattle.tzb_core.specs.Trace.{also, tracer}
+use Rattle.chunks.specs.Points.{nextAt}
+use Rattle.chunks.specs.Along.{along}
+use Rattle.chunks.specs.Trace.{also, tracer}
 use borrow.Author.Tests.{not-true, not-false}
 use borrow.Author.Needs.{needs}
 use Rattle.tzb_core.proofs.chunk.trace_from.Statement.{statement}
 use Rattle.tzb_core.proofs.chunk.trace_from.Tie as tie
-use Rattle.tzb_core.proofs.TraceLaws.{also-no, also-end, also-on}
-use Rattle.tzb_core.specs.Steps.{alongBy}
-use Rattle.tzb_core.proofs.AlongLaws.{along-by, by-left, by-end, by-no, by-to}
+use Rattle.chunks.proofs.TraceLaws.{also-no, also-end, also-on}
+use Rattle.chunks.proofs.AlongLaws.{along-by, by-left, by-end, by-no, by-to}
+use Rattle.tzb_core.specs.Reading.{spotted}
+use Rattle.chunks.specs.Steps.{alongBy}
 
 abbrev Inv-loop : tie.InvT-loop
 Inv-loop s b count q₀ at₀ inside₀ left₀ q at inside left = also inside (alongBy (tracer b) s left q (at .at) (nextAt s q (at .at))) ≡ also (inBox b q₀) (along (tracer b) s count q₀ (at₀ .at))

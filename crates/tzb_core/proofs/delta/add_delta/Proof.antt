@@ -7,11 +7,11 @@ use mir.Val.{SFits, toZ, ofZ}
 use mir.ValLaws.{toZ-ofZ}
 use borrow.Author.Needs.{needs}
 use Rattle.answer.specs.Answers.{ok, refused}
-use Rattle.tzb_core.specs.Delta.{fits32}
-use Rattle.tzb_core.proofs.Sums.{widen, wide-eq, sums-fit, fits-small}
+use Rattle.chunks.specs.Delta.{fits32}
+use Rattle.chunks.proofs.Sums.{widen, wide-eq, sums-fit, fits-small}
 use Rattle.tzb_core.proofs.delta.add_delta.Statement.{statement}
 use Rattle.tzb_core.proofs.delta.add_delta.Tie as tie
-use Rattle.tzb_core.proofs.DeltaLaws.{sum-fits, sum-over}
+use Rattle.chunks.proofs.DeltaLaws.{sum-fits, sum-over}
 
 -- the sum of two i32, as it is held
 held : (a b : ℤ) → SFits w32 a → SFits w32 b → toZ w64 (ofZ w64 (toZ w64 (ofZ w64 (toZ w32 (ofZ w32 a))) +ℤ toZ w64 (ofZ w64 (toZ w32 (ofZ w32 b))))) ≡ a +ℤ b

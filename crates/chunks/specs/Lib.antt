@@ -1,0 +1,8 @@
+-- A chunk's points.
+pub mod Delta
+pub mod Points
+pub mod Along
+pub mod Decode
+pub mod Scan
+pub mod Trace
+pub mod Steps
