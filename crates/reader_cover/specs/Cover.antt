@@ -16,6 +16,8 @@ use Rattle.reader_chunks.specs.Chunks.{firstAt, chunkPoints}
 use Rattle.shapes.specs.Shapes.{covers}
 use Rattle.reader_cover.specs.All.{all}
 use Rattle.plane.specs.Segment.{samePoint}
+use Rattle.reader_cover.specs.declared.Part.{Part}
+use Rattle.reader_cover.specs.declared.Part.the-variants as P
 
 -- the group that op j names
 unfoldable pub groupOfOp : Opened → List ℕ → ℕ → Answer GroupRecord
@@ -77,3 +79,12 @@ polyCovers o s v = all (ringUnder o s (v .bbox)) (v .count) (v .first)
 
 unfoldable pub zoneCovers : Opened → List ℕ → ListRecord → Bool
 zoneCovers o s v = all (polyUnder o s (v .bbox)) (v .count) (v .first)
+
+-- ---- one part under its whole, of each kind
+-- what is asked of each part of something larger
+abbrev pub partFits : Opened → List ℕ → Part → ℕ → Bool
+partFits o s (P.Chunk b) = chunkUnder o s b
+partFits o s (P.Group b) = groupUnder o s b
+partFits o s (P.Ring b) = ringUnder o s b
+partFits o s (P.Polygon b) = polyUnder o s b
+partFits o s P.Joint = jointCovers o s

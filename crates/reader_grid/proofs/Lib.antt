@@ -1,4 +1,4 @@
--- Laws that the proofs of the functions cite, and what the definitions of GRID mean.
+-- Laws that the proofs of the functions cite, and that answers are determined.
 pub mod Numbers
 pub mod Checking
 pub mod Determined

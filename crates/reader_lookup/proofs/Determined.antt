@@ -1,4 +1,4 @@
--- Any two answers that a promise allows are equal, and so is the lent memory: stated over the contracts themselves. Two values of an enum that tell the same are the same.
+-- Any two answers that a promise allows are equal: stated over the contracts themselves. Two values of an enum that tell the same are the same.
 -- Assumes nothing.
 use mathlib.Core.Path.{sym, _∙_}
 use Rattle.basics.specs.Determined.{Determined}

@@ -1,4 +1,4 @@
--- Any two answers that a promise allows are equal: stated over the contracts themselves. A part of the file that is handed back is fixed by its bytes and its place.
+-- Any two answers that a promise allows are equal: stated over the contracts themselves.
 -- Assumes nothing.
 use mathlib.Core.Path.{sym, _∙_}
 use Rattle.basics.specs.Determined.{Determined}

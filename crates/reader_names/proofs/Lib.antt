@@ -1,3 +1,3 @@
--- Laws of the names: of opening's checks, of the question, of both together.
+-- Laws of opening's checks of the names, and that answers are determined.
 pub mod Rises
 pub mod Determined

@@ -1,4 +1,4 @@
--- What the exports tell beside tzb_codes: counts, zones and places. And those for comparison runs.
+-- What the exports for comparison runs tell, beside tzb_codes.
 -- Assumes nothing.
 use Prim.Native.Nat.{ℕ, _-_}
 use lib.IntN.{ℤ, pos}

@@ -9,7 +9,7 @@ use Rattle.reader_cover.specs.declared.Part.{Part}
 use borrow.Author.Needs.{needs}
 use Rattle.reader_cover.proofs.part_fits.Statement.{statement}
 use Rattle.reader_cover.proofs.part_fits.Tie as tie
-use Rattle.reader_cover.specs.Steps.{partFits}
+use Rattle.reader_cover.specs.Cover.{partFits}
 
 -- the part that was matched
 as-matched : (o : Opened) (s : List ℕ) (p q : Part) (j : ℕ) (r : Bool) → p ≡ q → r ≡ partFits o s q j → r ≡ partFits o s p j

@@ -9,7 +9,7 @@ use Rattle.reader_cover.proofs.parts_fit.Statement.{statement}
 use Rattle.reader_cover.proofs.parts_fit.Tie as tie
 use Rattle.reader_cover.specs.All.{all}
 use Rattle.reader_cover.proofs.AllLaws.{all-start, all-yes, all-no, all-end}
-use Rattle.reader_cover.specs.Steps.{partFits}
+use Rattle.reader_cover.specs.Cover.{partFits}
 
 abbrev Inv-loop : tie.InvT-loop
 Inv-loop o s part first count j₀ to j = (j ≤ to) × (to < 0x1_0001_0000) × (all (partFits o s part) (to - j) j ≡ all (partFits o s part) count first)
