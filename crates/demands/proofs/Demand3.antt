@@ -19,11 +19,11 @@ use Rattle.demands.proofs.Accepted.{accepts-exactly, accepted-with}
 use Rattle.demands.proofs.Rules.{accepted-sound, accepted-covered}
 use Rattle.demands.proofs.Words.{zone-in-words}
 use Rattle.replies.specs.Replies.{accepted}
-use Rattle.shapes.specs.Layout.{zoneShape}
+use Rattle.shapes.specs.Layout.{zoneAt}
 
 module _ (file : List ℕ) (accepts : fullCheckOf file ≡ accepted) (o : Opened) (opened : ok o ≡ openOf file) (zone : ℕ) (its-own : zone < o .zones .count) where
   -- as one equation, and at every whole-number point: outside the domain both say no
-  pub contains-is : (q : I32Point) → containsAt o file zone q ≡ ok (zoneIn (seg q) (zoneShape (directories o file) zone))
+  pub contains-is : (q : I32Point) → containsAt o file zone q ≡ ok (zoneIn (seg q) (zoneAt (directories o file) zone))
   contains-is q =
       let a = accepted-with file accepts o opened in
       contains-exact o file (accepted-sound file o a) (accepted-covered file o a) zone its-own q
@@ -31,9 +31,9 @@ module _ (file : List ℕ) (accepts : fullCheckOf file ≡ accepted) (o : Opened
   contains-exactly : (p : Position) → Exactly o file zone (p .at)
   contains-exactly p =
       record {
-        says = zoneIn (seg (p .at)) (zoneShape (directories o file) zone);
+        says = zoneIn (seg (p .at)) (zoneAt (directories o file) zone);
         answers = contains-is (p .at);
-        exactly = zone-in-words (p .at) (zoneShape (directories o file) zone);
+        exactly = zone-in-words (p .at) (zoneAt (directories o file) zone);
       }
 
 pub demand-3 : (file : List ℕ) → Demand3 file

@@ -61,7 +61,7 @@ module _ (file : List ℕ) (accepts : fullCheckOf file ≡ accepted) (o : Opened
   -- ---- lookups at any floats: each zone answers by the walk over its shape
   module _ (lng lat : Float) (c : Chosen) (chosen : ok c ≡ candidatesOf o file lng lat) where
     abbrev walked : ℕ → Bool
-    walked zone = zoneWalk (floatTests (scaled lng lat)) (Layout.zoneShape (directories o file) zone)
+    walked zone = zoneWalk (floatTests (scaled lng lat)) (Layout.zoneAt (directories o file) zone)
 
     answers : (zone : ℕ) → zone < o .zones .count → zoneOf o file (scaled lng lat) zone ≡ ok (walked zone)
     answers = zone-walk o file k (scaled lng lat)

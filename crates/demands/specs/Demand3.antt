@@ -7,7 +7,7 @@
 --   a position                `Position`, specs/Words
 --   the reader with its skips `containsAt`, reader_rings/specs/Zones: the walk over the file's bytes, in floats, past what boxes rule out; `contains` of reader_rings promises to answer it
 --   exact geometry            `InZone`, specs/Words, over the zone's shape
---   the zone's shape          `zoneShape (directories o file) zone`, shapes/specs/Layout and reader_exact/specs/Directories: the points that the file's chunks decode to, by groups, rings and polygons. Of an accepted file every record of it is one that the reader answers (`accepted-sound`, proofs/Rules; `sound-named`, reader_exact/proofs/Exact)
+--   the zone's shape          `zoneAt (directories o file) zone`, shapes/specs/Layout and reader_exact/specs/Directories: the points that the file's chunks decode to, by groups, rings and polygons. Of an accepted file every record of it is one that the reader answers (`accepted-sound`, proofs/Rules; `sound-named`, reader_exact/proofs/Exact)
 -- Assumes nothing.
 use Prim.Native.Nat.{ℕ, _<_}
 use mathlib.Core.Path.{_≡_}
@@ -24,13 +24,13 @@ use Rattle.tzb.specs.FullCheck.{fullCheckOf}
 use Rattle.demands.specs.Accepted.{Accepted}
 use Rattle.demands.specs.Words.{Position, InZone}
 use Rattle.replies.specs.Replies.{accepted}
-use Rattle.shapes.specs.Layout.{zoneShape}
+use Rattle.shapes.specs.Layout.{zoneAt}
 
 -- the reader answers, with no refusal; and "in this zone" exactly when exact geometry does
 pub record Exactly (o : Opened) (file : List ℕ) (zone : ℕ) (q : I32Point) : Type 0 where
   pub says : Bool
   pub answers : containsAt o file zone q ≡ ok says
-  pub exactly : (says ≡ true) ↔ InZone q (zoneShape (directories o file) zone)
+  pub exactly : (says ≡ true) ↔ InZone q (zoneAt (directories o file) zone)
 
 pub record Demand3 (file : List ℕ) : Type 0 where
   -- "The full check accepts a file exactly when document 01's F1 to F6 hold."

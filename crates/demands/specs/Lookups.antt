@@ -26,11 +26,11 @@ use Rattle.reader_lookup.specs.Asking.{unlooked, lookupOf}
 use Rattle.reader_exact.specs.Directories.{directories}
 use Rattle.replies.specs.Replies.{Chosen, none, all, listed, Sought, nowhere, inZone}
 use Rattle.reader_listing.specs.All.{listOf}
-use Rattle.shapes.specs.Layout.{zoneShape}
+use Rattle.shapes.specs.Layout.{zoneAt}
 
 -- the zone contains the point exactly
 abbrev pub exactlyIn : Opened → List ℕ → I32Point → ℕ → Bool
-exactlyIn o s q zone = zoneIn (seg q) (zoneShape (directories o s) zone)
+exactlyIn o s q zone = zoneIn (seg q) (zoneAt (directories o s) zone)
 
 -- ---- the candidates
 -- the zone that stands at a place of the candidate list; of an accepted file there is one at each place that a cell lists

@@ -14,7 +14,7 @@ use Rattle.opened.specs.declared.Opened.{Opened}
 use Rattle.reader_named.specs.Asked.{nameAt}
 use Rattle.reader_cells.specs.Asked.{candidatesOf, candidateAt}
 use Rattle.reader_records.specs.declared.ChunkRecord.{ChunkRecord}
-use Rattle.reader_records.specs.Records.{zoneAt, polyAt, ringAt, opAt, groupAt, chunkAt}
+use Rattle.reader_records.specs.Records.{polyAt, ringAt, opAt, groupAt, chunkAt, tzAt}
 use Rattle.reader_chunks.specs.Chunks.{firstAt, chunkPoints, decodeIn}
 use Rattle.reader_zones.specs.Zones.{zoneOf, containsAt}
 use Rattle.reader_lookup.specs.Asking.{lookupOf}
@@ -23,7 +23,7 @@ use Rattle.reader_listing.specs.All.{hitsOf, listOf}
 
 pub record NeverRefused (file : List ℕ) (o : Opened) : Type 0 where
   -- records
-  pub zone : (i : ℕ) → i < o .zones .count → Given (zoneAt o file i)
+  pub zone : (i : ℕ) → i < o .zones .count → Given (tzAt o file i)
   pub polygon : (i : ℕ) → i < o .polys .count → Given (polyAt o file i)
   pub ring : (i : ℕ) → i < o .rings .count → Given (ringAt o file i)
   pub op : (i : ℕ) → i < o .ops .count → Given (opAt o file i)

@@ -23,7 +23,7 @@ use Rattle.chunks.specs.Points as Points
 use Rattle.chunks.specs.Along.{along, walkOf}
 use Rattle.chunks.specs.Decode.{pointsOf}
 use Rattle.shapes.specs.Shapes.{Zone, ringIn, polygonIn, zoneIn, inBox, covers}
-use Rattle.shapes.specs.Layout.{groupAt, legAt, ringAt, polygonAt, zoneShape}
+use Rattle.shapes.specs.Layout.{groupAt, legAt, ringAt, polygonAt, zoneAt}
 use Rattle.shapes.specs.Example.{zone}
 use Rattle.reader_head.specs.Magic as M
 use Rattle.reader_head.specs.Head as H
@@ -68,8 +68,8 @@ pub accepts : fullCheckOf file ≡ accepted
 accepts = sym (full-accepted file opened opens 0 none-broken refl)
 
 -- its zone is the drawn one
-pub made : zoneShape (directories opened file) 0 ≡ zone
-unfolding file opened directories zoneRecord polyRecord ringRecord opWord groupRecord chunkShape zoneShape polygonAt ringAt legAt groupAt run S.listAt S.ringAt S.opAt S.groupAt S.chunkAt S.ruled S.recordAt S.listIn S.listRule S.ringIn S.ringRule S.opRule S.groupIn S.groupRule S.chunkIn S.chunkRule S.boxIn S.pointIn S.fitsBelow L.inside E.le B.ordered B.boxInDomain A.inDomain chunkPoints bytesOf endOf span startOf pointsOf pointsFrom walkOf along Points.firstOf Points.nextAt Points.numbersAt Points.movedBy Points.mustLie Deltas.addDelta Deltas.fits32 numberAt digits
+pub made : zoneAt (directories opened file) 0 ≡ zone
+unfolding file opened directories zoneRecord polyRecord ringRecord opWord groupRecord chunkShape zoneAt polygonAt ringAt legAt groupAt run S.listAt S.ringAt S.opAt S.groupAt S.chunkAt S.ruled S.recordAt S.listIn S.listRule S.ringIn S.ringRule S.opRule S.groupIn S.groupRule S.chunkIn S.chunkRule S.boxIn S.pointIn S.fitsBelow L.inside E.le B.ordered B.boxInDomain A.inDomain chunkPoints bytesOf endOf span startOf pointsOf pointsFrom walkOf along Points.firstOf Points.nextAt Points.numbersAt Points.movedBy Points.mustLie Deltas.addDelta Deltas.fits32 numberAt digits
 made = refl
 
 -- demand 3 for it: at every whole-number point

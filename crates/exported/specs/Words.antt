@@ -8,7 +8,7 @@ use lib.ListN.{getD}
 use Rattle.shapes.specs.Shapes.{Zone}
 use Rattle.reader_exact.specs.Directories.{directories}
 use Rattle.tzb.specs.Opening.{openedIs}
-use Rattle.shapes.specs.Layout.{zoneShape}
+use Rattle.shapes.specs.Layout.{zoneAt}
 
 -- the answer none: -1 (`negsuc k` is -1 - k)
 abbrev pub none : ℤ
@@ -31,4 +31,4 @@ Bytes file = (i : ℕ) → getD file i 0 < 256
 
 -- the shape of a zone of a file: the points that the file's chunks decode to, by groups, rings and polygons
 abbrev pub shapeOf : List ℕ → ℕ → Zone
-shapeOf file zone = zoneShape (directories (openedIs file) file) zone
+shapeOf file zone = zoneAt (directories (openedIs file) file) zone

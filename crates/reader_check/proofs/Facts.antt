@@ -15,7 +15,7 @@ use Rattle.reader_records.specs.declared.ListRecord.{ListRecord}
 use Rattle.reader_records.specs.declared.RingRecord.{RingRecord}
 use Rattle.reader_records.specs.declared.GroupRecord.{GroupRecord}
 use Rattle.reader_records.specs.declared.ChunkRecord.{ChunkRecord}
-use Rattle.reader_records.specs.Records.{zoneAt, polyAt, ringAt, opAt, groupAt, chunkAt, countRule}
+use Rattle.reader_records.specs.Records.{polyAt, ringAt, opAt, groupAt, chunkAt, countRule, tzAt}
 use Rattle.reader_chunks.specs.Chunks.{firstAt, chunkPoints}
 use Rattle.reader_cover.specs.Cover.{pointsAdd, chunkCovers, jointCovers, jointsCover, chunkUnder, groupUnder, ringUnder, polyUnder, endsFit, groupCovers, ringCovers, polyCovers, zoneCovers, groupOfOp, sumOfOps}
 use Rattle.reader_check.specs.declared.Demand.{Demand}
@@ -51,8 +51,8 @@ module _ (o : Opened) (s : List ℕ) (h : recordsHold o s ≡ true) where
       (one o s _ _ h, one o s _ _ a, one o s _ _ b, one o s _ _ (rest o s _ _ b))
 
   module _ (i : ℕ) where
-    pub zone-there : i < o .zones .count → (v : ListRecord) × (ok v ≡ zoneAt o s i)
-    zone-there l = answer-of (zoneAt o s i) (each o s D.Zone (parts .0) i l)
+    pub zone-there : i < o .zones .count → (v : ListRecord) × (ok v ≡ tzAt o s i)
+    zone-there l = answer-of (tzAt o s i) (each o s D.Zone (parts .0) i l)
 
     pub poly-there : i < o .polys .count → (v : ListRecord) × (ok v ≡ polyAt o s i)
     poly-there l = answer-of (polyAt o s i) (each o s D.Polygon (parts .1) i l)
@@ -152,9 +152,9 @@ module _ (o : Opened) (s : List ℕ) (h : boxesCover o s ≡ true) where
       holds-at (λ r. covers (v .bbox) (r .bbox)) (ringAt o s j) r f
       (all-at (ringUnder o s (v .bbox)) (v .count) (v .first) (holds-at (polyCovers o s) (polyAt o s i) v e (each o s D.PolygonBox (levels .1) i m)) j a b)
 
-  pub zone-covers : (i : ℕ) → i < o .zones .count → (v : ListRecord) → ok v ≡ zoneAt o s i → (j : ℕ) → v .first ≤ j → j < v .first + v .count
+  pub zone-covers : (i : ℕ) → i < o .zones .count → (v : ListRecord) → ok v ≡ tzAt o s i → (j : ℕ) → v .first ≤ j → j < v .first + v .count
       → (u : ListRecord) → ok u ≡ polyAt o s j → covers (v .bbox) (u .bbox) ≡ true
   unfolding zoneCovers polyUnder
   zone-covers i m v e j a b u f =
       holds-at (λ u. covers (v .bbox) (u .bbox)) (polyAt o s j) u f
-      (all-at (polyUnder o s (v .bbox)) (v .count) (v .first) (holds-at (zoneCovers o s) (zoneAt o s i) v e (each o s D.ZoneBox (levels .2) i m)) j a b)
+      (all-at (polyUnder o s (v .bbox)) (v .count) (v .first) (holds-at (zoneCovers o s) (tzAt o s i) v e (each o s D.ZoneBox (levels .2) i m)) j a b)

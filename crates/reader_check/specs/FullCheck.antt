@@ -6,7 +6,7 @@ use mathlib.Core.List.{List, [], _∷_}
 use Rattle.answer.specs.Refusals.{refusal}
 use Rattle.answer.specs.Answers.{Answer, ok, refused, holds, answered}
 use Rattle.opened.specs.declared.Opened.{Opened}
-use Rattle.reader_records.specs.Records.{zoneAt, polyAt, ringAt, opAt, groupAt}
+use Rattle.reader_records.specs.Records.{polyAt, ringAt, opAt, groupAt, tzAt}
 use Rattle.reader_chunks.specs.Chunks.{chunkPoints}
 use Rattle.reader_cover.specs.Cover.{pointsAdd, chunkCovers, jointsCover, groupCovers, ringCovers, polyCovers, zoneCovers}
 use Rattle.reader_check.specs.declared.Demand.{Demand}
@@ -25,7 +25,7 @@ each n P = record { count = n; test = P }
 
 abbrev pub asked : Opened → List ℕ → Demand → Asked
 -- F2 "Every zone, polygon and ring meets the record rule,
-asked o s D.Zone = each (o .zones .count) (λ i. answered (zoneAt o s i))
+asked o s D.Zone = each (o .zones .count) (λ i. answered (tzAt o s i))
 asked o s D.Polygon = each (o .polys .count) (λ i. answered (polyAt o s i))
 -- every ring op names a group,
 asked o s D.Op = each (o .ops .count) (λ i. answered (opAt o s i))
@@ -44,7 +44,7 @@ asked o s D.RingBox = each (o .rings .count) (λ i. holds (ringCovers o s) (ring
 -- each polygon's its rings',
 asked o s D.PolygonBox = each (o .polys .count) (λ i. holds (polyCovers o s) (polyAt o s i))
 -- each zone's its polygons'."
-asked o s D.ZoneBox = each (o .zones .count) (λ i. holds (zoneCovers o s) (zoneAt o s i))
+asked o s D.ZoneBox = each (o .zones .count) (λ i. holds (zoneCovers o s) (tzAt o s i))
 
 -- every record of the directory passes, also one that nothing points at
 unfoldable pub met : Opened → List ℕ → Demand → Bool

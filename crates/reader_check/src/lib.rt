@@ -1,6 +1,6 @@
 // The full check after opening: F2 to F6, demand by demand, over every record of every directory.
 ghost use mathlib.Core.Path.{_≡_};
-ghost use Rattle.reader_records.specs.Records.{zoneAt, polyAt, ringAt, opAt, groupAt};
+ghost use Rattle.reader_records.specs.Records.{polyAt, ringAt, opAt, groupAt, tzAt};
 ghost use Rattle.reader_chunks.specs.Chunks.{chunkPoints};
 ghost use Rattle.reader_cover.specs.Cover.{pointsAdd, chunkCovers, jointsCover, groupCovers, ringCovers, polyCovers, zoneCovers};
 ghost use Rattle.reader_check.specs.FullCheck.{asked, rule, lowestBroken};
@@ -37,7 +37,7 @@ enum Demand {
 }
 
 fn zone_there(o: Opened, s: &[u8], index: usize) -> bool
-    ensures { λ r. ⌜ r ≡ answered (zoneAt o (now (s .entry)) index) ⌝ }
+    ensures { λ r. ⌜ r ≡ answered (tzAt o (now (s .entry)) index) ⌝ }
 {
     let t = reader_records::tz_at(o, s, index);
     match t {
@@ -143,7 +143,7 @@ fn poly_holds(o: Opened, s: &[u8], index: usize) -> bool
 }
 
 fn zone_holds(o: Opened, s: &[u8], index: usize) -> bool
-    ensures { λ r. ⌜ r ≡ holds (zoneCovers o (now (s .entry))) (zoneAt o (now (s .entry)) index) ⌝ }
+    ensures { λ r. ⌜ r ≡ holds (zoneCovers o (now (s .entry))) (tzAt o (now (s .entry)) index) ⌝ }
 {
     let t = reader_records::tz_at(o, s, index);
     match t {

@@ -10,7 +10,7 @@ use Rattle.plane.specs.Segment.{seg}
 use Rattle.plane.specs.Domain.{inDomain}
 use Rattle.answer.specs.Answers.{ok}
 use Rattle.shapes.specs.Shapes.{zoneIn}
-use Rattle.shapes.specs.Layout.{Named, Covered, Domain, zoneShape}
+use Rattle.shapes.specs.Layout.{Named, Covered, Domain, zoneAt}
 use Rattle.shapes.proofs.File.{float-file-exact, file-elsewhere}
 use Rattle.opened.specs.declared.Opened.{Opened}
 use Rattle.reader_zones.specs.Zones.{zoneOf, containsAt}
@@ -54,17 +54,17 @@ module _ (o : Opened) (s : List ℕ) (k : Sound o s) where
     there = h
 
     -- the walk itself, at a point of the domain made floats
-    pub walk-exact : inDomain q ≡ true → zoneOf o s (pointOf q) i ≡ ok (zoneIn (seg q) (zoneShape (directories o s) i))
+    pub walk-exact : inDomain q ≡ true → zoneOf o s (pointOf q) i ≡ ok (zoneIn (seg q) (zoneAt (directories o s) i))
     walk-exact e = zone-walk o s k (pointOf q) i h ∙ ap ok (float-file-exact (directories o s) sound-named c sound-domain q e i there)
 
-    elsewhere : inDomain q ≡ false → ok false ≡ ok (zoneIn (seg q) (zoneShape (directories o s) i))
+    elsewhere : inDomain q ≡ false → ok false ≡ ok (zoneIn (seg q) (zoneAt (directories o s) i))
     elsewhere e = ap ok (sym (file-elsewhere (directories o s) sound-named c sound-domain q e i there))
 
     -- and the question of scanners, at any point
-    pub contains-exact : containsAt o s i q ≡ ok (zoneIn (seg q) (zoneShape (directories o s) i))
+    pub contains-exact : containsAt o s i q ≡ ok (zoneIn (seg q) (zoneAt (directories o s) i))
     unfolding containsAt
     contains-exact = rw (lt-ltb i (o .zones .count) h) (either (inDomain q) refl)
       where
-        either : (b : Bool) → inDomain q ≡ b → cond b (zoneOf o s (pointOf q) i) (ok false) ≡ ok (zoneIn (seg q) (zoneShape (directories o s) i))
+        either : (b : Bool) → inDomain q ≡ b → cond b (zoneOf o s (pointOf q) i) (ok false) ≡ ok (zoneIn (seg q) (zoneAt (directories o s) i))
         either true e = walk-exact e
         either false e = elsewhere e

@@ -12,7 +12,7 @@ use Rattle.fields.specs.Le.{le}
 use Rattle.boxes.specs.Box.{boxInDomain}
 use Rattle.shapes.specs.Layout.{Span, Names}
 use Rattle.opened.specs.declared.Opened.{Opened}
-use Rattle.reader_records.specs.Records.{recordAt, ruled, listIn, listRule, listAt, zoneAt, polyAt, ringIn, ringRule, ringAt, opRule, opAt, groupIn, groupRule, groupAt, fitsBelow}
+use Rattle.reader_records.specs.Records.{recordAt, ruled, listIn, listRule, listAt, polyAt, ringIn, ringRule, ringAt, opRule, opAt, groupIn, groupRule, groupAt, fitsBelow, tzAt}
 use Rattle.opened.specs.Widths.{listWide, ringWide, opWide, groupWide}
 use Rattle.reader_exact.specs.Directories.{noList, noRing, noGroup, listSpan, ringSpan, groupSpan, zoneRecord, polyRecord, ringRecord, opWord, opGroup, groupRecord}
 use Rattle.reader_exact.specs.Sound.{Sound}
@@ -51,9 +51,9 @@ is-ruled t below h =
 module _ (o : Opened) (s : List ℕ) (k : Sound o s) (i : ℕ) where
   -- ---- zones
   module _ (h : i < o .zones .count) where
-    pub zone-is : ok (zoneRecord o s i) ≡ zoneAt o s i
+    pub zone-is : ok (zoneRecord o s i) ≡ tzAt o s i
     unfolding zoneRecord
-    zone-is = given-value noList (zoneAt o s i) (k .zone-given i h)
+    zone-is = given-value noList (tzAt o s i) (k .zone-given i h)
 
     pub zone-ruled : Ruled (listSpan (zoneRecord o s i)) (o .polys .count)
     unfolding listAt listRule

@@ -11,7 +11,7 @@ use Rattle.plane.specs.Runs.{run}
 use Rattle.answer.specs.Answers.{Answer, ok, _then_}
 use Rattle.boxes.specs.Box.{contains}
 use Rattle.shapes.specs.Walk.{floatTests, ringWalk, polygonWalk, zoneWalk}
-use Rattle.shapes.specs.Layout.{ringAt, polygonAt, zoneShape}
+use Rattle.shapes.specs.Layout.{ringAt, polygonAt, zoneAt}
 use Rattle.opened.specs.declared.Opened.{Opened}
 use Rattle.reader_rings.specs.Rings.{ringContains}
 use Rattle.reader_zones.specs.Zones.{polyOf, zoneOf, firstSo}
@@ -65,8 +65,8 @@ module _ (o : Opened) (s : List ℕ) (k : Sound o s) (p : Point) where
         either false = refl
 
   -- ---- a zone
-  pub zone-walk : (i : ℕ) → i < o .zones .count → zoneOf o s p i ≡ ok (zoneWalk (floatTests p) (zoneShape (directories o s) i))
-  unfolding zoneOf zoneWalk zoneShape directories
+  pub zone-walk : (i : ℕ) → i < o .zones .count → zoneOf o s p i ≡ ok (zoneWalk (floatTests p) (zoneAt (directories o s) i))
+  unfolding zoneOf zoneWalk zoneAt directories
   zone-walk i h = rw (← zone-is o s k i h) (either (contains (zoneRecord o s i .bbox) p))
     where
       inSome : Bool

@@ -13,7 +13,7 @@ use Rattle.opened.specs.declared.Opened.{Opened}
 use Rattle.reader_records.specs.declared.ListRecord.{ListRecord}
 use Rattle.reader_records.specs.declared.RingRecord.{RingRecord}
 use Rattle.reader_records.specs.declared.GroupRecord.{GroupRecord}
-use Rattle.reader_records.specs.Records.{zoneAt, polyAt, ringAt, groupIndex, turnsRound, opAt, groupAt, chunkAt}
+use Rattle.reader_records.specs.Records.{polyAt, ringAt, groupIndex, turnsRound, opAt, groupAt, chunkAt, tzAt}
 use Rattle.reader_chunks.specs.Chunks.{chunkPoints}
 
 -- ---- what stands in
@@ -50,7 +50,7 @@ groupSpan v = record { box = v .bbox; first = v .first; count = v .count }
 module _ (o : Opened) (s : List ℕ) where
   -- ---- each record, by index
   unfoldable pub zoneRecord : ℕ → ListRecord
-  zoneRecord i = valueOr noList (zoneAt o s i)
+  zoneRecord i = valueOr noList (tzAt o s i)
 
   unfoldable pub polyRecord : ℕ → ListRecord
   polyRecord i = valueOr noList (polyAt o s i)

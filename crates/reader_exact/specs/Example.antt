@@ -25,7 +25,7 @@ use Rattle.varints.specs.Varint.{numberAt, digits}
 use Rattle.chunks.specs.Points as Points
 use Rattle.chunks.specs.Decode.{pointsOf}
 use Rattle.shapes.specs.Example.{zone, Row, rows}
-use Rattle.shapes.specs.Layout.{groupAt, legAt, ringAt, polygonAt, zoneShape}
+use Rattle.shapes.specs.Layout.{groupAt, legAt, ringAt, polygonAt, zoneAt}
 use Rattle.opened.specs.declared.Opened.{Opened}
 use Rattle.reader_records.specs.Records as Records
 use Rattle.reader_chunks.specs.Chunks.{startOf, endOf, span, bytesOf, chunkPoints, firstIn, scanIn}
@@ -91,8 +91,8 @@ opened =
       grid = record { off = 0; lng = pos 0; lat = pos 0; cols = 0; rows = 0; total = 0 };
     }
 
-pub made : zoneShape (directories opened bytes) 0 ≡ zone
-unfolding directories zoneRecord polyRecord ringRecord opWord groupRecord chunkShape zoneShape polygonAt ringAt legAt groupAt run Records.listAt Records.ringAt Records.opAt Records.groupAt Records.chunkAt Records.ruled Records.recordAt Records.listIn Records.listRule Records.ringIn Records.ringRule Records.opRule Records.groupIn Records.groupRule Records.chunkIn Records.chunkRule Records.boxIn Records.pointIn Records.fitsBelow Loads.inside le ordered boxInDomain inDomain chunkPoints bytesOf endOf span startOf pointsOf pointsFrom walkOf along Points.firstOf Points.nextAt Points.numbersAt Points.movedBy Points.mustLie addDelta fits32 numberAt digits
+pub made : zoneAt (directories opened bytes) 0 ≡ zone
+unfolding directories zoneRecord polyRecord ringRecord opWord groupRecord chunkShape zoneAt polygonAt ringAt legAt groupAt run Records.listAt Records.ringAt Records.opAt Records.groupAt Records.chunkAt Records.ruled Records.recordAt Records.listIn Records.listRule Records.ringIn Records.ringRule Records.opRule Records.groupIn Records.groupRule Records.chunkIn Records.chunkRule Records.boxIn Records.pointIn Records.fitsBelow Loads.inside le ordered boxInDomain inDomain chunkPoints bytesOf endOf span startOf pointsOf pointsFrom walkOf along Points.firstOf Points.nextAt Points.numbersAt Points.movedBy Points.mustLie addDelta fits32 numberAt digits
 made = refl
 
 -- a row of the drawing is answered as drawn

@@ -6,14 +6,14 @@ use mathlib.Core.Bool.{true}
 use mathlib.Core.List.{List}
 use Rattle.answer.specs.Answers.{Given}
 use Rattle.opened.specs.declared.Opened.{Opened}
-use Rattle.reader_records.specs.Records.{zoneAt, polyAt, ringAt, opAt, groupAt, countRule}
+use Rattle.reader_records.specs.Records.{polyAt, ringAt, opAt, groupAt, countRule, tzAt}
 use Rattle.reader_chunks.specs.Chunks.{chunkPoints}
 use Rattle.reader_exact.specs.Directories.{ringRecord, opPoints}
 use Rattle.basics.specs.Total.{total}
 
 pub record Sound (o : Opened) (s : List ℕ) : Type 0 where
   -- "Every zone, polygon and ring meets the record rule, every ring op names a group"
-  pub zone-given : (i : ℕ) → i < o .zones .count → Given (zoneAt o s i)
+  pub zone-given : (i : ℕ) → i < o .zones .count → Given (tzAt o s i)
   pub poly-given : (i : ℕ) → i < o .polys .count → Given (polyAt o s i)
   pub ring-given : (i : ℕ) → i < o .rings .count → Given (ringAt o s i)
   pub op-given : (i : ℕ) → i < o .ops .count → Given (opAt o s i)

@@ -100,8 +100,8 @@ listRule below v = boxInDomain (v .bbox) && fitsBelow (v .first) (v .count) belo
 unfoldable pub listAt : List ℕ → Directory → ℕ → ℕ → Answer ListRecord
 listAt s d below i = ruled (recordAt s d listWide i) (listIn s) (listRule below) 34
 
-abbrev pub zoneAt : Opened → List ℕ → ℕ → Answer ListRecord
-zoneAt o s i = listAt s (o .zones) (o .polys .count) i
+abbrev pub tzAt : Opened → List ℕ → ℕ → Answer ListRecord
+tzAt o s i = listAt s (o .zones) (o .polys .count) i
 
 abbrev pub polyAt : Opened → List ℕ → ℕ → Answer ListRecord
 polyAt o s i = listAt s (o .polys) (o .rings .count) i

@@ -2,7 +2,7 @@
 ghost use mathlib.Core.Path.{_≡_};
 ghost use Prim.Native.Nat.{_+_, _≤_, _<_};
 ghost use lib.ListN.{length};
-ghost use Rattle.reader_records.specs.Records.{toldPlace, toldList, toldRing, toldOp, toldGroup, toldChunk, directory, recordAt, boxIn, pointIn, listIn, listRule, listAt, zoneAt, polyAt, ringIn, ringRule, ringAt, countRule, opRule, opAt, groupIn, groupRule, groupPlace, groupAt, chunkIn, chunkRule, chunkAt, fitsBelow};
+ghost use Rattle.reader_records.specs.Records.{toldPlace, toldList, toldRing, toldOp, toldGroup, toldChunk, directory, recordAt, boxIn, pointIn, listIn, listRule, listAt, polyAt, ringIn, ringRule, ringAt, countRule, opRule, opAt, groupIn, groupRule, groupPlace, groupAt, chunkIn, chunkRule, chunkAt, fitsBelow, tzAt};
 ghost use Rattle.opened.specs.Widths.{listWide, ringWide, groupWide, chunkWide};
 use answer::Refusal;
 use boxes::BBox;
@@ -151,7 +151,7 @@ pub fn list_at(s: &[u8], off: u32, count: u32, below: u32, index: usize) -> List
 }
 
 pub fn tz_at(o: Opened, s: &[u8], index: usize) -> ListAt
-    ensures { λ r. ⌜ toldList r ≡ zoneAt o (now (s .entry)) index ⌝ }
+    ensures { λ r. ⌜ toldList r ≡ tzAt o (now (s .entry)) index ⌝ }
 {
     list_at(s, o.zones.off, o.zones.count, o.polys.count, index)
 }

@@ -14,7 +14,7 @@ use Rattle.answer.specs.Answers.{Answer, ok, refused, no, _then_}
 use Rattle.boxes.specs.Box.{contains}
 use Rattle.opened.specs.declared.Opened.{Opened}
 use Rattle.reader_records.specs.declared.ListRecord.{ListRecord}
-use Rattle.reader_records.specs.Records.{zoneAt, polyAt}
+use Rattle.reader_records.specs.Records.{polyAt, tzAt}
 use Rattle.reader_rings.specs.Rings.{ringContains}
 use Rattle.plane.specs.Places.{pointOf}
 use Rattle.reader_zones.specs.Zones.{holesOut, polyInside, polyOf, zoneOf, containsAt, firstSo}
@@ -64,11 +64,11 @@ module _ (o : Opened) (s : List ℕ) (p : Point) (i : ℕ) where
     unfolding polyOf
     poly-in e = rw (← h, e)
 
-  pub zone-no : (r : Refusal) → refused r ≡ zoneAt o s i → refused r ≡ zoneOf o s p i
+  pub zone-no : (r : Refusal) → refused r ≡ tzAt o s i → refused r ≡ zoneOf o s p i
   unfolding zoneOf
   zone-no r h = rw (← h)
 
-  module _ (z : ListRecord) (h : ok z ≡ zoneAt o s i) where
+  module _ (z : ListRecord) (h : ok z ≡ tzAt o s i) where
     pub zone-out : contains (z .bbox) p ≡ false → ok false ≡ zoneOf o s p i
     unfolding zoneOf
     zone-out e = rw (← h, e)

@@ -11,7 +11,7 @@ use Rattle.answer.specs.Answers.{Answer, ok, _then_, need}
 use Rattle.boxes.specs.Box.{contains}
 use Rattle.opened.specs.declared.Opened.{Opened}
 use Rattle.reader_records.specs.declared.ListRecord.{ListRecord}
-use Rattle.reader_records.specs.Records.{zoneAt, polyAt}
+use Rattle.reader_records.specs.Records.{polyAt, tzAt}
 use Rattle.reader_rings.specs.Rings.{ringContains}
 use Rattle.plane.specs.Places.{pointOf}
 
@@ -32,7 +32,7 @@ unfoldable pub polyOf : Opened → List ℕ → Point → ℕ → Answer Bool
 polyOf o s p i = polyAt o s i then λ q. cond (contains (q .bbox) p) (polyInside o s p q) (ok false)
 
 unfoldable pub zoneOf : Opened → List ℕ → Point → ℕ → Answer Bool
-zoneOf o s p i = zoneAt o s i then λ z. cond (contains (z .bbox) p) (firstSo (polyOf o s p) true false (z .count) (z .first)) (ok false)
+zoneOf o s p i = tzAt o s i then λ z. cond (contains (z .bbox) p) (firstSo (polyOf o s p) true false (z .count) (z .first)) (ok false)
 
 -- Added for scanners: containment in one zone at a whole-number point, by the same walk with both numbers made floats. A zone number too large is 45, first of all; then a point outside the domain is no.
 unfoldable pub containsAt : Opened → List ℕ → ℕ → I32Point → Answer Bool

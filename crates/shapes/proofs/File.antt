@@ -13,7 +13,7 @@ use Rattle.plane.specs.Runs.{run}
 use Rattle.boxes.specs.Box.{boxInDomain}
 use Rattle.shapes.specs.Shapes.{groupChunks, zoneIn, chunkInDomain, groupInDomain, legInDomain, ringInDomain, polygonInDomain, zoneInDomain}
 use Rattle.shapes.specs.Walk.{floatTests, wholeTests, zoneWalk}
-use Rattle.shapes.specs.Layout.{Directories, groupAt, legAt, ringAt, polygonAt, Named, Covered, Domain, zoneShape}
+use Rattle.shapes.specs.Layout.{Directories, groupAt, legAt, ringAt, polygonAt, Named, Covered, Domain, zoneAt}
 use Rattle.shapes.proofs.Fits.{below, named, named-apart, zone-fits}
 use Rattle.shapes.proofs.Whole.{skips-are-exact}
 use Rattle.shapes.proofs.Elsewhere.{zone-elsewhere}
@@ -22,8 +22,8 @@ use Rattle.plane.specs.Places.{pointOf}
 
 module _ (d : Directories) (n : Named d) (c : Covered d) where
   -- in whole numbers, wherever the file lies
-  pub file-exact : (p : I32Point) (i : ℕ) → i < d .zones → zoneWalk (wholeTests p) (zoneShape d i) ≡ zoneIn (seg p) (zoneShape d i)
-  file-exact p i h = skips-are-exact p (zoneShape d i) (zone-fits d n c i h)
+  pub file-exact : (p : I32Point) (i : ℕ) → i < d .zones → zoneWalk (wholeTests p) (zoneAt d i) ≡ zoneIn (seg p) (zoneAt d i)
+  file-exact p i h = skips-are-exact p (zoneAt d i) (zone-fits d n c i h)
 
   -- ---- and lies in the domain
   module _ (m : Domain d) where
@@ -53,15 +53,15 @@ module _ (d : Directories) (n : Named d) (c : Covered d) where
         (m .polygon-in i h)
         (named-apart ringInDomain (ringAt d) (d .polygonSpan i) (n .polygon-names i h .some) (λ j a. ring-in j (below (d .polygonSpan i) (d .rings) j (n .polygon-names i h) a)))
 
-    pub zone-in : (i : ℕ) → i < d .zones → zoneInDomain (zoneShape d i) ≡ true
-    unfolding zoneInDomain zoneShape
+    pub zone-in : (i : ℕ) → i < d .zones → zoneInDomain (zoneAt d i) ≡ true
+    unfolding zoneInDomain zoneAt
     zone-in i h =
         and-i (boxInDomain (d .zoneSpan i .box)) (every polygonInDomain (run (polygonAt d) (d .zoneSpan i .count) (d .zoneSpan i .first)))
         (m .zone-in i h)
         (named polygonInDomain (polygonAt d) (d .zoneSpan i) (λ j a. polygon-in j (below (d .zoneSpan i) (d .polygons) j (n .zone-names i h) a)))
 
-    pub file-elsewhere : (p : I32Point) → inDomain p ≡ false → (i : ℕ) → i < d .zones → zoneIn (seg p) (zoneShape d i) ≡ false
-    file-elsewhere p e i h = zone-elsewhere p e (zoneShape d i) (zone-in i h) (zone-fits d n c i h)
+    pub file-elsewhere : (p : I32Point) → inDomain p ≡ false → (i : ℕ) → i < d .zones → zoneIn (seg p) (zoneAt d i) ≡ false
+    file-elsewhere p e i h = zone-elsewhere p e (zoneAt d i) (zone-in i h) (zone-fits d n c i h)
 
-    pub float-file-exact : (p : I32Point) → inDomain p ≡ true → (i : ℕ) → i < d .zones → zoneWalk (floatTests (pointOf p)) (zoneShape d i) ≡ zoneIn (seg p) (zoneShape d i)
-    float-file-exact p e i h = float-walk-exact p e (zoneShape d i) (zone-in i h) (zone-fits d n c i h)
+    pub float-file-exact : (p : I32Point) → inDomain p ≡ true → (i : ℕ) → i < d .zones → zoneWalk (floatTests (pointOf p)) (zoneAt d i) ≡ zoneIn (seg p) (zoneAt d i)
+    float-file-exact p e i h = float-walk-exact p e (zoneAt d i) (zone-in i h) (zone-fits d n c i h)

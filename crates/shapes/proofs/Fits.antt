@@ -9,7 +9,7 @@ use Rattle.basics.specs.Truth.{and-i}
 use Rattle.plane.specs.Lines.{every, every-append, firstOf, lastOf, last-append}
 use Rattle.plane.specs.Runs.{run, run-every}
 use Rattle.shapes.specs.Shapes.{Chunk, chunkPoints, points, groupChunks, groupPoints, inBox, covers, next, chunksFit, groupFits, legFits, ringFits, polygonFits, zoneFits}
-use Rattle.shapes.specs.Layout.{Span, Names, Among, Directories, groupAt, legAt, ringAt, polygonAt, Named, Covered, zoneShape}
+use Rattle.shapes.specs.Layout.{Span, Names, Among, Directories, groupAt, legAt, ringAt, polygonAt, Named, Covered, zoneAt}
 use Rattle.plane.specs.Segment.{samePoint}
 
 -- a place that a record names is inside the directory below
@@ -98,6 +98,6 @@ module _ (d : Directories) (n : Named d) (c : Covered d) where
       (c .zone-covers i j h m)
       (named-apart (ringFits (d .polygonSpan j .box)) (ringAt d) (d .polygonSpan j) (n .polygon-names j o .some) (λ k. ring-fits j k o))
 
-  pub zone-fits : (i : ℕ) → i < d .zones → zoneFits (zoneShape d i) ≡ true
-  unfolding zoneFits zoneShape
+  pub zone-fits : (i : ℕ) → i < d .zones → zoneFits (zoneAt d i) ≡ true
+  unfolding zoneFits zoneAt
   zone-fits i h = named (polygonFits (d .zoneSpan i .box)) (polygonAt d) (d .zoneSpan i) (λ j. polygon-fits i j h)

@@ -72,8 +72,8 @@ module _ (d : Directories) where
         holes = run ringAt (d .polygonSpan i .count - 1) (d .polygonSpan i .first + 1);
       }
 
-  unfoldable pub zoneShape : ℕ → Zone
-  zoneShape i = record { box = d .zoneSpan i .box; polygons = run polygonAt (d .zoneSpan i .count) (d .zoneSpan i .first) }
+  unfoldable pub zoneAt : ℕ → Zone
+  zoneAt i = record { box = d .zoneSpan i .box; polygons = run polygonAt (d .zoneSpan i .count) (d .zoneSpan i .first) }
 
   -- ---- what the record rule and F2 say of every entry: what it names is there
   pub record Named : Type 0 where
