@@ -1,5 +1,5 @@
 //! A bound of each export's stack, from the archive's machine code: of a function all that its pushes and subtractions take,
-//! each counted once, and of what it calls the greatest. No function calls itself, and none is called by a pointer.
+//! each counted once, and of what it calls the greatest, or what it keeps below its stack pointer without taking it. No function calls itself, and none is called by a pointer.
 //! Each counted once is enough: they are undone before they come again, as code has the same depth each time at the same place.
 
 use crate::port::exports::NAMES;
@@ -35,10 +35,11 @@ fn disassembled() -> Option<String> {
     })
 }
 
-/// What a function takes below its return address, and what it calls.
+/// What a function takes below its return address, what it keeps below that, and what it calls.
 #[derive(Debug, Default, PartialEq)]
 struct Function {
     own: usize,
+    below: usize,
     calls: Vec<String>,
 }
 
@@ -73,6 +74,9 @@ fn look(line: &str, function: &mut Function, probe: &mut Probe) -> Result<(), St
         let callee = what.strip_suffix("-0x4").ok_or(format!("a call of {what}"))?;
         function.calls.push(callee.strip_prefix(".text.").unwrap_or(callee).to_string());
         return Ok(());
+    }
+    if let Some((_, rest)) = what.split_once("[rsp-") {
+        function.below = function.below.max(number(rest.split([']', '+', '*']).next(), what)?);
     }
     let (word, operands) = what.split_once(char::is_whitespace).unwrap_or((what, ""));
     match (word, operands.trim()) {
@@ -123,7 +127,7 @@ fn need(
     }
     let function = functions.get(name).ok_or(format!("{name} is not in the archive"))?;
     above.push(name.to_string());
-    let mut most = 0;
+    let mut most = function.below;
     for callee in &function.calls {
         most = most.max(need(functions, callee, above)?);
     }
@@ -163,9 +167,18 @@ mod tests {
     #[test]
     fn frames_add_up_along_calls() {
         let functions = functions(SMALL).unwrap();
-        assert_eq!(functions["low"], Function { own: 24, calls: vec!["memset".to_string()] });
+        let calls = vec!["memset".to_string()];
+        assert_eq!(functions["low"], Function { own: 24, below: 0, calls });
         assert_eq!(need(&functions, "low", &mut Vec::new()), Ok(8 + 24 + 8));
         assert_eq!(need(&functions, "high", &mut Vec::new()), Ok(8 + 0x1_0008 + 40));
+    }
+
+    #[test]
+    fn what_is_kept_below_the_stack_pointer_counts() {
+        let kept = SMALL.replace("sub    rsp,0x10", "mov    QWORD PTR [rsp-0x18],rdi");
+        let functions = functions(&kept).unwrap();
+        assert_eq!(functions["low"].below, 24);
+        assert_eq!(need(&functions, "low", &mut Vec::new()), Ok(8 + 8 + 24));
     }
 
     #[test]
