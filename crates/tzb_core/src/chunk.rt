@@ -1,6 +1,6 @@
 // Chunk code: the points of one chunk's bytes, the scan of its segments, and the trace of a box. The bytes s are that chunk's own.
 ghost use mathlib.Core.Path.{_≡_};
-ghost use mathlib.Core.Bool.{true};
+ghost use mathlib.Core.Bool.{true, _||_};
 ghost use Prim.Native.Nat.{_+_, _*_, _≤_, _<_};
 ghost use mathlib.Core.List.{_∷_, _++_};
 ghost use lib.ListN.{length, set, take, drop};
@@ -15,7 +15,7 @@ ghost use Rattle.chunks.specs.Along.{along};
 ghost use Rattle.chunks.specs.Trace.{also, tracer, traceOf};
 ghost use Rattle.chunks.specs.Decode.{led, filled, decodeOf, decoded};
 ghost use Rattle.plane.specs.Places.{point};
-ghost use Rattle.tzb_core.specs.Steps.{moved, Around, aside};
+ghost use Rattle.tzb_core.specs.Steps.{moved, Around, bothBelow, bothAbove, aside};
 ghost use Rattle.tzb_core.specs.Reading.{spotted, scanned, toldTrace};
 ghost use Rattle.chunks.specs.Steps.{arrive, onward, pointsFrom, put, readFrom};
 use crate::delta;
@@ -171,6 +171,27 @@ fn band_at(y: f64) -> Band
     }
 }
 
+fn both_below(u: i32, v: i32, lo: i32) -> bool
+    ensures { λ r. ⌜ r ≡ bothBelow u v lo ⌝ }
+{
+    if u < lo { v < lo } else { false }
+}
+
+fn both_above(u: i32, v: i32, hi: i32) -> bool
+    ensures { λ r. ⌜ r ≡ bothAbove u v hi ⌝ }
+{
+    if hi < u { hi < v } else { false }
+}
+
+fn is_beyond(u: i32, v: i32, lo: i32, hi: i32) -> bool
+    ensures { λ r. ⌜ r ≡ (bothBelow u v lo || bothAbove u v hi) ⌝ }
+{
+    if both_below(u, v, lo) {
+        return true;
+    }
+    both_above(u, v, hi)
+}
+
 // The segment is not level, and lies below the point or above it: the ray test sees nothing of it.
 fn is_aside(b: Band, u: I32Point, v: I32Point) -> bool
     ensures { λ r. ⌜ r ≡ aside b u v ⌝ }
@@ -179,7 +200,7 @@ fn is_aside(b: Band, u: I32Point, v: I32Point) -> bool
     let vy = v.y;
     let lo = b.lo;
     let hi = b.hi;
-    if ((uy < lo) & (vy < lo)) | ((hi < uy) & (hi < vy)) {
+    if is_beyond(uy, vy, lo, hi) {
         return (uy < vy) | (vy < uy);
     }
     false

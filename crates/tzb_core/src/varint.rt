@@ -123,12 +123,8 @@ impl Place {
     {
         let d = varint_digits(s, self.at);
         match d {
-            Digits::Refused(k) => {
-                return Read::Refused(k);
-            }
-            Digits::Of(n, next) => {
-                return Read::Number(unzigzag(n), next);
-            }
+            Digits::Refused(k) => Read::Refused(k),
+            Digits::Of(n, next) => Read::Number(unzigzag(n), next),
         }
     }
 }

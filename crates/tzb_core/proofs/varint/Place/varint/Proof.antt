@@ -35,10 +35,4 @@ returns-2 c =
 pub varint-spec : {M : Type 1} → statement M
 varint-spec =
     tie.close
-    (tie.spec
-    varint-digits-requires
-    enum-known-d
-    returns
-    enum-known-d-2
-    unzigzag-requires
-    returns-2)
+    (tie.spec varint-digits-requires enum-known-d enum-known-d-2 unzigzag-requires returns returns-2)
