@@ -90,21 +90,18 @@ fn point_after(q: I32Point, x: i32, y: i32) -> Moved
 {
     let a = delta::add_delta(q.x, x);
     match a {
-        Sum::Refused(k) => {
-            return Moved::Refused(k);
-        }
+        Sum::Refused(k) => Moved::Refused(k),
         Sum::Of(u) => {
             let b = delta::add_delta(q.y, y);
             match b {
-                Sum::Refused(k) => {
-                    return Moved::Refused(k);
-                }
+                Sum::Refused(k) => Moved::Refused(k),
                 Sum::Of(v) => {
                     let t = I32Point { x: u, y: v };
                     if boxes::point_in_domain(t) {
-                        return Moved::To(t);
+                        Moved::To(t)
+                    } else {
+                        Moved::Refused(answer::refuse(42))
                     }
-                    return Moved::Refused(answer::refuse(42));
                 }
             }
         }

@@ -75,13 +75,13 @@ point-after-spec =
     (tie.spec
     add-delta-requires
     enum-known-a
-    returns
     enum-known-a-2
     add-delta-requires-2
     enum-known-b
-    returns-2
     enum-known-b-2
     point-in-domain-requires
-    returns-3
     refuse-requires
+    returns
+    returns-2
+    returns-3
     returns-4)
