@@ -34,14 +34,18 @@ module _ (s : List ℕ) where
   unfolding firstOf
   first-no r e = rw (← e)
 
-  module _ (q : I32Point) (p : ℕ) (e : ok (q, p) ≡ numbersAt s 0) where
-    pub first-out : inDomain q ≡ false → no 42 ≡ firstOf s
-    unfolding firstOf mustLie
-    first-out h = rw (← e, h)
+  pub first-at : (q : I32Point) (p : ℕ) → ok (q, p) ≡ numbersAt s 0 → mustLie q p ≡ firstOf s
+  unfolding firstOf
+  first-at q p e = rw (← e)
 
-    pub first-in : inDomain q ≡ true → ok (q, p) ≡ firstOf s
-    unfolding firstOf mustLie
-    first-in h = rw (← e, h)
+module _ (q : I32Point) (p : ℕ) where
+  pub lie-out : inDomain q ≡ false → no 42 ≡ mustLie q p
+  unfolding mustLie
+  lie-out h = rw h
+
+  pub lie-in : inDomain q ≡ true → ok (q, p) ≡ mustLie q p
+  unfolding mustLie
+  lie-in h = rw h
 
 module _ (q : I32Point) (x y : ℤ) where
   pub arrive-x : (r : Refusal) → refused r ≡ addDelta (q .x) x → refused r ≡ arrive q (point x y)

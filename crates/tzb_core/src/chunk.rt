@@ -8,7 +8,7 @@ ghost use Rattle.answer.specs.Answers.{checkedTold, outcome};
 ghost use Rattle.plane.specs.Sight.{seenTold};
 ghost use Rattle.plane.specs.Domain.{inDomain};
 ghost use Rattle.boxes.specs.Box.{inBox};
-ghost use Rattle.chunks.specs.Points.{numbersAt, firstOf, nextAt};
+ghost use Rattle.chunks.specs.Points.{numbersAt, mustLie, firstOf, nextAt};
 ghost use Rattle.rays.specs.Ray.{rayOf};
 ghost use Rattle.chunks.specs.Scan.{scanOf};
 ghost use Rattle.chunks.specs.Along.{along};
@@ -108,21 +108,25 @@ fn point_after(q: I32Point, x: i32, y: i32) -> Moved
     }
 }
 
+// A point that must lie in the domain.
+fn inside_at(q: I32Point, n: Place) -> Spotted
+    ensures { λ r. ⌜ spotted r ≡ mustLie q (n .at) ⌝ }
+{
+    if boxes::point_in_domain(q) {
+        Spotted::At(q, n)
+    } else {
+        Spotted::Refused(answer::refuse(42))
+    }
+}
+
 // The first point of a chunk, read alone.
 pub fn first_point(s: &[u8]) -> Spotted
     ensures { λ r. ⌜ spotted r ≡ firstOf (now (s .entry)) ⌝ }
 {
     let t = numbers(s, Place { at: 0 });
     match t {
-        Spotted::Refused(k) => {
-            return Spotted::Refused(k);
-        }
-        Spotted::At(q, n) => {
-            if boxes::point_in_domain(q) {
-                return Spotted::At(q, n);
-            }
-            return Spotted::Refused(answer::refuse(42));
-        }
+        Spotted::Refused(k) => Spotted::Refused(k),
+        Spotted::At(q, n) => inside_at(q, n),
     }
 }
 
@@ -279,12 +283,8 @@ pub fn scan_chunk(s: &[u8], count: u16, p: Point) -> Scan
     }
     let f = first_point(s);
     match f {
-        Spotted::Refused(k) => {
-            return Scan::Refused(k);
-        }
-        Spotted::At(q, n) => {
-            return scan_from(s, p, count - 1, q, n);
-        }
+        Spotted::Refused(k) => Scan::Refused(k),
+        Spotted::At(q, n) => scan_from(s, p, count - 1, q, n),
     }
 }
 

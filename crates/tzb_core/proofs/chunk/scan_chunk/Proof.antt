@@ -49,8 +49,8 @@ scan-chunk-spec =
     returns
     first-point-requires
     enum-known-f
-    returns-2
     enum-known-f-2
     sub-scan-from
     scan-from-requires
+    returns-2
     returns-3)
