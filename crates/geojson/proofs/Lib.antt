@@ -1,0 +1,2 @@
+-- The laws of the text and of reading it.
+pub mod OverLaws
