@@ -1,2 +1,3 @@
 -- The laws of the text and of reading it.
 pub mod OverLaws
+pub mod Back

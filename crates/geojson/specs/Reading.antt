@@ -76,6 +76,11 @@ readPosition s =
     onto (λ v. some (point (x .0) (y .0), v))))))
 
 -- ---- arrays of what a reader reads
+-- an element in front of the others
+abbrev pub inFront : {A : Type 0} → A → Option (List A × List ℕ) → Option (List A × List ℕ)
+inFront a none = none
+inFront a (some r) = some (a ∷ r .0, r .1)
+
 module _ {A : Type 0} (read : Reader A) where
   -- behind an element, at most n others
   unfoldable pub readOthers : ℕ → Reader (List A)
@@ -83,10 +88,10 @@ module _ {A : Type 0} (read : Reader A) where
   readOthers (suc n) [] = none
   readOthers (suc n) (b ∷ s) =
       cond (eqb b 93) (some ([], s))
-      (cond (eqb b 44) (read s onto λ a. readOthers n (a .1) onto λ r. some (a .0 ∷ r .0, r .1)) none)
+      (cond (eqb b 44) (read s onto λ a. inFront (a .0) (readOthers n (a .1))) none)
 
   unfoldable pub readElements : Reader (List A)
-  readElements s = read s onto λ a. readOthers (length (a .1)) (a .1) onto λ r. some (a .0 ∷ r .0, r .1)
+  readElements s = read s onto λ a. inFront (a .0) (readOthers (length (a .1)) (a .1))
 
   -- "]" at once, or elements
   unfoldable pub readInside : Option (List ℕ) → Reader (List A)
