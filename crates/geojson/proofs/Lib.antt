@@ -1,3 +1,4 @@
 -- The laws of the text and of reading it.
 pub mod OverLaws
 pub mod Back
+pub mod Lengths

@@ -1,0 +1,100 @@
+use native.Mathlib.Omega.{arith}
+use borrow.Author.Needs.{needs}
+use Prim.Native.Nat.{ℕ, _<_}
+use borrow.Fn.Kinds.{In}
+use borrow.Fn.PlainCycle.{Measures, is, falls, and}
+use Rattle.geojson.proofs.digits.Reads as digits
+use Rattle.geojson.proofs.digits.Kinds as digits-kinds
+use Rattle.geojson.proofs.+digits.Lts-digits as digits-lts
+use Rattle.geojson.proofs.digit.Reads as digit-reads
+use Rattle.geojson.proofs.+digits.{statement}
+use Rattle.geojson.proofs.+digits.Tie.{close}
+
+abbrev μ-digits : Measures 1 digits-kinds.ps ℕ
+μ-digits κs a = ?
+
+abbrev digits-at : ℕ → In 1 digits-kinds.ps
+digits-at t = and 1 digits-kinds.ps (is 1 digits-kinds.ps μ-digits t) digits.Pre
+
+abbrev digits-below : ℕ → In 1 digits-kinds.ps
+digits-below t = and 1 digits-kinds.ps (falls 1 digits-kinds.ps _<_ μ-digits t) digits.Pre
+
+-- src/lib.rt:38:9
+digits-digit-requires : (t : ℕ) → digits-lts.Need-digit-requires (
+  digit-reads.Asked,
+  digit-reads.Learnt,
+  digits-below t,
+  digits.Post,
+) (digits-at t) digits.Post
+digits-digit-requires t c κs = ?
+
+-- src/lib.rt:38:9
+digits-same-length : (t : ℕ) → digits-lts.Need-same-length (
+  digit-reads.Asked,
+  digit-reads.Learnt,
+  digits-below t,
+  digits.Post,
+) (digits-at t) digits.Post
+digits-same-length t c = ?
+
+-- src/lib.rt:38:9
+digits-returns : (t : ℕ) → digits-lts.Need-returns (
+  digit-reads.Asked,
+  digit-reads.Learnt,
+  digits-below t,
+  digits.Post,
+) (digits-at t) digits.Post
+digits-returns t c = ?
+
+-- src/lib.rt:40:9
+digits-digits-requires : (t : ℕ) → digits-lts.Need-digits-requires (
+  digit-reads.Asked,
+  digit-reads.Learnt,
+  digits-below t,
+  digits.Post,
+) (digits-at t) digits.Post
+digits-digits-requires t c κs = ?
+
+-- src/lib.rt:41:5
+digits-digit-requires-2 : (t : ℕ) → digits-lts.Need-digit-requires-2 (
+  digit-reads.Asked,
+  digit-reads.Learnt,
+  digits-below t,
+  digits.Post,
+) (digits-at t) digits.Post
+digits-digit-requires-2 t c κs = ?
+
+-- src/lib.rt:33:1
+digits-same-length-2 : (t : ℕ) → digits-lts.Need-same-length-2 (
+  digit-reads.Asked,
+  digit-reads.Learnt,
+  digits-below t,
+  digits.Post,
+) (digits-at t) digits.Post
+digits-same-length-2 t c = ?
+
+-- src/lib.rt:33:1
+digits-returns-2 : (t : ℕ) → digits-lts.Need-returns-2 (
+  digit-reads.Asked,
+  digit-reads.Learnt,
+  digits-below t,
+  digits.Post,
+) (digits-at t) digits.Post
+digits-returns-2 t c = ?
+
+pub +digits-spec : {M : Type 1} → statement M
++digits-spec = close μ-digits λ t. digits-lts.spec (
+  digit-reads.Asked,
+  digit-reads.Learnt,
+  digits-below t,
+  digits.Post,
+)
+    (digits-at t)
+    digits.Post
+    (digits-digit-requires t)
+    (digits-same-length t)
+    (digits-returns t)
+    (digits-digits-requires t)
+    (digits-digit-requires-2 t)
+    (digits-same-length-2 t)
+    (digits-returns-2 t)
