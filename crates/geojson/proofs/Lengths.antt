@@ -54,7 +54,7 @@ unit-positive zero = omega arith
 unit-positive (suc k) = omega (arith, unit-positive k)
 
 -- from how many on a number has k digits more than one
-abbrev low : ℕ → ℕ
+abbrev pub low : ℕ → ℕ
 low zero = 0
 low (suc k) = unit (suc k)
 
@@ -112,6 +112,9 @@ size-length n =
       length-append (digits (n / 100_000) ++ ascii ".") (places 5 (n % 100_000)),
       length-append (digits (n / 100_000)) (ascii "."),
       places-length 5 (n % 100_000))
+
+pub long-is : (k n : ℕ) → low k ≤ n / 100_000 → n / 100_000 < unit (suc k) → suc k + 6 ≡ length (hundredThousandths n)
+long-is k n l u = ap (λ (m : ℕ). m + 6) (sym (digits-length k (n / 100_000) l u)) ∙ sym (size-length n)
 
 pub size-most : (n : ℕ) → n ≤ 2_147_483_648 → length (hundredThousandths n) ≤ 11
 size-most n h = omega (arith, size-length n, digits-most 4 (n / 100_000) (omega arith))

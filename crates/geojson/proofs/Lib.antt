@@ -2,3 +2,4 @@
 pub mod OverLaws
 pub mod Back
 pub mod Lengths
+pub mod Signs

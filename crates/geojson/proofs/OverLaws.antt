@@ -5,7 +5,9 @@ use native.Mathlib.Nat.{not-suc-le-zero}
 use native.Mathlib.Omega.{arith}
 use mathlib.Core.Path.{_≡_, refl, sym, ap, ap₂, _∙_}
 use mathlib.Core.List.{List, [], _∷_, _++_}
-use lib.ListN.{length, drop, set, length-append}
+use native.Mathlib.Numerals.{add-one}
+use lib.ListN.{length, take, drop, getD, set, length-append}
+use lib.Seq.{length-take-le, take-suc, take-all}
 use Rattle.geojson.specs.Over.{over}
 
 pub over-none : {A : Type 0} (s : List A) (p : ℕ) → over s p [] ≡ s
@@ -64,6 +66,9 @@ pub record Written (s : List ℕ) (p : ℕ) (a : List ℕ) (q : ℕ) (after : Li
   pub next : q ≡ p + length a
   pub is : after ≡ over s p a
 
+pub wrote : {s : List ℕ} {p : ℕ} {a : List ℕ} {q : ℕ} {after : List ℕ} → q ≡ p + length a → after ≡ over s p a → Written s p a q after
+wrote e f = record { next = e; is = f }
+
 infixl 20 _behind_
 pub _behind_ : {s : List ℕ} {p : ℕ} {a : List ℕ} {q : ℕ} {mid b : List ℕ} {r : ℕ} {after : List ℕ}
     → Written s p a q mid → Written mid q b r after → Written s p (a ++ b) r after
@@ -72,3 +77,16 @@ _behind_ {s} {p} {a} {q} {mid} {b} {r} {after} f g =
       next = omega (arith, length-append a b, f .next, g .next);
       is = g .is ∙ ap (λ (m : List ℕ). over m q b) (f .is) ∙ over-at s p q a b (f .next);
     }
+
+-- ---- a text laid byte by byte
+pub next-laid : (s : List ℕ) (p i : ℕ) (t out after : List ℕ) → i < length t → out ≡ over s p (take i t) → after ≡ over out (p + i) (getD t i 0 ∷ [])
+    → after ≡ over s p (take (i + 1) t)
+next-laid s p i t out after h e f =
+    let long = length-take-le i t (omega arith) in
+    let here : p + i ≡ p + length (take i t) = omega arith in
+    f ∙ ap (λ (m : List ℕ). over m (p + i) (getD t i 0 ∷ [])) e
+    ∙ over-at s p (p + i) (take i t) (getD t i 0 ∷ []) here
+    ∙ ap (over s p) (sym (take-suc t i 0 h) ∙ ap (λ (k : ℕ). take k t) (sym (add-one i)))
+
+pub all-laid : (s : List ℕ) (p i : ℕ) (t out : List ℕ) → length t ≤ i → out ≡ over s p (take i t) → out ≡ over s p t
+all-laid s p i t out h e = e ∙ ap (over s p) (take-all i t h)

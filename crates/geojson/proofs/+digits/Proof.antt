@@ -1,6 +1,14 @@
+-- `geojson::digits` meets its contract: the digits of a tenth, and the last one behind them. The measure is the number.
+-- Assumes nothing.
 use native.Mathlib.Omega.{arith}
+use mathlib.Core.Path.{ap, ap₂, _∙_}
+use mathlib.Core.List.{List}
 use borrow.Author.Needs.{needs}
-use Prim.Native.Nat.{ℕ, _<_}
+use Prim.Native.Nat.{ℕ, _+_, _/_, _<_}
+use lib.ListN.{length}
+use Rattle.geojson.specs.Over.{over}
+use Rattle.geojson.proofs.OverLaws.{wrote, _behind_}
+use Rattle.geojson.proofs.Lengths.{digits-one, digits-more, digits-most}
 use borrow.Fn.Kinds.{In}
 use borrow.Fn.PlainCycle.{Measures, is, falls, and}
 use Rattle.geojson.proofs.digits.Reads as digits
@@ -11,7 +19,7 @@ use Rattle.geojson.proofs.+digits.{statement}
 use Rattle.geojson.proofs.+digits.Tie.{close}
 
 abbrev μ-digits : Measures 1 digits-kinds.ps ℕ
-μ-digits κs a = ?
+μ-digits κs a = a .1 .1 .0
 
 abbrev digits-at : ℕ → In 1 digits-kinds.ps
 digits-at t = and 1 digits-kinds.ps (is 1 digits-kinds.ps μ-digits t) digits.Pre
@@ -19,68 +27,66 @@ digits-at t = and 1 digits-kinds.ps (is 1 digits-kinds.ps μ-digits t) digits.Pr
 abbrev digits-below : ℕ → In 1 digits-kinds.ps
 digits-below t = and 1 digits-kinds.ps (falls 1 digits-kinds.ps _<_ μ-digits t) digits.Pre
 
--- src/lib.rt:38:9
 digits-digit-requires : (t : ℕ) → digits-lts.Need-digit-requires (
   digit-reads.Asked,
   digit-reads.Learnt,
   digits-below t,
   digits.Post,
 ) (digits-at t) digits.Post
-digits-digit-requires t c κs = ?
+digits-digit-requires t c κs = search needs
 
--- src/lib.rt:38:9
 digits-same-length : (t : ℕ) → digits-lts.Need-same-length (
   digit-reads.Asked,
   digit-reads.Learnt,
   digits-below t,
   digits.Post,
 ) (digits-at t) digits.Post
-digits-same-length t c = ?
+digits-same-length t c = search needs
 
--- src/lib.rt:38:9
 digits-returns : (t : ℕ) → digits-lts.Need-returns (
   digit-reads.Asked,
   digit-reads.Learnt,
   digits-below t,
   digits.Post,
 ) (digits-at t) digits.Post
-digits-returns t c = ?
+digits-returns t c =
+    let e = digits-one _ (c .before .before .before .before .if1 .taken) in
+    (c .before .before .digit .ensures .0 ∙ ap (λ (l : List ℕ). _ + length l) e, c .before .before .digit .ensures .1 ∙ ap (over _ _) e)
 
--- src/lib.rt:40:9
 digits-digits-requires : (t : ℕ) → digits-lts.Need-digits-requires (
   digit-reads.Asked,
   digit-reads.Learnt,
   digits-below t,
   digits.Post,
 ) (digits-at t) digits.Post
-digits-digits-requires t c κs = ?
+digits-digits-requires t c κs = search needs
 
--- src/lib.rt:41:5
 digits-digit-requires-2 : (t : ℕ) → digits-lts.Need-digit-requires-2 (
   digit-reads.Asked,
   digit-reads.Learnt,
   digits-below t,
   digits.Post,
 ) (digits-at t) digits.Post
-digits-digit-requires-2 t c κs = ?
+digits-digit-requires-2 t c κs = let n = c .before .before .before .before .before .before .before .args .n in omega (arith, digits-most 9 (n / 10) (omega arith))
 
--- src/lib.rt:33:1
 digits-same-length-2 : (t : ℕ) → digits-lts.Need-same-length-2 (
   digit-reads.Asked,
   digit-reads.Learnt,
   digits-below t,
   digits.Post,
 ) (digits-at t) digits.Post
-digits-same-length-2 t c = ?
+digits-same-length-2 t c = search needs
 
--- src/lib.rt:33:1
 digits-returns-2 : (t : ℕ) → digits-lts.Need-returns-2 (
   digit-reads.Asked,
   digit-reads.Learnt,
   digits-below t,
   digits.Post,
 ) (digits-at t) digits.Post
-digits-returns-2 t c = ?
+digits-returns-2 t c =
+    let e = digits-more _ (c .before .before .before .before .before .before .before .before .if1 .left) in
+    let w = wrote (c .before .before .before .before .before .before .digits .ensures .0) (c .before .before .before .before .before .before .digits .ensures .1) behind wrote (c .before .before .digit2 .ensures .0) (c .before .before .digit2 .ensures .1) in
+    (w .next ∙ ap (λ (l : List ℕ). _ + length l) e, w .is ∙ ap (over _ _) e)
 
 pub +digits-spec : {M : Type 1} → statement M
 +digits-spec = close μ-digits λ t. digits-lts.spec (

@@ -1,38 +1,39 @@
-use native.Mathlib.Omega.{arith}
+-- `geojson::five_places` meets its contract: five digits, each behind the one before it.
+-- Assumes nothing.
+use mathlib.Core.Path.{ap, _∙_}
 use borrow.Author.Needs.{needs}
+use Rattle.geojson.specs.Over.{over}
+use Rattle.geojson.proofs.OverLaws.{wrote, _behind_}
+use Rattle.geojson.proofs.Lengths.{five}
 use Rattle.geojson.proofs.five_places.Statement.{statement}
 use Rattle.geojson.proofs.five_places.Tie as tie
-use Rattle.geojson.proofs.five_places.Reads as reads
-use Rattle.geojson.proofs.five_places.Lts as lts
-use Rattle.geojson.proofs.digit.Reads as digit-reads
 
--- src/lib.rt:48:9
 digit-requires : tie.Need-digit-requires
 digit-requires c κs = search needs
 
--- src/lib.rt:49:9
 digit-requires-2 : tie.Need-digit-requires-2
 digit-requires-2 c κs = search needs
 
--- src/lib.rt:50:9
 digit-requires-3 : tie.Need-digit-requires-3
 digit-requires-3 c κs = search needs
 
--- src/lib.rt:51:9
 digit-requires-4 : tie.Need-digit-requires-4
 digit-requires-4 c κs = search needs
 
--- src/lib.rt:52:5
 digit-requires-5 : tie.Need-digit-requires-5
 digit-requires-5 c κs = search needs
 
--- src/lib.rt:44:1
 same-length : tie.Need-same-length
 same-length c = search needs
 
--- src/lib.rt:44:1
 returns : tie.Need-returns
-returns c = search needs
+returns c =
+    let w = wrote (c .before .before .before .before .before .before .before .before .before .before .before .before .before .before .before .before .before .before .digit .ensures .0) (c .before .before .before .before .before .before .before .before .before .before .before .before .before .before .before .before .before .before .digit .ensures .1)
+        behind wrote (c .before .before .before .before .before .before .before .before .before .before .before .before .before .before .digit2 .ensures .0) (c .before .before .before .before .before .before .before .before .before .before .before .before .before .before .digit2 .ensures .1)
+        behind wrote (c .before .before .before .before .before .before .before .before .before .before .digit3 .ensures .0) (c .before .before .before .before .before .before .before .before .before .before .digit3 .ensures .1)
+        behind wrote (c .before .before .before .before .before .before .digit4 .ensures .0) (c .before .before .before .before .before .before .digit4 .ensures .1)
+        behind wrote (c .before .before .digit5 .ensures .0) (c .before .before .digit5 .ensures .1) in
+    (w .next, w .is ∙ ap (over _ _) (five _))
 
 pub five-places-spec : {M : Type 1} → statement M
 five-places-spec =

@@ -1,56 +1,55 @@
+-- `geojson::lay` meets its contract: the first i bytes stand.
+-- Assumes nothing.
 use native.Mathlib.Omega.{arith}
+use Prim.Native.Nat.{_-_, _≤_}
+use mathlib.Core.Path.{_≡_, refl, sym, _∙_}
+use lib.ListN.{length, take}
 use borrow.Author.Needs.{needs}
+use Rattle.geojson.specs.Over.{over}
+use Rattle.geojson.proofs.OverLaws.{over-none, next-laid, all-laid}
 use Rattle.geojson.proofs.lay.Statement.{statement}
 use Rattle.geojson.proofs.lay.Tie as tie
-use Rattle.geojson.proofs.lay.Reads as reads
-use Rattle.geojson.proofs.lay.Lts as lts
-use Rattle.geojson.proofs.put.Reads as put-reads
 
 abbrev Inv-loop : tie.InvT-loop
-Inv-loop out₀ at text i₀ out i = ?
+Inv-loop out₀ at text i₀ out i = (i ≤ length text) × (length out ≡ length out₀) × (out ≡ over out₀ at (take i text))
 
 abbrev μ-loop : tie.MeasureT-loop
-μ-loop out₀ at text i₀ out i = ?
+μ-loop out₀ at text i₀ out i = length text - i
 
--- src/lib.rt:133:5
 loop-holds : tie.Need-loop-holds Inv-loop μ-loop
-loop-holds c = search needs
+loop-holds c = (omega arith, refl, sym (over-none _ _))
 
--- src/lib.rt:134:18
 add-put : tie.Need-add-put Inv-loop μ-loop
 add-put c = search needs
 
--- src/lib.rt:134:26
 shared-slice-read-put : tie.Need-shared-slice-read-put Inv-loop μ-loop
 shared-slice-read-put c = search needs
 
--- src/lib.rt:134:9
 put-requires : tie.Need-put-requires Inv-loop μ-loop
 put-requires c κs = search needs
 
--- src/lib.rt:135:9
 add-i : tie.Need-add-i Inv-loop μ-loop
 add-i c = search needs
 
--- src/lib.rt:133:5
 loop-less : tie.Need-loop-less Inv-loop μ-loop
 loop-less c = search needs
 
--- src/lib.rt:133:5
 loop-again : tie.Need-loop-again Inv-loop μ-loop
-loop-again c = search needs
+loop-again c =
+    let l = c .before .before .before .before .before .before .loop in
+    let more = c .before .before .before .before .before .loop-test .taken in
+    (omega arith, c .before .before .put .kept .0 ∙ l .inv .1, next-laid _ _ _ _ _ _ more (l .inv .2) (c .before .before .put .ensures .1))
 
--- src/lib.rt:137:5
 add-result : tie.Need-add-result Inv-loop μ-loop
 add-result c = search needs
 
--- src/lib.rt:128:1
 same-length : tie.Need-same-length Inv-loop μ-loop
 same-length c = search needs
 
--- src/lib.rt:128:1
 returns : tie.Need-returns Inv-loop μ-loop
-returns c = search needs
+returns c =
+    let l = c .before .loop in
+    (omega arith, all-laid _ _ _ _ _ (c .loop-test .left) (l .inv .2))
 
 pub lay-spec : {M : Type 1} → statement M
 lay-spec =

@@ -1,29 +1,24 @@
+-- `geojson::long` meets its contract: one digit before the point, two, .., five.
+-- Assumes nothing.
 use native.Mathlib.Omega.{arith}
-use borrow.Author.Needs.{needs}
+use Rattle.geojson.proofs.Lengths.{long-is}
 use Rattle.geojson.proofs.long.Statement.{statement}
 use Rattle.geojson.proofs.long.Tie as tie
-use Rattle.geojson.proofs.long.Reads as reads
-use Rattle.geojson.proofs.long.Lts as lts
 
--- src/lib.rt:56:1
 returns : tie.Need-returns
-returns c = search needs
+returns c = (long-is 0 _ (omega arith) (omega arith), omega arith)
 
--- src/lib.rt:56:1
 returns-2 : tie.Need-returns-2
-returns-2 c = search needs
+returns-2 c = (long-is 1 _ (omega arith) (omega arith), omega arith)
 
--- src/lib.rt:56:1
 returns-3 : tie.Need-returns-3
-returns-3 c = search needs
+returns-3 c = (long-is 2 _ (omega arith) (omega arith), omega arith)
 
--- src/lib.rt:56:1
 returns-4 : tie.Need-returns-4
-returns-4 c = search needs
+returns-4 c = (long-is 3 _ (omega arith) (omega arith), omega arith)
 
--- src/lib.rt:56:1
 returns-5 : tie.Need-returns-5
-returns-5 c = search needs
+returns-5 c = (long-is 4 _ (omega arith) (omega arith), omega arith)
 
 pub long-spec : {M : Type 1} → statement M
 long-spec = tie.close (tie.spec returns returns-2 returns-3 returns-4 returns-5)

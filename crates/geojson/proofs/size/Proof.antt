@@ -1,29 +1,35 @@
+-- `geojson::size` meets its contract: below 0 the complement and one, else the number itself.
+-- Assumes nothing.
 use native.Mathlib.Omega.{arith}
-use borrow.Author.Needs.{needs}
+use mir.Syntax.{w32}
+use Rattle.geojson.proofs.Signs.{below, above}
 use Rattle.geojson.proofs.size.Statement.{statement}
 use Rattle.geojson.proofs.size.Tie as tie
-use Rattle.geojson.proofs.size.Reads as reads
-use Rattle.geojson.proofs.size.Lts as lts
 
--- src/lib.rt:101:9
 cast-result : tie.Need-cast-result
-cast-result c = search needs
+cast-result c =
+    let b = below w32 (c .before .args .x) (c .before .fits .x) (c .if1 .taken) in
+    rw (b .turned) (tt, record { fits = omega (arith, b .small) })
 
--- src/lib.rt:101:9
 add-result : tie.Need-add-result
-add-result c = search needs
+add-result c =
+    let b = below w32 (c .before .args .x) (c .before .fits .x) (c .if1 .taken) in
+    rw (b .turned) (omega (arith, b .small))
 
--- src/lib.rt:103:9
 cast-result-2 : tie.Need-cast-result-2
-cast-result-2 c = search needs
+cast-result-2 c =
+    let b = above w32 (c .before .args .x) (c .before .fits .x) (c .if1 .left) in
+    rw (b .is) (tt, record { fits = omega (arith, b .small) })
 
--- src/lib.rt:96:1
 returns : tie.Need-returns
-returns c = search needs
+returns c =
+    let b = below w32 (c .before .args .x) (c .before .fits .x) (c .if1 .taken) in
+    rw (b .turned) (b .own, omega (arith, b .small))
 
--- src/lib.rt:96:1
 returns-2 : tie.Need-returns-2
-returns-2 c = search needs
+returns-2 c =
+    let b = above w32 (c .before .args .x) (c .before .fits .x) (c .if1 .left) in
+    rw (b .is) (b .own, omega (arith, b .small))
 
 pub size-spec : {M : Type 1} → statement M
 size-spec = tie.close (tie.spec cast-result add-result cast-result-2 returns returns-2)
