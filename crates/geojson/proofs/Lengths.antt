@@ -105,6 +105,9 @@ places-length (suc k) n = length-append (places k (n / 10)) (lastDigit n) ∙ ap
     more : (m : ℕ) → m + 1 ≡ suc m
     more m = omega arith
 
+pub places-placed : (r p n : ℕ) → r ≡ p + 5 → r ≡ p + length (places 5 n)
+places-placed r p n e = e ∙ ap (λ (k : ℕ). p + k) (sym (places-length 5 n))
+
 pub size-length : (n : ℕ) → length (hundredThousandths n) ≡ length (digits (n / 100_000)) + 6
 unfolding hundredThousandths
 size-length n =
@@ -119,7 +122,7 @@ long-is k n l u = ap (λ (m : ℕ). m + 6) (sym (digits-length k (n / 100_000) l
 pub size-most : (n : ℕ) → n ≤ 2_147_483_648 → length (hundredThousandths n) ≤ 11
 size-most n h = omega (arith, size-length n, digits-most 4 (n / 100_000) (omega arith))
 
-minus-most : (x : ℤ) → length (minus x) ≤ 1
+pub minus-most : (x : ℤ) → length (minus x) ≤ 1
 minus-most (pos n) = omega arith
 minus-most (negsuc n) = omega arith
 

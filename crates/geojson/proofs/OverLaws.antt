@@ -69,6 +69,10 @@ pub record Written (s : List ℕ) (p : ℕ) (a : List ℕ) (q : ℕ) (after : Li
 pub wrote : {s : List ℕ} {p : ℕ} {a : List ℕ} {q : ℕ} {after : List ℕ} → q ≡ p + length a → after ≡ over s p a → Written s p a q after
 wrote e f = record { next = e; is = f }
 
+-- the same text, however it is worked out
+pub being : {s : List ℕ} {p : ℕ} {a b : List ℕ} {q : ℕ} {after : List ℕ} → a ≡ b → Written s p a q after → Written s p b q after
+being e w = rw e at w
+
 infixl 20 _behind_
 pub _behind_ : {s : List ℕ} {p : ℕ} {a : List ℕ} {q : ℕ} {mid b : List ℕ} {r : ℕ} {after : List ℕ}
     → Written s p a q mid → Written mid q b r after → Written s p (a ++ b) r after
@@ -77,6 +81,10 @@ _behind_ {s} {p} {a} {q} {mid} {b} {r} {after} f g =
       next = omega (arith, length-append a b, f .next, g .next);
       is = g .is ∙ ap (λ (m : List ℕ). over m q b) (f .is) ∙ over-at s p q a b (f .next);
     }
+
+-- a place that is no further than the longest text
+pub near : (r p n m : ℕ) → r ≡ p + n → n ≤ m → r ≤ p + m
+near r p n m e h = omega arith
 
 -- ---- a text laid byte by byte
 pub next-laid : (s : List ℕ) (p i : ℕ) (t out after : List ℕ) → i < length t → out ≡ over s p (take i t) → after ≡ over out (p + i) (getD t i 0 ∷ [])

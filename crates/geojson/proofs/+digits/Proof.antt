@@ -1,13 +1,9 @@
 -- `geojson::digits` meets its contract: the digits of a tenth, and the last one behind them. The measure is the number.
 -- Assumes nothing.
 use native.Mathlib.Omega.{arith}
-use mathlib.Core.Path.{ap, ap₂, _∙_}
-use mathlib.Core.List.{List}
 use borrow.Author.Needs.{needs}
-use Prim.Native.Nat.{ℕ, _+_, _/_, _<_}
-use lib.ListN.{length}
-use Rattle.geojson.specs.Over.{over}
-use Rattle.geojson.proofs.OverLaws.{wrote, _behind_}
+use Prim.Native.Nat.{ℕ, _/_, _<_}
+use Rattle.geojson.proofs.OverLaws.{wrote, being, _behind_}
 use Rattle.geojson.proofs.Lengths.{digits-one, digits-more, digits-most}
 use borrow.Fn.Kinds.{In}
 use borrow.Fn.PlainCycle.{Measures, is, falls, and}
@@ -50,8 +46,8 @@ digits-returns : (t : ℕ) → digits-lts.Need-returns (
   digits.Post,
 ) (digits-at t) digits.Post
 digits-returns t c =
-    let e = digits-one _ (c .before .before .before .before .if1 .taken) in
-    (c .before .before .digit .ensures .0 ∙ ap (λ (l : List ℕ). _ + length l) e, c .before .before .digit .ensures .1 ∙ ap (over _ _) e)
+    let w = being (digits-one _ (c .before .before .before .before .if1 .taken)) (wrote (c .before .before .digit .ensures .0) (c .before .before .digit .ensures .1)) in
+    (w .next, w .is)
 
 digits-digits-requires : (t : ℕ) → digits-lts.Need-digits-requires (
   digit-reads.Asked,
@@ -84,9 +80,8 @@ digits-returns-2 : (t : ℕ) → digits-lts.Need-returns-2 (
   digits.Post,
 ) (digits-at t) digits.Post
 digits-returns-2 t c =
-    let e = digits-more _ (c .before .before .before .before .before .before .before .before .if1 .left) in
-    let w = wrote (c .before .before .before .before .before .before .digits .ensures .0) (c .before .before .before .before .before .before .digits .ensures .1) behind wrote (c .before .before .digit2 .ensures .0) (c .before .before .digit2 .ensures .1) in
-    (w .next ∙ ap (λ (l : List ℕ). _ + length l) e, w .is ∙ ap (over _ _) e)
+    let w = being (digits-more _ (c .before .before .before .before .before .before .before .before .if1 .left)) (wrote (c .before .before .before .before .before .before .digits .ensures .0) (c .before .before .before .before .before .before .digits .ensures .1) behind wrote (c .before .before .digit2 .ensures .0) (c .before .before .digit2 .ensures .1)) in
+    (w .next, w .is)
 
 pub +digits-spec : {M : Type 1} → statement M
 +digits-spec = close μ-digits λ t. digits-lts.spec (

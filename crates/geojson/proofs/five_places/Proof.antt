@@ -1,9 +1,8 @@
 -- `geojson::five_places` meets its contract: five digits, each behind the one before it.
 -- Assumes nothing.
-use mathlib.Core.Path.{ap, _∙_}
 use borrow.Author.Needs.{needs}
-use Rattle.geojson.specs.Over.{over}
-use Rattle.geojson.proofs.OverLaws.{wrote, _behind_}
+use Rattle.geojson.specs.Decimals.{places}
+use Rattle.geojson.proofs.OverLaws.{wrote, being, _behind_}
 use Rattle.geojson.proofs.Lengths.{five}
 use Rattle.geojson.proofs.five_places.Statement.{statement}
 use Rattle.geojson.proofs.five_places.Tie as tie
@@ -27,13 +26,14 @@ same-length : tie.Need-same-length
 same-length c = search needs
 
 returns : tie.Need-returns
+unfolding places
 returns c =
-    let w = wrote (c .before .before .before .before .before .before .before .before .before .before .before .before .before .before .before .before .before .before .digit .ensures .0) (c .before .before .before .before .before .before .before .before .before .before .before .before .before .before .before .before .before .before .digit .ensures .1)
+    let w = being (five _) (wrote (c .before .before .before .before .before .before .before .before .before .before .before .before .before .before .before .before .before .before .digit .ensures .0) (c .before .before .before .before .before .before .before .before .before .before .before .before .before .before .before .before .before .before .digit .ensures .1)
         behind wrote (c .before .before .before .before .before .before .before .before .before .before .before .before .before .before .digit2 .ensures .0) (c .before .before .before .before .before .before .before .before .before .before .before .before .before .before .digit2 .ensures .1)
         behind wrote (c .before .before .before .before .before .before .before .before .before .before .digit3 .ensures .0) (c .before .before .before .before .before .before .before .before .before .before .digit3 .ensures .1)
         behind wrote (c .before .before .before .before .before .before .digit4 .ensures .0) (c .before .before .before .before .before .before .digit4 .ensures .1)
-        behind wrote (c .before .before .digit5 .ensures .0) (c .before .before .digit5 .ensures .1) in
-    (w .next, w .is ∙ ap (over _ _) (five _))
+        behind wrote (c .before .before .digit5 .ensures .0) (c .before .before .digit5 .ensures .1)) in
+    (w .next, w .is)
 
 pub five-places-spec : {M : Type 1} → statement M
 five-places-spec =
