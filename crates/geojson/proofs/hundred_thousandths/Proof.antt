@@ -1,8 +1,8 @@
 -- `geojson::hundred_thousandths` meets its contract: past the end only measured, else the whole part, the point and five places.
 -- Assumes nothing.
-use Prim.Native.Nat.{ℕ, _+_, _/_, _%_}
+use Prim.Native.Nat.{ℕ, _+_, _/_}
 use native.Mathlib.Omega.{arith}
-use mathlib.Core.Path.{sym, ap, _∙_}
+use mathlib.Core.Path.{sym, ap}
 use borrow.Author.Needs.{needs}
 use Rattle.geojson.specs.Decimals.{hundredThousandths}
 use Rattle.geojson.proofs.OverLaws.{over-past, wrote, _behind_}
