@@ -2,6 +2,8 @@
 
 mod asking;
 pub mod hostile;
+#[cfg(feature = "map")]
+pub mod map;
 pub mod zones;
 
 use crate::bytes;

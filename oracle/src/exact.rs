@@ -78,6 +78,12 @@ impl Exact {
         Ok(Self { zones })
     }
 
+    /// A zone's rings, one polygon after another.
+    #[cfg(test)]
+    pub fn rings(&self, zone: u64) -> Vec<Vec<(Place, Place)>> {
+        self.zones[zone as usize].concat()
+    }
+
     /// On or inside the outer ring of one of its polygons, and strictly inside none of that polygon's holes.
     pub fn contains(&self, zone: u64, x: i32, y: i32) -> bool {
         let p = (x.into(), y.into());

@@ -2,6 +2,7 @@
 
 mod asked;
 mod blocks;
+mod map;
 mod open;
 mod walked;
 
@@ -39,6 +40,20 @@ pub fn write(folder: &Path) {
     met("candidates", &[0, 44]);
     met("candidate", &[0, 30, 31, 44]);
     walked(folder);
+    maps(folder);
+}
+
+fn maps(folder: &Path) {
+    let records = map::records();
+    let list = map::bytes(&records);
+    fs::write(folder.join("map.bin"), &list).expect("a list");
+    println!("map.bin: {} records, {} bytes", records.len(), list.len());
+    let rules = (2..=6).map(|rule| 47 + 100 * rule);
+    for number in [0].into_iter().chain(1..=34).chain([45, 46, 48]).chain(rules) {
+        let count = records.iter().filter(|record| record.number == number).count();
+        println!("  {count} with {number}");
+        assert!(count >= 1, "{number} is not met");
+    }
 }
 
 fn walked(folder: &Path) {

@@ -19,6 +19,9 @@ const LIMIT: u64 = 20;
 /// After so many inputs the number is printed.
 const STEP: u64 = 500_000;
 
+/// The last refusal that an export gives.
+const LAST: usize = if cfg!(feature = "map") { 48 } else { 47 };
+
 /// All that is told of a run is told in the last line.
 pub fn short(inputs: u64, seed: u64) {
     let tally = put_all(inputs, seed, 0);
@@ -59,13 +62,13 @@ fn put_all(inputs: u64, seed: u64, from: u64) -> Tally {
 pub struct Tally {
     inputs: [u64; inputs::KINDS.len()],
     calls: [u64; NAMES.len()],
-    refused: [[u64; 48]; NAMES.len()],
+    refused: [[u64; LAST + 1]; NAMES.len()],
 }
 
 impl Tally {
     fn new() -> Self {
         let calls = [0; NAMES.len()];
-        Self { inputs: [0; inputs::KINDS.len()], calls, refused: [[0; 48]; NAMES.len()] }
+        Self { inputs: [0; inputs::KINDS.len()], calls, refused: [[0; LAST + 1]; NAMES.len()] }
     }
 
     fn print(&self) {
@@ -75,7 +78,7 @@ impl Tally {
         for (name, (calls, refused)) in NAMES.iter().zip(self.calls.iter().zip(&self.refused)) {
             println!("{calls:>12}  {name}, of which refused {}", refused.iter().sum::<u64>());
         }
-        for number in 1..48 {
+        for number in 1..=LAST {
             let count: u64 = self.refused.iter().map(|of| of[number]).sum();
             println!("{count:>12}  refusal {number}");
         }

@@ -37,6 +37,11 @@ oracle bench [FILE.tzb [ROWS]]
 oracle bench sections
 oracle bench zones";
 
+/// What a build with the feature `map` can do besides.
+const USAGE_OF_MAP: &str = "
+oracle compare map [SECONDS [SEED]]
+oracle bench map FILE.tzb";
+
 fn main() {
     let words: Vec<String> = std::env::args().skip(1).collect();
     let words: Vec<&str> = words.iter().map(String::as_str).collect();
@@ -60,6 +65,12 @@ fn main() {
         ["compare", "tables", seconds, seed] => {
             compare::files::tables(number(seconds), number(seed))
         }
+        #[cfg(feature = "map")]
+        ["compare", "map"] => compare::map::run(60, random::fresh_seed()),
+        #[cfg(feature = "map")]
+        ["compare", "map", seconds] => compare::map::run(number(seconds), random::fresh_seed()),
+        #[cfg(feature = "map")]
+        ["compare", "map", seconds, seed] => compare::map::run(number(seconds), number(seed)),
         ["compare", "wide"] => compare::wide::run(60, random::fresh_seed()),
         ["compare", "wide", seconds] => compare::wide::run(number(seconds), random::fresh_seed()),
         ["compare", "wide", seconds, seed] => compare::wide::run(number(seconds), number(seed)),
@@ -77,6 +88,8 @@ fn main() {
         ["bench"] => bench::run(None, ""),
         ["bench", "sections"] => bench::hostile::run(),
         ["bench", "zones"] => bench::zones::run(),
+        #[cfg(feature = "map")]
+        ["bench", "map", file] => bench::map::run(file.as_ref()),
         ["bench", file] => bench::run(Some(file.as_ref()), ""),
         ["bench", file, rows] => bench::run(Some(file.as_ref()), rows),
         _ => usage(),
@@ -99,6 +112,8 @@ fn short(seconds: u64, seed: u64) {
     compare::short(seconds, seed);
     compare::wide::short(seconds, seed);
     compare::asking::short(seconds, seed);
+    #[cfg(feature = "map")]
+    compare::map::short(seconds, seed);
     load::short(5000 * seconds, seed);
     stack::short(seed);
 }
@@ -118,6 +133,6 @@ fn number(word: &str) -> u64 {
 }
 
 fn usage() -> ! {
-    eprintln!("{USAGE}");
+    eprintln!("{USAGE}{}", if cfg!(feature = "map") { USAGE_OF_MAP } else { "" });
     std::process::exit(2)
 }

@@ -4,6 +4,8 @@ pub mod asking;
 pub mod exports;
 #[cfg(test)]
 mod header;
+#[cfg(any(test, feature = "map"))]
+pub mod map;
 pub mod opening;
 
 use crate::bytes::Reading;

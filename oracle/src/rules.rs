@@ -5,6 +5,7 @@ mod asking;
 mod bytes;
 mod chunk;
 mod full;
+pub mod map;
 mod questions;
 mod ray;
 mod records;
@@ -12,7 +13,7 @@ mod walk;
 
 pub use asking::Judge;
 pub use bytes::crc32;
-pub use full::full_check;
+pub use full::{Broken, full_check};
 pub use questions::Candidates;
 
 use bytes::{i16_at, i32_at, u16_at, u32_at, utf8};

@@ -167,7 +167,8 @@ unsafe extern "C" {
     safe fn clock() -> i64;
 }
 
-fn time(f: &mut dyn FnMut() -> u64) -> i64 {
+/// How many microseconds of processor time it takes.
+pub fn time(f: &mut dyn FnMut() -> u64) -> i64 {
     let start = clock();
     black_box(f());
     clock() - start

@@ -1,10 +1,12 @@
 //! One input through every export. What is wrong with an answer, or with lent memory after it, is told.
 
 use super::Tally;
+#[cfg(feature = "map")]
+use super::fence::PAGE;
 use super::fence::{Lent, Room};
 use super::inputs::{Input, LONGEST, SHORT};
 use super::watch;
-use crate::port::exports::{Export, Exports};
+use crate::port::exports::{Export, Exports, NAMES};
 use crate::port::opening::SIZE;
 use crate::scene::Scene;
 
@@ -13,7 +15,7 @@ pub struct Caller {
     file: Lent,
     record: Lent,
     part: Lent,
-    rooms: [Room; 4],
+    rooms: [Room; 5],
     pub tally: Tally,
 }
 
@@ -33,7 +35,7 @@ impl Caller {
             file: Lent::new(LONGEST),
             record: Lent::new(SHORT),
             part: Lent::new(SHORT),
-            rooms: [(); 4].map(|()| Room::new()),
+            rooms: [(); 5].map(|()| Room::new()),
             tally: Tally::new(),
         }
     }
@@ -60,12 +62,14 @@ impl Caller {
         self.exports
     }
 
-    /// A code from `first` to `last` answers; -1001 to -1047 refuses.
+    /// A code from `first` to `last` answers; -1001 to -1047 refuses, -1048 only where a zone's text is asked for.
     fn said(&mut self, export: Export, code: i64, first: i64, last: i64) -> Result<Answer, String> {
         if (first..=last).contains(&code) {
             return Ok(Some(code));
         }
-        hold((-1047..=-1001).contains(&code), || format!("{code} is no answer and no refusal"))?;
+        let last = if NAMES[export as usize].starts_with("tzb_map") { -1048 } else { -1047 };
+        let refuses = (last..=-1001).contains(&code);
+        hold(refuses, || format!("{code} is no answer and no refusal"))?;
         self.tally.refused[export as usize][(-1000 - code) as usize] += 1;
         Ok(None)
     }
@@ -93,7 +97,38 @@ impl Caller {
         let rule = unsafe { (self.call(Export::FullCheckRule).full_check_rule)(f, length) };
         let rules = if check == -1047 { 2..=6 } else { 0..=0 };
         hold(rules.contains(&rule), || format!("rule {rule}, where the full check says {check}"))?;
+        #[cfg(feature = "map")]
+        self.maps(input, (f, length), check.into())?;
         Ok(said.map(|_| record))
+    }
+
+    /// A zone's length, then its text. The full check's refusal comes first; 46 comes last, and never without room.
+    #[cfg(feature = "map")]
+    fn maps(&mut self, input: &Input, (f, length): Slice, check: i64) -> Result<(), String> {
+        let (zone, guard) = (input.zone, input.guard);
+        let long = unsafe { (self.call(Export::MapLength).map_length)(f, length, zone) };
+        let said = self.said(Export::MapLength, long, 1, i64::MAX)?;
+        let may =
+            if check < 0 { long == check } else { long > 0 || [-1045, -1048].contains(&long) };
+        hold(may, || format!("{long}, where the full check says {check}"))?;
+
+        // The guard chooses the room: none, a byte short, just enough, all there is.
+        let needed = said.map_or(PAGE, |long| PAGE.min(long as usize));
+        let room = [0, needed - 1, needed, PAGE][guard as usize % 4];
+        let lent = self.rooms[4].lend(room, input.at_end[5], guard)?;
+        let code = unsafe { (self.call(Export::Map).map)(f, length, zone, lent, room) };
+        let written = self.said(Export::Map, code, 1, room as i64)?;
+        let text = self.rooms[4].take(written.unwrap_or(0) as usize)?;
+        let is_text = |text: &[u8]| {
+            text.starts_with(b"{\"type\":\"MultiPolygon\",\"coordinates\":[[[[")
+                && text.ends_with(b"]]]]}")
+        };
+        let may = match said {
+            None => code == long,
+            Some(_) if (room as i64) < long => code == -1046,
+            Some(_) => code == long && is_text(&text),
+        };
+        hold(may, || format!("{code} with room for {room}, where the length is {long}"))
     }
 
     fn names(&mut self, input: &Input, (r, size): Slice, (f, length): Slice) -> Result<(), String> {

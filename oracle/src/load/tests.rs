@@ -218,6 +218,51 @@ fn a_wrong_export_is_found_out() {
     assert!(told(Exports { contains: contains_that_says_two, ..PORT }).is_some());
 }
 
+#[cfg(feature = "map")]
+unsafe extern "C" fn map_that_writes_where_it_refuses(
+    file: *const u8,
+    length: usize,
+    zone: u32,
+    out: *mut u8,
+    room: usize,
+) -> i64 {
+    let code = unsafe { (PORT.map)(file, length, zone, out, room) };
+    if code == -1048 && room > 0 {
+        unsafe { *out ^= 1 };
+    }
+    code
+}
+
+#[cfg(feature = "map")]
+unsafe extern "C" fn map_that_writes_one_behind(
+    file: *const u8,
+    length: usize,
+    zone: u32,
+    out: *mut u8,
+    room: usize,
+) -> i64 {
+    let code = unsafe { (PORT.map)(file, length, zone, out, room) };
+    if code > 0 && (code as usize) < room {
+        unsafe { *out.add(code as usize) ^= 1 };
+    }
+    code
+}
+
+#[cfg(feature = "map")]
+unsafe extern "C" fn length_that_is_one_more(file: *const u8, length: usize, zone: u32) -> i64 {
+    let code = unsafe { (PORT.map_length)(file, length, zone) };
+    if code > 0 { code + 1 } else { code }
+}
+
+#[cfg(feature = "map")]
+#[test]
+fn a_wrong_map_is_found_out() {
+    let changed = |exports| told(exports).is_some_and(|what| what.contains("changed"));
+    assert!(changed(Exports { map: map_that_writes_where_it_refuses, ..PORT }));
+    assert!(changed(Exports { map: map_that_writes_one_behind, ..PORT }));
+    assert!(told(Exports { map_length: length_that_is_one_more, ..PORT }).is_some());
+}
+
 unsafe extern "C" fn sum_that_reads_one_behind(bytes: *const u8, length: usize) -> u32 {
     unsafe { bytes.add(length).read_volatile().into() }
 }

@@ -2,27 +2,27 @@
 
 type Bytes = *const u8;
 
-/// For each export: its place in `NAMES`, its field in the table, and its declaration.
+/// For each export: when it is there, its place in `NAMES`, its field in the table, and its declaration.
 macro_rules! exports {
-    ($($place:ident $field:ident: $safety:ident fn $name:ident($($of:ident: $lent:ty),*) -> $answer:ty;)*) => {
+    ($($(#[$when:meta])* $place:ident $field:ident: $safety:ident fn $name:ident($($of:ident: $lent:ty),*) -> $answer:ty;)*) => {
         unsafe extern "C" {
-            $(pub $safety fn $name($($of: $lent),*) -> $answer;)*
+            $($(#[$when])* pub $safety fn $name($($of: $lent),*) -> $answer;)*
         }
 
         #[derive(Clone, Copy)]
         pub struct Exports {
-            $(pub $field: unsafe extern "C" fn($($lent),*) -> $answer,)*
+            $($(#[$when])* pub $field: unsafe extern "C" fn($($lent),*) -> $answer,)*
         }
 
-        pub const PORT: Exports = Exports { $($field: $name,)* };
+        pub const PORT: Exports = Exports { $($(#[$when])* $field: $name,)* };
 
         /// Their places in `NAMES`.
         #[derive(Clone, Copy)]
         pub enum Export {
-            $($place,)*
+            $($(#[$when])* $place,)*
         }
 
-        pub const NAMES: &[&str] = &[$(stringify!($name),)*];
+        pub const NAMES: &[&str] = &[$($(#[$when])* stringify!($name),)*];
     };
 }
 
@@ -63,6 +63,12 @@ exports! {
     ) -> i64;
     FullCheck full_check: unsafe fn tzb_full_check(file: Bytes, length: usize) -> i32;
     FullCheckRule full_check_rule: unsafe fn tzb_full_check_rule(file: Bytes, length: usize) -> u32;
+    #[cfg(feature = "map")]
+    Map map: unsafe fn tzb_map(
+        file: Bytes, length: usize, zone: u32, out: *mut u8, room: usize
+    ) -> i64;
+    #[cfg(feature = "map")]
+    MapLength map_length: unsafe fn tzb_map_length(file: Bytes, length: usize, zone: u32) -> i64;
     Number number: unsafe fn tzb_number(data: Bytes, length: usize, at: usize) -> i32;
     NumberLength number_length: unsafe fn tzb_number_length(
         data: Bytes, length: usize, at: usize

@@ -15,12 +15,21 @@ pub struct Lent {
     ends: Vec<u64>,
     points: Vec<i32>,
     zones: Vec<u32>,
+    #[cfg(feature = "map")]
+    text: Vec<u8>,
 }
 
 impl Lent {
     pub fn new() -> Self {
         let record = vec![0; SIZE];
-        Self { record, ends: vec![0; 2], points: vec![0; 2 * 65_535], zones: vec![0; 65_535] }
+        Self {
+            record,
+            ends: vec![0; 2],
+            points: vec![0; 2 * 65_535],
+            zones: vec![0; 65_535],
+            #[cfg(feature = "map")]
+            text: vec![0; 0x40_0000],
+        }
     }
 }
 
@@ -66,6 +75,9 @@ fn fixed(random: &mut Random) -> Vec<Vec<u8>> {
     files.extend(file::broken::files().into_iter().map(|(_, file)| file));
     files.extend(file::chunks().into_iter().map(|(_, file)| file));
     files.extend(file::departing().into_iter().map(|(_, file)| file));
+    // Zones that have a text: of one group and of several, of long rings too.
+    #[cfg(feature = "map")]
+    files.extend(file::maps::cases().into_iter().chain(file::maps::long()).map(|case| case.file));
     // Many zones at a point, more than the 16 that are kept, and more than the 256 of a block.
     files.extend([17, 300, 1000].map(many_zones));
     // Chunks of more points than the 256 that are kept, behind each other.
@@ -134,6 +146,14 @@ fn of_file(
     let record = lent.record.as_mut_ptr() as u64;
     call(Export::FullCheck, full_check as *const (), &[f, length], none);
     call(Export::FullCheckRule, full_check_rule as *const (), &[f, length], none);
+    #[cfg(feature = "map")]
+    for zone in [0, 1, random.below(500) as u64] {
+        let (text, room) = (lent.text.as_mut_ptr() as u64, lent.text.len() as u64);
+        let Exports { map, map_length, .. } = PORT;
+        call(Export::MapLength, map_length as *const (), &[f, length, zone], none);
+        call(Export::Map, map as *const (), &[f, length, zone, text, 0], none);
+        call(Export::Map, map as *const (), &[f, length, zone, text, room], none);
+    }
     call(Export::Crc32, crc32 as *const (), &[f, length], none);
     call(Export::Utf8, utf8 as *const (), &[f, length], none);
     call(Export::Open, open as *const (), &[f, length, record, 0], none);
