@@ -1,9 +1,9 @@
 #!/usr/bin/env python3
 """Draws zones of an index as a picture (SVG), from what the command 'tzb map' writes. It needs nothing but Python.
 
-    python3 scripts/draw.py FILE ZONE... [--box WEST SOUTH EAST NORTH] [--title TEXT] [--output docs/map.svg]
+    python3 scripts/draw.py FILE ZONE... [--box WEST SOUTH EAST NORTH] [--title TEXT] [--note LNG LAT TEXT] [--output PATH]
 
-Where rsvg-convert is there, --png PATH makes a PNG of it too. docs/map.md has the words for the picture in docs/.
+Where rsvg-convert is there, --png PATH makes a PNG of it too. docs/map.md says how the picture in docs/ was made.
 """
 
 import argparse
@@ -18,7 +18,7 @@ from html import escape
 ROOT = os.path.dirname(os.path.dirname(os.path.abspath(__file__)))
 WIDTH = 1000
 MARGIN = 44
-HEAD = 40
+HEAD = 6
 FILLS = ["#f6d5a8", "#c9dfb5", "#b8d4ea", "#f0c3c0", "#d8cbe8", "#f3ebb0", "#bfe3dc", "#e3cfc0"]
 STROKES = ["#8a5a14", "#45702a", "#2b5f8c", "#93403b", "#64488c", "#84761b", "#2a766a", "#76533a"]
 
@@ -120,7 +120,12 @@ def degrees(value, plus, minus):
     return f"{abs(value):g}°" + (plus if value > 0 else minus if value < 0 else "")
 
 
-def picture(zones, frame, title):
+def label(place, text, size):
+    x, y = place
+    return f'<text class="name" font-size="{size}" x="{x:.1f}" y="{y + size / 3:.1f}">{escape(text)}</text>'
+
+
+def picture(zones, frame, title, notes):
     """The whole SVG. Its fill rule is 'nonzero': a hole stays empty because it runs the other way than its outer ring."""
     left, top = frame.place(frame.west, frame.north)
     right, bottom = frame.place(frame.east, frame.south)
@@ -128,7 +133,7 @@ def picture(zones, frame, title):
     out = [
         f'<svg xmlns="http://www.w3.org/2000/svg" viewBox="0 0 {WIDTH} {frame.height:.0f}" font-family="DejaVu Sans, sans-serif">',
         "<style>.grid{fill:none;stroke:#b9c6cf;stroke-width:.7}.degrees{font-size:12px;fill:#52616b;text-anchor:middle}"
-        ".name{font-size:16px;fill:#222;text-anchor:middle}.zone{fill-rule:nonzero;stroke-width:1.2;stroke-linejoin:round}</style>",
+        ".name{fill:#222;text-anchor:middle}.zone{fill-rule:nonzero;stroke-width:1.2;stroke-linejoin:round}</style>",
         f'<rect width="100%" height="100%" fill="#fff"/><text x="{MARGIN}" y="30" font-size="20" fill="#222">{escape(title)}</text>',
         f'<clipPath id="frame"><rect {box}/></clipPath><rect {box} fill="#eef4f8"/>',
         *grid_lines(frame),
@@ -138,9 +143,10 @@ def picture(zones, frame, title):
         fill, stroke = FILLS[number % len(FILLS)], STROKES[number % len(STROKES)]
         out.append(f'<path class="zone" fill="{fill}" stroke="{stroke}" d="{path(polygons, frame)}"><title>{escape(name)}</title></path>')
     for name, polygons in zones:
-        place, _ = label_place(polygons, frame)
+        place, room = label_place(polygons, frame)
         if place:
-            out.append(f'<text class="name" x="{place[0]:.1f}" y="{place[1] + 5:.1f}">{escape(name)}</text>')
+            out.append(label(place, name, 16 if room > 20 else 11))
+    out += [label(frame.place(float(lng), float(lat)), text, 11) for lng, lat, text in notes]
     out += ["</g>", f'<rect {box} fill="none" stroke="#52616b"/>', "</svg>", ""]
     return "\n".join(out)
 
@@ -151,6 +157,7 @@ def arguments():
     words.add_argument("zone", nargs="+", help="by number or by name")
     words.add_argument("--box", nargs=4, type=float, metavar=("WEST", "SOUTH", "EAST", "NORTH"), help="what is shown, in degrees")
     words.add_argument("--title", default="")
+    words.add_argument("--note", nargs=3, action="append", default=[], metavar=("LNG", "LAT", "TEXT"), help="words at a place")
     words.add_argument("--output", default="map.svg")
     words.add_argument("--png")
     words.add_argument("--tzb", default=os.path.join(ROOT, "tzb"), help="the command; else the repository's")
@@ -162,7 +169,7 @@ def main():
     zones = [(zone, zone_map(asked.tzb, asked.file, zone)) for zone in asked.zone]
     frame = Frame(asked.box or bounds(polygons for _, polygons in zones))
     with open(asked.output, "w", encoding="utf-8") as out:
-        out.write(picture(zones, frame, asked.title))
+        out.write(picture(zones, frame, asked.title, asked.note))
     if asked.png:
         if not shutil.which("rsvg-convert"):
             sys.exit("there is no rsvg-convert (Debian: librsvg2-bin), so no PNG was made")

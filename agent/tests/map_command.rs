@@ -175,8 +175,9 @@ fn a_file_that_cannot_be_written_is_status_2() {
 
 #[test]
 fn bad_usage_is_status_2() {
-    let cases: [(&[&str], &str); 5] = [
+    let cases: [(&[&str], &str); 6] = [
         (&["map"], "which index file?"),
+        (&["map", "-o"], "which index file?"),
         (&["map", SAMPLE], "which zone, by number or by name?"),
         (&["map", SAMPLE, "126", "-o"], "which file is to be written?"),
         (&["map", "-n", SAMPLE, "126"], "there is no option \"-n\""),

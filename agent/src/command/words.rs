@@ -87,6 +87,7 @@ pub fn read(mut words: impl Iterator<Item = OsString>) -> Result<Wanted, Failure
 }
 
 fn of_task(task: Task, words: impl Iterator<Item = OsString>) -> Result<Wanted, Failure> {
+    let usage = |why| Failure::Usage(Some(task), why);
     let mut numbered = false;
     let mut checked = false;
     let mut output = None;
@@ -101,7 +102,7 @@ fn of_task(task: Task, words: impl Iterator<Item = OsString>) -> Result<Wanted, 
             Some("-c" | "--check") if task.takes_a_position() => checked = true,
             Some("-o" | "--output") if task.takes_a_zone() => output_is_next = true,
             Some(text) if is_option(text) => {
-                return Err(Failure::Usage(Some(task), format!("there is no option {word:?}")));
+                return Err(usage(format!("there is no option {word:?}")));
             }
             _ if output_is_next => {
                 output_is_next = false;
@@ -110,10 +111,10 @@ fn of_task(task: Task, words: impl Iterator<Item = OsString>) -> Result<Wanted, 
             _ => plain.push(word),
         }
     }
+    let request = request(task, plain).map_err(usage)?;
     if output_is_next {
-        return Err(Failure::Usage(Some(task), "which file is to be written?".to_string()));
+        return Err(usage("which file is to be written?".to_string()));
     }
-    let request = request(task, plain).map_err(|why| Failure::Usage(Some(task), why))?;
     Ok(Wanted::Do(Request { numbered, checked, output, ..request }))
 }
 
