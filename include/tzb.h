@@ -5,8 +5,8 @@
  * is 0. What is lent for writing does not overlap what else is lent to the same call.
  *
  * Every function is total: any bytes and any numbers get an answer, or a refusal, whose number n is that of
- * document 01. A refusal is told as -1000 - n, and leaves lent memory as it was. No function keeps anything
- * between calls, and each may be called from any thread.
+ * document 01, or for 48 of document 02. A refusal is told as -1000 - n, and leaves lent memory as it was. No function
+ * keeps anything between calls, and each may be called from any thread.
  *
  * Open once, ask often:
  *
@@ -24,6 +24,7 @@
  * Stack: a call wants so much of it, in KB of 1,024 bytes, from the caller's stack pointer on. Measured, bounded by the
  * machine code, and rounded up; no theorem speaks of it (docs/PROMISES.md). Signal handlers on the same stack come on top.
  *
+ *     STACK_MAP KB  tzb_map tzb_map_length    (TODO: STACK_MAP is to be measured)
  *     96 KB  tzb_open tzb_lookup tzb_full_check tzb_full_check_rule
  *     24 KB  tzb_crc32
  *     8 KB  tzb_contains tzb_decode tzb_ask tzb_ask_all
@@ -105,6 +106,19 @@ int32_t tzb_full_check(const uint8_t *file, size_t file_length);
 
 /* The lowest broken rule, 2 to 6, where tzb_full_check says -1047; else 0. */
 uint32_t tzb_full_check_rule(const uint8_t *file, size_t file_length);
+
+/* ---- a zone drawn on a map */
+
+/* Writes a zone as GeoJSON (RFC 7946) into the first of the lent bytes; those behind stay. The text is a MultiPolygon
+ * without spaces, each coordinate in degrees with five decimals: outer rings counterclockwise, holes clockwise, each
+ * from the first point that the file stores, which also closes it. It is ASCII, and ends in no zero byte.
+ * How many bytes it has, or -1000 - n for refusal n, the first of these: the full check's (47 with the rule that
+ * tzb_full_check_rule tells), 45 for a zone number too large, 48 where a ring of the zone, a hole too, has under four
+ * positions, over 10,000, or no area, 46 where there is no room. */
+int64_t tzb_map(const uint8_t *file, size_t file_length, uint32_t zone, uint8_t *out, size_t out_length);
+
+/* How many bytes that text has, without writing it. Or -1000 - n, by the same refusals but 46. */
+int64_t tzb_map_length(const uint8_t *file, size_t file_length, uint32_t zone);
 
 /* ---- parts, for comparison runs */
 

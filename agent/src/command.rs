@@ -5,9 +5,11 @@ mod found;
 mod help;
 mod info;
 mod lines;
+mod map;
 mod position;
 mod progress;
 mod words;
+mod write_whole;
 
 use std::ffi::OsString;
 use std::io::{self, BufReader, BufWriter, ErrorKind, Write};
@@ -64,6 +66,9 @@ fn carry_out(request: &Request, out: &mut impl Write) -> Result<Status, Failure>
         return check(path, &bytes, out).map_err(Failure::Output);
     }
     let index = Index::open(bytes).map_err(refused)?;
+    if let Some(which) = &request.zone {
+        return map::draw(request, which, &index, out);
+    }
     match request.task {
         Task::Names => {
             let all = Found::all(&index).map_err(refused)?;

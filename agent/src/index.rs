@@ -217,6 +217,24 @@ impl<B: AsRef<[u8]>> Index<B> {
         })
     }
 
+    /// A zone as GeoJSON, to be drawn on a map: [`map`](crate::map) of the file's bytes, the full check included.
+    ///
+    /// ```
+    /// # fn main() -> Result<(), Box<dyn std::error::Error>> {
+    /// # let file = std::fs::read("../sample/real-ne.tzb")?;
+    /// let index = tzb::Index::open(&file)?;
+    /// let zone = index.zone(8.68, 50.11)?.ok_or("no zone")?;
+    /// assert!(index.map(zone)?.starts_with(r#"{"type":"MultiPolygon","#));
+    /// # Ok(())
+    /// # }
+    /// ```
+    ///
+    /// # Errors
+    /// As for [`map`](crate::map): the full check's refusal, 45, 48 or 46.
+    pub fn map(&self, zone: u32) -> Result<String, Refusal> {
+        crate::map(self.file(), zone)
+    }
+
     /// The file's bytes.
     #[must_use]
     pub fn file(&self) -> &[u8] {

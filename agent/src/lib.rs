@@ -44,6 +44,21 @@
 //!
 //! One that is to be replaced while the program runs is a field like any other: see [`Index`].
 //!
+//! # A zone on a map
+//!
+//! ```
+//! # fn main() -> Result<(), Box<dyn std::error::Error>> {
+//! # let file = tzb::read("../sample/real-ne.tzb")?;
+//! let index = tzb::Index::open(file)?;
+//! let zone = index.zone(8.68, 50.11)?.ok_or("no zone")?;
+//! let geojson = index.map(zone)?; // {"type":"MultiPolygon","coordinates":[[[[6.65952,53.59911], ...
+//! # assert!(geojson.starts_with(r#"{"type":"MultiPolygon","coordinates":[[[[6.65952,53.59911],"#), "{geojson:.99}");
+//! # Ok(())
+//! # }
+//! ```
+//!
+//! [`map`] is the same of a file's bytes.
+//!
 //! # Stack
 //!
 //! Opening and the full check want 96 KB of stack, a question 8 KB; `include/tzb.h` says it for each export. Threads of
@@ -53,12 +68,14 @@
 
 mod index;
 mod layout;
+mod map;
 mod read;
 mod refusal;
 mod sys;
 
 pub use index::Index;
 pub use layout::{Grid, Section};
+pub use map::map;
 pub use read::read;
 pub use refusal::Refusal;
 
@@ -77,8 +94,5 @@ pub use refusal::Refusal;
 /// Opening's refusal, 1 to 34; or 47, with the lowest broken [`rule`](Refusal::rule).
 pub fn full_check(file: &[u8]) -> Result<(), Refusal> {
     let answer = Refusal::of_code(sys::full_check(file).into());
-    answer.map(|_| ()).map_err(|refusal| match refusal.number() {
-        refusal::NOT_SOUND => Refusal::not_sound(sys::full_check_rule(file)),
-        _ => refusal,
-    })
+    answer.map(|_| ()).map_err(|refusal| refusal.with_rule_of(file))
 }

@@ -1,6 +1,8 @@
-//! What the reader says where it gives no answer: a number, 1 to 47, and for 47 the rule that is broken.
+//! What the reader says where it gives no answer: a number, 1 to 48, and for 47 the rule that is broken.
 
 use std::fmt;
+
+use crate::sys;
 
 /// Why there is no answer. Every refusal has one number, and leaves what was lent as it was.
 ///
@@ -23,7 +25,7 @@ pub(crate) const BAD_LENGTH: u32 = 1;
 pub(crate) const NAME_NOT_UTF8: u32 = 25;
 pub(crate) const PAST_THE_END: u32 = 44;
 pub(crate) const NO_ROOM: u32 = 46;
-pub(crate) const NOT_SOUND: u32 = 47;
+const NOT_SOUND: u32 = 47;
 
 impl Refusal {
     pub(crate) fn new(number: u32) -> Self {
@@ -35,13 +37,21 @@ impl Refusal {
         Self { number: NOT_SOUND, rule }
     }
 
+    /// The same, and for 47 with the lowest broken rule of this file, which was refused.
+    pub(crate) fn with_rule_of(self, file: &[u8]) -> Self {
+        match self.number {
+            NOT_SOUND => Self::not_sound(sys::full_check_rule(file)),
+            _ => self,
+        }
+    }
+
     /// What a code of the exports says: a number that is not negative, or -1000 - n for refusal n.
     pub(crate) fn of_code(code: i64) -> Result<usize, Self> {
         let number = (-1000_i64).saturating_sub(code);
         usize::try_from(code).map_err(|_| Self::new(number.try_into().unwrap_or(0)))
     }
 
-    /// The number of the refusal, 1 to 47. [`sentence`](Self::sentence) says what it means.
+    /// The number of the refusal, 1 to 48. [`sentence`](Self::sentence) says what it means.
     #[must_use]
     pub fn number(&self) -> u32 {
         self.number
@@ -84,8 +94,8 @@ impl fmt::Display for Refusal {
 
 impl std::error::Error for Refusal {}
 
-/// The refusals 1 to 47, in order.
-const SENTENCES: [&str; 47] = [
+/// The refusals 1 to 48, in order.
+const SENTENCES: [&str; 48] = [
     "The file is shorter than 68 bytes or longer than 4,294,967,295.",
     "The file does not start with TZFB and major version 1, so it is no index.",
     "The file is of profile 1, a memory image, and not an index.",
@@ -133,6 +143,7 @@ const SENTENCES: [&str; 47] = [
     "There is no zone of that number.",
     "The room lent for the answer is too short.",
     "The file opens, but does not pass the full check.",
+    "A ring of the zone has under four positions, over 10,000, or no area.",
 ];
 
 /// The rules 2 to 6 of the full check, each by what it means that it is broken.
@@ -150,7 +161,7 @@ mod tests {
 
     #[test]
     fn every_number_has_a_sentence_of_its_own() {
-        let mut said: Vec<&str> = (1..=47).map(|n| Refusal::new(n).sentence()).collect();
+        let mut said: Vec<&str> = (1..=48).map(|n| Refusal::new(n).sentence()).collect();
         for sentence in &said {
             assert!(sentence.ends_with('.') && sentence.len() > 10, "{sentence:?}");
             assert!(sentence.starts_with(char::is_uppercase), "{sentence:?}");
@@ -158,8 +169,8 @@ mod tests {
         said.push(Refusal::new(0).sentence());
         said.sort_unstable();
         said.dedup();
-        assert_eq!(said.len(), 48, "two refusals have the same sentence");
-        assert_eq!(Refusal::new(0).sentence(), Refusal::new(48).sentence());
+        assert_eq!(said.len(), 49, "two refusals have the same sentence");
+        assert_eq!(Refusal::new(0).sentence(), Refusal::new(49).sentence());
     }
 
     #[test]
@@ -189,7 +200,7 @@ mod tests {
     #[test]
     fn the_readme_has_the_same_sentences() {
         let readme = std::fs::read_to_string("../README.md").unwrap();
-        for number in 1..=47 {
+        for number in 1..=48 {
             let row = format!("| {number} | {} |", Refusal::new(number).sentence());
             assert!(readme.lines().any(|line| line == row), "README.md has no row: {row}");
         }

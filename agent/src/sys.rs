@@ -23,6 +23,8 @@ mod exports {
         pub fn tzb_ask_all(record: *const u8, size: usize, file: *const u8, length: usize, lng: f64, lat: f64, zones: *mut u32, places: usize) -> i64;
         pub fn tzb_full_check(file: *const u8, length: usize) -> i32;
         pub fn tzb_full_check_rule(file: *const u8, length: usize) -> u32;
+        pub fn tzb_map(file: *const u8, length: usize, zone: u32, out: *mut u8, room: usize) -> i64;
+        pub fn tzb_map_length(file: *const u8, length: usize, zone: u32) -> i64;
     }
 }
 
@@ -73,4 +75,14 @@ pub fn full_check(file: &[u8]) -> i32 {
 pub fn full_check_rule(file: &[u8]) -> u32 {
     // SAFETY: a live slice, given by its own pointer and length.
     unsafe { exports::tzb_full_check_rule(file.as_ptr(), file.len()) }
+}
+
+pub fn map(file: &[u8], zone: u32, out: &mut [u8]) -> i64 {
+    // SAFETY: both are live slices, given by their own pointers and lengths.
+    unsafe { exports::tzb_map(file.as_ptr(), file.len(), zone, out.as_mut_ptr(), out.len()) }
+}
+
+pub fn map_length(file: &[u8], zone: u32) -> i64 {
+    // SAFETY: a live slice, given by its own pointer and length.
+    unsafe { exports::tzb_map_length(file.as_ptr(), file.len(), zone) }
 }

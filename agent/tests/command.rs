@@ -2,68 +2,15 @@
 
 mod common;
 
-use std::env;
 use std::fs::File;
 use std::io::{BufRead, BufReader, Write};
-use std::process::{Child, Command, Stdio};
 use std::sync::mpsc;
 use std::time::Duration;
 
+use common::program::{Kept, answered, ended, run, tzb};
 use common::{CHUNKDIR, RINGDIR, Squares, TZDIR, words};
 
 const SAMPLE: &str = "../sample/real-ne.tzb";
-
-/// The command, under the emulator where cargo runs its programs under one.
-fn tzb(arguments: &[&str]) -> Command {
-    let built = env!("CARGO_BIN_EXE_tzb");
-    let mut command = match env::var_os("CARGO_TARGET_X86_64_UNKNOWN_LINUX_GNU_RUNNER") {
-        Some(runner) => {
-            let mut command = Command::new(runner);
-            command.arg(built);
-            command
-        }
-        None => Command::new(built),
-    };
-    command.args(arguments).stdin(Stdio::piped()).stdout(Stdio::piped()).stderr(Stdio::piped());
-    command
-}
-
-/// Exit status, standard output, standard error.
-type Said = (Option<i32>, String, String);
-
-fn ended(child: Child) -> Said {
-    let output = child.wait_with_output().unwrap();
-    let text = |bytes| String::from_utf8(bytes).unwrap();
-    (output.status.code(), text(output.stdout), text(output.stderr))
-}
-
-fn run(arguments: &[&str], input: impl AsRef<[u8]>) -> Said {
-    let mut child = tzb(arguments).spawn().unwrap();
-    // A command that does not read its input may have ended by now.
-    let _ = child.stdin.take().unwrap().write_all(input.as_ref());
-    ended(child)
-}
-
-fn answered(text: &str) -> Said {
-    (Some(0), text.to_string(), String::new())
-}
-
-/// A file of that name, for the time of a test.
-struct Kept(String);
-
-impl Kept {
-    fn new(name: &str, bytes: &[u8]) -> Self {
-        let path = format!("{}/{name}", env!("CARGO_TARGET_TMPDIR"));
-        std::fs::write(&path, bytes).unwrap();
-        Self(path)
-    }
-}
-
-impl Drop for Kept {
-    fn drop(&mut self) {
-        let _ = std::fs::remove_file(&self.0);
-    }
-}
 
 #[test]
 fn one_position() {
@@ -239,7 +186,7 @@ fn help_and_version() {
     let (status, out, err) = run(&["--help"], "");
     assert_eq!((status, err.as_str()), (Some(0), ""));
     assert!(out.contains("Exit status:"), "{out}");
-    for task in ["zone", "zones", "check", "names", "info"] {
+    for task in ["zone", "zones", "check", "names", "info", "map"] {
         assert!(out.contains(&format!("tzb {task} FILE")), "{out}");
         let (status, own, _) = run(&[task, "--help"], "");
         assert_eq!(status, Some(0));

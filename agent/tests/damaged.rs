@@ -7,7 +7,7 @@ use std::collections::BTreeSet;
 use common::{
     CHUNKDIR, GROUPDIR, NAMES, POINTS, RINGDIR, RINGOPS, Squares, TZDIR, changed, sample, words,
 };
-use tzb::{Index, Refusal, full_check};
+use tzb::{Index, Refusal, full_check, map};
 
 fn opening(file: &[u8]) -> u32 {
     Index::open(file).map_or_else(|refusal| refusal.number(), |_| 0)
@@ -16,13 +16,16 @@ fn opening(file: &[u8]) -> u32 {
 /// Opens, checks and asks all there is to ask. Every answer is one, or a refusal with a number and a sentence.
 fn ask_everything(file: &[u8], numbers: &mut BTreeSet<(u32, Option<u32>)>) {
     let mut note = |refusal: Refusal| {
-        assert!((1..=47).contains(&refusal.number()), "{refusal:?}");
+        assert!((1..=48).contains(&refusal.number()), "{refusal:?}");
         assert_eq!(refusal.rule().is_some(), refusal.number() == 47, "{refusal:?}");
         assert!(refusal.rule().is_none_or(|rule| (2..=6).contains(&rule)), "{refusal:?}");
         assert!(refusal.to_string().starts_with(&format!("refusal {}: ", refusal.number())));
         numbers.insert((refusal.number(), refusal.rule()));
     };
     full_check(file).unwrap_or_else(&mut note);
+    for zone in [0, 1] {
+        map(file, zone).err().into_iter().for_each(&mut note);
+    }
     let index = match Index::open(file) {
         Ok(index) => index,
         Err(refusal) => return note(refusal),

@@ -14,7 +14,7 @@ use tzb::Refusal;
 pub enum Status {
     /// 0: every position has a zone; the file is accepted; what was asked for is written.
     Answered,
-    /// 1: a position has no zone, or the reader refuses.
+    /// 1: a position has no zone, there is no such zone, or the reader refuses.
     No,
     /// 2: the words or a line are not understood, or something cannot be read or written.
     Mistaken,
@@ -34,6 +34,10 @@ pub enum Failure {
     Unreadable(PathBuf, io::Error),
     /// The reader refuses.
     Refused(PathBuf, Refusal),
+    /// The index has no zone of that number, or not one of that name.
+    NoSuchZone(PathBuf, String),
+    /// The file that was asked for cannot be written.
+    Unwritable(PathBuf, io::Error),
     /// Standard input cannot be read.
     Input(io::Error),
     /// Standard output cannot be written.
@@ -43,7 +47,7 @@ pub enum Failure {
 impl Failure {
     pub fn status(&self) -> Status {
         match self {
-            Self::Refused(..) => Status::No,
+            Self::Refused(..) | Self::NoSuchZone(..) => Status::No,
             _ => Status::Mistaken,
         }
     }
@@ -54,8 +58,11 @@ impl fmt::Display for Failure {
         match self {
             Self::Usage(None, why) => write!(f, "{why}\nTry 'tzb --help'."),
             Self::Usage(Some(task), why) => write!(f, "{why}\nTry 'tzb {} --help'.", task.word()),
-            Self::Unreadable(file, why) => write!(f, "{}: {why}", Shown(&file.to_string_lossy())),
+            Self::Unreadable(file, why) | Self::Unwritable(file, why) => {
+                write!(f, "{}: {why}", Shown(&file.to_string_lossy()))
+            }
             Self::Refused(file, why) => write!(f, "{}: {why}", Shown(&file.to_string_lossy())),
+            Self::NoSuchZone(file, why) => write!(f, "{}: {why}", Shown(&file.to_string_lossy())),
             Self::Input(why) => write!(f, "standard input: {why}"),
             Self::Output(why) => write!(f, "standard output: {why}"),
         }

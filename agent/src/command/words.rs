@@ -4,6 +4,7 @@ use std::ffi::OsString;
 use std::path::PathBuf;
 
 use super::failure::Failure;
+use super::map::Which;
 use super::position::Position;
 
 /// What the command can be asked for.
@@ -14,10 +15,12 @@ pub enum Task {
     Check,
     Names,
     Info,
+    Map,
 }
 
 impl Task {
-    pub const ALL: [Self; 5] = [Self::Zone, Self::Zones, Self::Check, Self::Names, Self::Info];
+    pub const ALL: [Self; 6] =
+        [Self::Zone, Self::Zones, Self::Check, Self::Names, Self::Info, Self::Map];
 
     pub fn word(self) -> &'static str {
         match self {
@@ -26,11 +29,16 @@ impl Task {
             Self::Check => "check",
             Self::Names => "names",
             Self::Info => "info",
+            Self::Map => "map",
         }
     }
 
     fn takes_a_position(self) -> bool {
         matches!(self, Self::Zone | Self::Zones)
+    }
+
+    fn takes_a_zone(self) -> bool {
+        self == Self::Map
     }
 
     /// Whether it writes names of zones.
@@ -56,6 +64,10 @@ pub struct Request {
     pub checked: bool,
     /// For a task that takes one. None: positions come from standard input.
     pub position: Option<Position>,
+    /// There for a task that takes one, and for no other.
+    pub zone: Option<Which>,
+    /// The file that is written. None: standard output.
+    pub output: Option<PathBuf>,
 }
 
 pub fn read(mut words: impl Iterator<Item = OsString>) -> Result<Wanted, Failure> {
@@ -75,8 +87,11 @@ pub fn read(mut words: impl Iterator<Item = OsString>) -> Result<Wanted, Failure
 }
 
 fn of_task(task: Task, words: impl Iterator<Item = OsString>) -> Result<Wanted, Failure> {
+    let usage = |why| Failure::Usage(Some(task), why);
     let mut numbered = false;
     let mut checked = false;
+    let mut output = None;
+    let mut output_is_next = false;
     let mut options = true;
     let mut plain = Vec::new();
     for word in words {
@@ -85,14 +100,22 @@ fn of_task(task: Task, words: impl Iterator<Item = OsString>) -> Result<Wanted, 
             Some("-h" | "--help") => return Ok(Wanted::Help(Some(task))),
             Some("-n" | "--number") if task.takes_number() => numbered = true,
             Some("-c" | "--check") if task.takes_a_position() => checked = true,
+            Some("-o" | "--output") if task.takes_a_zone() => output_is_next = true,
             Some(text) if is_option(text) => {
-                return Err(Failure::Usage(Some(task), format!("there is no option {word:?}")));
+                return Err(usage(format!("there is no option {word:?}")));
+            }
+            _ if output_is_next => {
+                output_is_next = false;
+                output = Some(PathBuf::from(word)).filter(|path| path.as_os_str() != "-");
             }
             _ => plain.push(word),
         }
     }
-    let request = request(task, plain).map_err(|why| Failure::Usage(Some(task), why))?;
-    Ok(Wanted::Do(Request { numbered, checked, ..request }))
+    let request = request(task, plain).map_err(usage)?;
+    if output_is_next {
+        return Err(usage("which file is to be written?".to_string()));
+    }
+    Ok(Wanted::Do(Request { numbered, checked, output, ..request }))
 }
 
 /// A minus before a digit or a dot starts a number, and one alone stands for standard input.
@@ -106,16 +129,18 @@ fn request(task: Task, plain: Vec<OsString>) -> Result<Request, String> {
     let mut plain = plain.into_iter();
     let file = plain.next().ok_or("which index file?")?.into();
     let rest: Vec<OsString> = plain.collect();
-    let position = match rest.as_slice() {
-        [] => None,
+    let text = rest.join(" ".as_ref());
+    let text = text.to_string_lossy();
+    let (mut position, mut zone) = (None, None);
+    match rest.as_slice() {
+        [] if task.takes_a_zone() => return Err("which zone, by number or by name?".to_string()),
+        [] => {}
+        _ if task.takes_a_zone() => zone = Some(Which::read(&text)),
         [first, ..] if !task.takes_a_position() => return Err(format!("{first:?} is too much")),
-        [one] if one == "-" => None,
-        words => {
-            let text = words.join(" ".as_ref());
-            Some(Position::read(&text.to_string_lossy()).map_err(|why| why.to_string())?)
-        }
-    };
-    Ok(Request { task, file, numbered: false, checked: false, position })
+        [one] if one == "-" => {}
+        _ => position = Some(Position::read(&text).map_err(|why| why.to_string())?),
+    }
+    Ok(Request { task, file, numbered: false, checked: false, position, zone, output: None })
 }
 
 #[cfg(test)]
@@ -162,6 +187,28 @@ mod tests {
     }
 
     #[test]
+    fn a_zone_by_number_or_by_name() {
+        let rio = Which::Name("Brazil/Rio de Janeiro".to_string());
+        assert_eq!(asked("map a.tzb 82").zone, Some(Which::Number(82)));
+        assert_eq!(asked("map a.tzb Brazil/Rio de Janeiro").zone, Some(rio));
+        assert_eq!(asked("map a.tzb -- -x").zone, Some(Which::Name("-x".to_string())));
+        assert_eq!(asked("zone a.tzb 1 2").zone, None);
+    }
+
+    #[test]
+    fn the_file_that_is_written() {
+        let to = |line| asked(line).output;
+        let path = Some(PathBuf::from("b.json"));
+        for line in
+            ["map a.tzb 8 --output b.json", "map -o b.json a.tzb 8", "map a.tzb -o b.json 8"]
+        {
+            assert_eq!((to(line), asked(line).zone), (path.clone(), Some(Which::Number(8))));
+        }
+        assert_eq!(to("map a.tzb 8 -o -- -b"), Some(PathBuf::from("-b")));
+        assert_eq!((to("map a.tzb 8"), to("map a.tzb 8 -o -")), (None, None));
+    }
+
+    #[test]
     fn what_is_not_understood() {
         let lines = [
             "",
@@ -181,6 +228,14 @@ mod tests {
             "names --check a.tzb",
             "check --check a.tzb",
             "names a.tzb 1 2",
+            "map",
+            "map a.tzb",
+            "map -n a.tzb 8",
+            "map --check a.tzb 8",
+            "map a.tzb 8 --output",
+            "map a.tzb -o 8",
+            "map a.tzb 8 -o -b",
+            "names a.tzb -o b.json",
         ];
         for line in lines {
             assert!(matches!(read_line(line), Err(Failure::Usage(..))), "{line:?}");

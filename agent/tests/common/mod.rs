@@ -1,7 +1,9 @@
-//! The sample, small files with one square in them, and damage to either.
+//! The sample, small files with one square or with rings of one's own in them, and damage to either.
 
 // Each test program uses some of it.
 #![allow(dead_code)]
+
+pub mod program;
 
 /// The sample index of the repository.
 pub fn sample() -> Vec<u8> {
@@ -40,20 +42,7 @@ impl Squares {
             (CHUNKDIR, listed(0, 5)),
             (POINTS, points(&[(0, 0), (SIDE, 0), (0, SIDE), (-SIDE, 0), (0, -SIDE)])),
         ];
-        let mut bytes = header(zones as u32, sections.len() as u32);
-        bytes.resize(64 + 16 * sections.len(), 0);
-        let mut starts = [0; 10];
-        for (place, (kind, section)) in sections.iter().enumerate() {
-            bytes.resize(bytes.len().next_multiple_of(4), 0);
-            starts[*kind] = bytes.len();
-            let entry = words(&[*kind as u32, bytes.len() as u32, section.len() as u32, 0]);
-            bytes[64 + 16 * place..][..16].copy_from_slice(&entry);
-            bytes.extend_from_slice(section);
-        }
-        bytes.extend_from_slice(&[0; 4]);
-        let size = bytes.len() as u32;
-        bytes[16..20].copy_from_slice(&size.to_le_bytes());
-        repair(&mut bytes);
+        let (bytes, starts) = whole(zones, &sections);
         Self { bytes, starts }
     }
 
@@ -61,6 +50,75 @@ impl Squares {
     pub fn with(&self, kind: usize, at: usize, new: &[u8]) -> Vec<u8> {
         changed(&self.bytes, self.starts[kind] + at, new)
     }
+}
+
+type Point = (i32, i32);
+
+/// A file without GRID whose zones are all of these polygons, each a list of rings, the outer one first. A ring's points
+/// stand in one group and one chunk, the first one again at the end. All boxes are of the same points: they are large.
+pub fn drawn(names: &[&str], polygons: &[&[&[Point]]]) -> Vec<u8> {
+    let all = || polygons.iter().flat_map(|rings| rings.iter());
+    let count = all().count() as u32;
+    let side = box_of(all().flat_map(|ring| ring.iter().copied()));
+    let listed = |first: u32, count: u32| [words(&[first, count]), side.clone()].concat();
+    let (mut first, mut chunks, mut stream) = (0, Vec::new(), Vec::new());
+    let (mut polydir, mut ringdir, mut groupdir) = (Vec::new(), Vec::new(), Vec::new());
+    for rings in polygons {
+        polydir.extend(listed(first, rings.len() as u32));
+        first += rings.len() as u32;
+    }
+    for (ring, number) in all().zip(0..) {
+        let length = ring.len() as u32;
+        let (x, y) = (ring[0].0 as u32, ring[0].1 as u32);
+        ringdir.extend([words(&[number, length, 1]), side.clone()].concat());
+        groupdir.extend([words(&[number, length + 1, 1, x, y, x, y]), side.clone()].concat());
+        chunks.extend(listed(stream.len() as u32, length + 1));
+        stream.extend(points(&deltas(ring)));
+    }
+    let sections = [
+        (NAMES, names_section(names)),
+        (TZDIR, listed(0, polygons.len() as u32).repeat(names.len())),
+        (POLYDIR, polydir),
+        (RINGDIR, ringdir),
+        (RINGOPS, words(&(0..count).collect::<Vec<_>>())),
+        (GROUPDIR, groupdir),
+        (CHUNKDIR, chunks),
+        (POINTS, stream),
+    ];
+    whole(names.len(), &sections).0
+}
+
+/// The first point, then the steps from each to the next, and back to the first.
+fn deltas(ring: &[Point]) -> Vec<Point> {
+    let closed = ring.iter().chain(&ring[..1]);
+    let before = [(0, 0)].iter().chain(ring);
+    closed.zip(before).map(|(to, from)| (to.0 - from.0, to.1 - from.1)).collect()
+}
+
+/// The least box.
+fn box_of(points: impl Iterator<Item = Point> + Clone) -> Vec<u8> {
+    let (x, y) = (points.clone().map(|p| p.0), points.map(|p| p.1));
+    let sides = [x.clone().min(), y.clone().min(), x.max(), y.max()];
+    sides.iter().flat_map(|side| side.unwrap().to_le_bytes()).collect()
+}
+
+/// A file of these sections, by type, and where each of them starts.
+fn whole(zones: usize, sections: &[(usize, Vec<u8>)]) -> (Vec<u8>, [usize; 10]) {
+    let mut bytes = header(zones as u32, sections.len() as u32);
+    bytes.resize(64 + 16 * sections.len(), 0);
+    let mut starts = [0; 10];
+    for (place, (kind, section)) in sections.iter().enumerate() {
+        bytes.resize(bytes.len().next_multiple_of(4), 0);
+        starts[*kind] = bytes.len();
+        let entry = words(&[*kind as u32, bytes.len() as u32, section.len() as u32, 0]);
+        bytes[64 + 16 * place..][..16].copy_from_slice(&entry);
+        bytes.extend_from_slice(section);
+    }
+    bytes.extend_from_slice(&[0; 4]);
+    let size = bytes.len() as u32;
+    bytes[16..20].copy_from_slice(&size.to_le_bytes());
+    repair(&mut bytes);
+    (bytes, starts)
 }
 
 /// A copy with these bytes at a place of the file, and the right sum.
