@@ -2,7 +2,6 @@
 
 mod asking;
 pub mod hostile;
-#[cfg(feature = "map")]
 pub mod map;
 pub mod zones;
 

@@ -29,17 +29,14 @@ oracle compare asking FILE.tzb [SECONDS [SEED]]
 oracle compare exact [SECONDS [SEED]]
 oracle compare exact FILE.tzb [SECONDS [SEED]]
 oracle compare wide [SECONDS [SEED]]
+oracle compare map [SECONDS [SEED]]
 oracle load [INPUTS [SEED]] [--from NUMBER]
 oracle stack [SEED]
 oracle short [SECONDS [SEED]]
 oracle lists FOLDER
 oracle bench [FILE.tzb [ROWS]]
 oracle bench sections
-oracle bench zones";
-
-/// What a build with the feature `map` can do besides.
-const USAGE_OF_MAP: &str = "
-oracle compare map [SECONDS [SEED]]
+oracle bench zones
 oracle bench map FILE.tzb";
 
 fn main() {
@@ -65,11 +62,8 @@ fn main() {
         ["compare", "tables", seconds, seed] => {
             compare::files::tables(number(seconds), number(seed))
         }
-        #[cfg(feature = "map")]
         ["compare", "map"] => compare::map::run(60, random::fresh_seed()),
-        #[cfg(feature = "map")]
         ["compare", "map", seconds] => compare::map::run(number(seconds), random::fresh_seed()),
-        #[cfg(feature = "map")]
         ["compare", "map", seconds, seed] => compare::map::run(number(seconds), number(seed)),
         ["compare", "wide"] => compare::wide::run(60, random::fresh_seed()),
         ["compare", "wide", seconds] => compare::wide::run(number(seconds), random::fresh_seed()),
@@ -88,7 +82,6 @@ fn main() {
         ["bench"] => bench::run(None, ""),
         ["bench", "sections"] => bench::hostile::run(),
         ["bench", "zones"] => bench::zones::run(),
-        #[cfg(feature = "map")]
         ["bench", "map", file] => bench::map::run(file.as_ref()),
         ["bench", file] => bench::run(Some(file.as_ref()), ""),
         ["bench", file, rows] => bench::run(Some(file.as_ref()), rows),
@@ -112,7 +105,6 @@ fn short(seconds: u64, seed: u64) {
     compare::short(seconds, seed);
     compare::wide::short(seconds, seed);
     compare::asking::short(seconds, seed);
-    #[cfg(feature = "map")]
     compare::map::short(seconds, seed);
     load::short(5000 * seconds, seed);
     stack::short(seed);
@@ -133,6 +125,6 @@ fn number(word: &str) -> u64 {
 }
 
 fn usage() -> ! {
-    eprintln!("{USAGE}{}", if cfg!(feature = "map") { USAGE_OF_MAP } else { "" });
+    eprintln!("{USAGE}");
     std::process::exit(2)
 }

@@ -4,7 +4,6 @@ pub mod asking;
 pub mod exports;
 #[cfg(test)]
 mod header;
-#[cfg(any(test, feature = "map"))]
 pub mod map;
 pub mod opening;
 

@@ -16,6 +16,7 @@ pub record Below (w : Width) (z : ℤ) : Type 0 where
   pub size : ℕ
   pub small : size < 2 ^ hbits w
   pub turned : toZ w (2 ^ bits w - 1 - ofZ w z) ≡ pos size
+  pub minus : z ≡ negsuc size
   pub back : 2 ^ bits w - 1 - size ≡ ofZ w z
 
 pub below : (w : Width) (z : ℤ) → SFits w z → ltZ (toZ w (ofZ w z)) (pos 0) ≡ true → Below w z
@@ -25,7 +26,7 @@ below w z f t = at z (f .sfits) (rw (toZ-ofZ w z f) at t)
     at (negsuc n) h e =
         let l = half-full w h in
         let same : 2 ^ bits w - 1 - (2 ^ bits w - suc n) ≡ n = omega arith in
-        record { size = n; small = h; turned = ap (toZ w) same ∙ toZ-pos w n h; back = omega arith }
+        record { size = n; small = h; turned = ap (toZ w) same ∙ toZ-pos w n h; minus = refl; back = omega arith }
     at (pos n) h e = absurd (omega (arith, ltb-true n 0 e))
 
 -- one that is not below 0 is its own bits
@@ -33,11 +34,12 @@ pub record Above (w : Width) (z : ℤ) : Type 0 where
   pub size : ℕ
   pub small : size < 2 ^ hbits w
   pub is : toZ w (ofZ w z) ≡ pos size
+  pub plain : z ≡ pos size
   pub own : size ≡ ofZ w z
 
 pub above : (w : Width) (z : ℤ) → SFits w z → ltZ (toZ w (ofZ w z)) (pos 0) ≡ false → Above w z
 above w z f t = at z (f .sfits) (rw (toZ-ofZ w z f) at t)
   where
     at : (y : ℤ) → mag y < 2 ^ hbits w → ltZ y (pos 0) ≡ false → Above w y
-    at (pos n) h e = record { size = n; small = h; is = toZ-pos w n h; own = refl }
+    at (pos n) h e = record { size = n; small = h; is = toZ-pos w n h; plain = refl; own = refl }
     at (negsuc n) h e = let no : _≡_ {A = ℕ} 0 1 = cc in absurd (omega arith)

@@ -3,4 +3,3 @@ pub mod Back
 pub mod Lengths
 pub mod Determined
 pub mod OverLaws
-pub mod Signs

@@ -20,7 +20,6 @@ struct Met {
     bytes: u64,
 }
 
-#[cfg(feature = "map")]
 impl Met {
     fn print(&self) {
         for (&number, count) in &self.said {
@@ -190,7 +189,6 @@ impl Run {
     }
 }
 
-#[cfg(feature = "map")]
 mod with_the_archive {
     use super::*;
     use crate::compare::stop;
@@ -233,7 +231,6 @@ mod with_the_archive {
     }
 }
 
-#[cfg(feature = "map")]
 pub use with_the_archive::{run, short};
 
 #[cfg(test)]

@@ -5,7 +5,6 @@ mod checksum;
 pub mod exact;
 pub mod files;
 mod geometry;
-#[cfg(any(test, feature = "map"))]
 pub mod map;
 mod panel;
 mod sides;

@@ -1,11 +1,9 @@
 //! Files for a zone's text (document 02, 2026-01): small ones with what is expected by hand, long rings, and random ones.
 
-#[cfg(any(test, feature = "map"))]
 mod long;
 mod some;
 mod tables;
 
-#[cfg(any(test, feature = "map"))]
 pub use long::long;
 pub use some::some;
 

@@ -1,7 +1,6 @@
 //! One input through every export. What is wrong with an answer, or with lent memory after it, is told.
 
 use super::Tally;
-#[cfg(feature = "map")]
 use super::fence::PAGE;
 use super::fence::{Lent, Room};
 use super::inputs::{Input, LONGEST, SHORT};
@@ -97,13 +96,11 @@ impl Caller {
         let rule = unsafe { (self.call(Export::FullCheckRule).full_check_rule)(f, length) };
         let rules = if check == -1047 { 2..=6 } else { 0..=0 };
         hold(rules.contains(&rule), || format!("rule {rule}, where the full check says {check}"))?;
-        #[cfg(feature = "map")]
         self.maps(input, (f, length), check.into())?;
         Ok(said.map(|_| record))
     }
 
     /// A zone's length, then its text. The full check's refusal comes first; 46 comes last, and never without room.
-    #[cfg(feature = "map")]
     fn maps(&mut self, input: &Input, (f, length): Slice, check: i64) -> Result<(), String> {
         let (zone, guard) = (input.zone, input.guard);
         let long = unsafe { (self.call(Export::MapLength).map_length)(f, length, zone) };

@@ -218,7 +218,6 @@ fn a_wrong_export_is_found_out() {
     assert!(told(Exports { contains: contains_that_says_two, ..PORT }).is_some());
 }
 
-#[cfg(feature = "map")]
 unsafe extern "C" fn map_that_writes_where_it_refuses(
     file: *const u8,
     length: usize,
@@ -233,7 +232,6 @@ unsafe extern "C" fn map_that_writes_where_it_refuses(
     code
 }
 
-#[cfg(feature = "map")]
 unsafe extern "C" fn map_that_writes_one_behind(
     file: *const u8,
     length: usize,
@@ -248,13 +246,11 @@ unsafe extern "C" fn map_that_writes_one_behind(
     code
 }
 
-#[cfg(feature = "map")]
 unsafe extern "C" fn length_that_is_one_more(file: *const u8, length: usize, zone: u32) -> i64 {
     let code = unsafe { (PORT.map_length)(file, length, zone) };
     if code > 0 { code + 1 } else { code }
 }
 
-#[cfg(feature = "map")]
 #[test]
 fn a_wrong_map_is_found_out() {
     let changed = |exports| told(exports).is_some_and(|what| what.contains("changed"));

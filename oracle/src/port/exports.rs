@@ -63,11 +63,9 @@ exports! {
     ) -> i64;
     FullCheck full_check: unsafe fn tzb_full_check(file: Bytes, length: usize) -> i32;
     FullCheckRule full_check_rule: unsafe fn tzb_full_check_rule(file: Bytes, length: usize) -> u32;
-    #[cfg(feature = "map")]
     Map map: unsafe fn tzb_map(
         file: Bytes, length: usize, zone: u32, out: *mut u8, room: usize
     ) -> i64;
-    #[cfg(feature = "map")]
     MapLength map_length: unsafe fn tzb_map_length(file: Bytes, length: usize, zone: u32) -> i64;
     Number number: unsafe fn tzb_number(data: Bytes, length: usize, at: usize) -> i32;
     NumberLength number_length: unsafe fn tzb_number_length(

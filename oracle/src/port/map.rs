@@ -1,6 +1,5 @@
 //! A zone's text by the port. The two exports stand in a table, so that a test can put others in their place.
 
-#[cfg(feature = "map")]
 use super::exports::{tzb_map, tzb_map_length};
 use super::opening::{CHANGED, said, unless_changed};
 use crate::rules::Said;
@@ -14,7 +13,6 @@ pub struct Maps {
     pub map_length: MapLength,
 }
 
-#[cfg(feature = "map")]
 pub const PORT: Maps = Maps { map: tzb_map, map_length: tzb_map_length };
 
 /// What lent memory holds before, and where nothing may be written. No text has it.

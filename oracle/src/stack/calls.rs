@@ -15,7 +15,6 @@ pub struct Lent {
     ends: Vec<u64>,
     points: Vec<i32>,
     zones: Vec<u32>,
-    #[cfg(feature = "map")]
     text: Vec<u8>,
 }
 
@@ -27,7 +26,6 @@ impl Lent {
             ends: vec![0; 2],
             points: vec![0; 2 * 65_535],
             zones: vec![0; 65_535],
-            #[cfg(feature = "map")]
             text: vec![0; 0x40_0000],
         }
     }
@@ -76,7 +74,6 @@ fn fixed(random: &mut Random) -> Vec<Vec<u8>> {
     files.extend(file::chunks().into_iter().map(|(_, file)| file));
     files.extend(file::departing().into_iter().map(|(_, file)| file));
     // Zones that have a text: of one group and of several, of long rings too.
-    #[cfg(feature = "map")]
     files.extend(file::maps::cases().into_iter().chain(file::maps::long()).map(|case| case.file));
     // Many zones at a point, more than the 16 that are kept, and more than the 256 of a block.
     files.extend([17, 300, 1000].map(many_zones));
@@ -146,7 +143,6 @@ fn of_file(
     let record = lent.record.as_mut_ptr() as u64;
     call(Export::FullCheck, full_check as *const (), &[f, length], none);
     call(Export::FullCheckRule, full_check_rule as *const (), &[f, length], none);
-    #[cfg(feature = "map")]
     for zone in [0, 1, random.below(500) as u64] {
         let (text, room) = (lent.text.as_mut_ptr() as u64, lent.text.len() as u64);
         let Exports { map, map_length, .. } = PORT;

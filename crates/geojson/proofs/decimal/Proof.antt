@@ -1,19 +1,25 @@
 -- `geojson::decimal` meets its contract: the minus where the number is below 0, and the number without its sign behind it.
 -- Assumes nothing.
-use Prim.Native.Nat.{_+_}
+use Prim.Native.Nat.{ℕ, suc, _+_}
 use native.Mathlib.Omega.{arith}
 use native.Mathlib.Nat.{add-zero}
-use mathlib.Core.Path.{sym, ap, _∙_}
-use lib.IntN.{ℤ, natAbs}
+use mathlib.Core.Path.{_≡_, sym, ap, _∙_}
+use lib.IntN.{ℤ, negsuc, natAbs}
 use lib.Signed.{natAbs-le}
 use mir.Syntax.{w32}
 use borrow.Author.Needs.{needs}
-use Rattle.geojson.specs.Decimals.{hundredThousandths, decimal}
+use Rattle.geojson.specs.Decimals.{hundredThousandths, minus, decimal}
 use Rattle.geojson.proofs.OverLaws.{over-none, near, wrote, being, _behind_}
 use Rattle.geojson.proofs.Lengths.{decimal-most}
-use Rattle.geojson.proofs.Signs.{below, above}
+use Rattle.fields.proofs.Signs.{below, above}
 use Rattle.geojson.proofs.decimal.Statement.{statement}
 use Rattle.geojson.proofs.decimal.Tie as tie
+
+-- the size of a number below 0
+size-below : (n : ℕ) (z : ℤ) → z ≡ negsuc n → n + 1 ≡ natAbs z
+size-below n z e =
+    let next : n + 1 ≡ suc n = omega arith in
+    next ∙ sym (ap natAbs e)
 
 put-requires : tie.Need-put-requires
 put-requires c κs = search needs
@@ -41,8 +47,8 @@ returns c =
     let test = sign .before .before in
     let a = test .before .before in
     let b = below w32 (a .args .x) (a .fits .x) (test .if1 .taken) in
-    let w = being (b .told) (wrote (sign .put .ensures .0) (sign .put .ensures .1))
-    behind being (ap hundredThousandths (ap (λ (z : ℤ). natAbs z + 1) (b .turned) ∙ b .own)) (wrote (c .before .before .hundred-thousandths .ensures .0) (c .before .before .hundred-thousandths .ensures .1)) in
+    let w = being (sym (ap minus (b .minus))) (wrote (sign .put .ensures .0) (sign .put .ensures .1))
+    behind being (ap hundredThousandths (ap (λ (z : ℤ). natAbs z + 1) (b .turned) ∙ size-below _ _ (b .minus))) (wrote (c .before .before .hundred-thousandths .ensures .0) (c .before .before .hundred-thousandths .ensures .1)) in
     (w .next, near _ _ _ _ (w .next) (decimal-most (a .args .x) (natAbs-le (a .args .x) (a .fits .x .sfits))), w .is)
 
 cast-hundred-thousandths-2 : tie.Need-cast-hundred-thousandths-2
@@ -61,8 +67,8 @@ unfolding decimal
 returns-2 c =
     let a = c .before .before .before .before .before .before in
     let b = above w32 (a .args .x) (a .fits .x) (c .before .before .before .before .if1 .left) in
-    let w = being (b .told) (wrote (sym (add-zero _)) (sym (over-none _ _)))
-    behind being (ap hundredThousandths (ap natAbs (b .is) ∙ b .own)) (wrote (c .before .before .hundred-thousandths2 .ensures .0) (c .before .before .hundred-thousandths2 .ensures .1)) in
+    let w = being (sym (ap minus (b .plain))) (wrote (sym (add-zero _)) (sym (over-none _ _)))
+    behind being (ap hundredThousandths (ap natAbs (b .is) ∙ sym (ap natAbs (b .plain)))) (wrote (c .before .before .hundred-thousandths2 .ensures .0) (c .before .before .hundred-thousandths2 .ensures .1)) in
     (w .next, near _ _ _ _ (w .next) (decimal-most (a .args .x) (natAbs-le (a .args .x) (a .fits .x .sfits))), w .is)
 
 pub decimal-spec : {M : Type 1} → statement M

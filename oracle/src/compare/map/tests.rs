@@ -141,7 +141,6 @@ fn a_port_that_differs_is_found_out() {
     assert!(found(Maps { map_length: length_with_46, ..STAND_IN }).is_some());
 }
 
-#[cfg(feature = "map")]
 #[test]
 fn the_port_is_not_found_fault_with() {
     assert_eq!(found(crate::port::map::PORT), None);
