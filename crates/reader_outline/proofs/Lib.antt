@@ -1,0 +1,2 @@
+-- Points in lent numbers, and what is strung of them.
+pub mod Spots
