@@ -1,0 +1,114 @@
+-- The text read: no code does this. Document 02: "Read by a definition of decimals (no new entry point), the text gives the same whole numbers."
+-- A reader takes a value off the front of a text and says what stands behind it; `none` where the text has another form.
+-- Assumes nothing.
+use Prim.Native.Nat.{ℕ, zero, suc, _+_, _-_, _*_}
+use mathlib.Core.Bool.{Bool, false, _&&_, cond}
+use mathlib.Core.List.{List, [], _∷_}
+use mathlib.Core.Option.{Option, none, some}
+use lib.Dec.{leb, eqb}
+use lib.ListN.{length}
+use lib.IntN.{ℤ, pos, negℤ}
+use Rattle.plane.specs.declared.I32Point.{I32Point}
+use Rattle.plane.specs.Places.{point}
+use Rattle.geojson.specs.Ascii.{ascii}
+use Rattle.geojson.specs.Text.{headText, tailText}
+
+abbrev pub Reader : Type 0 → Type 0
+Reader A = List ℕ → Option (A × List ℕ)
+
+-- one reader behind another
+infixl 20 _onto_
+abbrev pub _onto_ : {A B : Type 0} → Option A → (A → Option B) → Option B
+none onto f = none
+(some a) onto f = f a
+
+-- what stands behind these bytes
+unfoldable pub past : List ℕ → List ℕ → Option (List ℕ)
+past [] s = some s
+past (b ∷ t) [] = none
+past (b ∷ t) (x ∷ s) = cond (eqb x b) (past t s) none
+
+-- ---- decimals
+abbrev pub isDigit : ℕ → Bool
+isDigit b = leb 48 b && leb b 57
+
+abbrev pub beginsWithDigit : List ℕ → Bool
+beginsWithDigit [] = false
+beginsWithDigit (b ∷ s) = isDigit b
+
+-- n with one digit more
+abbrev pub withDigit : ℕ → ℕ → ℕ
+withDigit n b = 10 * n + (b - 48)
+
+-- n with all the digits that stand in front
+unfoldable pub allDigits : ℕ → List ℕ → ℕ × List ℕ
+allDigits n [] = (n, [])
+allDigits n (b ∷ s) = cond (isDigit b) (allDigits (withDigit n b) s) (n, b ∷ s)
+
+-- n with k digits
+unfoldable pub kDigits : ℕ → ℕ → Reader ℕ
+kDigits zero n s = some (n, s)
+kDigits (suc k) n [] = none
+kDigits (suc k) n (b ∷ s) = cond (isDigit b) (kDigits k (withDigit n b) s) none
+
+-- one digit or more, the point, five digits: with the point left out, how many hundred-thousandths it is
+unfoldable pub readPoint : ℕ × List ℕ → Option (ℕ × List ℕ)
+readPoint w = past (ascii ".") (w .1) onto λ s. kDigits 5 (w .0) s
+
+unfoldable pub readSize : Reader ℕ
+readSize s = cond (beginsWithDigit s) (readPoint (allDigits 0 s)) none
+
+unfoldable pub readSigned : Option (List ℕ) → Reader ℤ
+readSigned (some t) s = readSize t onto λ n. some (negℤ (pos (n .0)), n .1)
+readSigned none s = readSize s onto λ n. some (pos (n .0), n .1)
+
+unfoldable pub readDecimal : Reader ℤ
+readDecimal s = readSigned (past (ascii "-") s) s
+
+-- ---- positions
+unfoldable pub readPosition : Reader I32Point
+readPosition s =
+    past (ascii "[") s
+    onto (λ t. readDecimal t
+    onto (λ x. past (ascii ",") (x .1)
+    onto (λ u. readDecimal u
+    onto (λ y. past (ascii "]") (y .1)
+    onto (λ v. some (point (x .0) (y .0), v))))))
+
+-- ---- arrays of what a reader reads
+-- an element in front of the others
+abbrev pub inFront : {A : Type 0} → A → Option (List A × List ℕ) → Option (List A × List ℕ)
+inFront a none = none
+inFront a (some r) = some (a ∷ r .0, r .1)
+
+module _ {A : Type 0} (read : Reader A) where
+  -- behind an element, at most n others
+  unfoldable pub readOthers : ℕ → Reader (List A)
+  readOthers zero s = none
+  readOthers (suc n) [] = none
+  readOthers (suc n) (b ∷ s) =
+      cond (eqb b 93) (some ([], s))
+      (cond (eqb b 44) (read s onto λ a. inFront (a .0) (readOthers n (a .1))) none)
+
+  unfoldable pub readElements : Reader (List A)
+  readElements s = read s onto λ a. inFront (a .0) (readOthers (length (a .1)) (a .1))
+
+  -- "]" at once, or elements
+  unfoldable pub readInside : Option (List ℕ) → Reader (List A)
+  readInside (some t) s = some ([], t)
+  readInside none s = readElements s
+
+  unfoldable pub readListed : Reader (List A)
+  readListed s = past (ascii "[") s onto λ t. readInside (past (ascii "]") t) t
+
+-- ---- the whole text, and nothing behind it
+abbrev pub atEnd : {A : Type 0} → A × List ℕ → Option A
+atEnd (a, []) = some a
+atEnd (a, b ∷ s) = none
+
+unfoldable pub readMap : List ℕ → Option (List (List (List I32Point)))
+readMap s =
+    past headText s
+    onto (λ t. readListed (readListed (readListed readPosition)) t
+    onto (λ z. past tailText (z .1)
+    onto (λ u. atEnd (z .0, u))))
