@@ -1,0 +1,81 @@
+// A ring's positions read from the file into lent numbers, two a position, and its outline. Asked only of a file that the full check accepts.
+ghost use mathlib.Core.Path.{_≡_};
+ghost use mathlib.Core.Bool.{true};
+ghost use mathlib.Core.List.{[], _++_, map};
+ghost use Prim.Native.Nat.{_+_, _*_, _≤_, _<_};
+ghost use lib.ListN.{length, set, getD};
+ghost use lib.IntN.{natAbs, _*ℤ_, _+ℤ_};
+ghost use Rattle.plane.specs.Domain.{inDomain};
+ghost use Rattle.plane.specs.Lines.{every, origin};
+ghost use Rattle.plane.specs.Runs.{run};
+ghost use Rattle.shapes.specs.Shapes.{chunkPoints, legPoints};
+ghost use Rattle.shapes.specs.Layout.{legAt};
+ghost use Rattle.shapes.specs.Outline.{closed, swept, doubledArea, drawable};
+ghost use Rattle.reader_exact.specs.Directories.{chunkShape, directories};
+ghost use Rattle.reader_outline.specs.Held.{spots, pointsIn};
+ghost use Rattle.reader_outline.specs.Told.{Ready, filledTold, outlinedTold, counted, Keeps, positionsAt, outlineAt};
+ghost use Rattle.reader_outline.specs.Steps.{rowPoints, sidePoints, entryOf, joinedOn, legsOn, Starts, turnedIn};
+use answer::Checked;
+use answer::Refusal;
+use opened::Opened;
+use plane::I32Point;
+use reader_records::ChunkAt;
+use reader_records::GroupAt;
+use reader_records::GroupRecord;
+use reader_records::OpAt;
+use reader_records::RingAt;
+
+// How many positions the lent numbers hold.
+pub enum Filled {
+    Upto(usize),
+    Refused(Refusal),
+}
+
+// The same of a ring that can be drawn, and whether they are written backwards.
+pub enum Outlined {
+    Drawn(usize, bool),
+    Refused(Refusal),
+}
+
+// The point at a place.
+fn point_at(held: &[i32], i: usize) -> I32Point
+    requires { ⌜ 2 * i + 1 < length (now held) ⌝ }
+    ensures { λ r. ⌜ r ≡ getD (spots (now (held .entry))) i origin ⌝ }
+{
+    let j = 2 * i;
+    let k = j + 1;
+    I32Point {
+        x: held[j],
+        y: held[k],
+    }
+}
+
+// A point put at a place.
+fn put_at(held: &mut [i32], i: usize, q: I32Point)
+    requires { ⌜ 2 * i + 1 < length (now held) ⌝ }
+    ensures { λ _. ⌜ spots (now (held .exit)) ≡ set (spots (now (held .entry))) i q ⌝ }
+{
+    let x = q.x;
+    let y = q.y;
+    let j = 2 * i;
+    let k = j + 1;
+    held[j] = x;
+    held[k] = y;
+}
+
+// The points from one place to another turned round, in place.
+fn turn_round(held: &mut [i32], from: usize, to: usize)
+    requires { ⌜ (from ≤ to) × (2 * to ≤ length (now held)) ⌝ }
+    ensures { λ _. ⌜ spots (now (held .exit)) ≡ turnedIn (spots (now (held .entry))) from to ⌝ }
+{
+    let mut i = from;
+    let mut j = to;
+    while i + 1 < j {
+        j -= 1;
+        let p = point_at(held, i);
+        let q = point_at(held, j);
+        put_at(held, i, q);
+        put_at(held, j, p);
+        i += 1;
+    }
+}
