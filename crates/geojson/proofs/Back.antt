@@ -18,8 +18,26 @@ use Rattle.geojson.specs.Ascii.{ascii}
 use Rattle.geojson.specs.Decimals.{lastDigit, digitsBy, digits, places, hundredThousandths, minus, decimal}
 use Rattle.geojson.specs.Text.{others, listed, positionText, ringText, polygonText, headText, tailText, mapText}
 use Rattle.geojson.specs.Reading.{
-  Reader, _onto_, past, isDigit, beginsWithDigit, withDigit, allDigits, kDigits, readPoint, readSize, readSigned, readDecimal, readPosition, readOthers,
-  inFront, readElements, readInside, readListed, atEnd, readMap,
+  Reader,
+  _onto_,
+  past,
+  isDigit,
+  beginsWithDigit,
+  withDigit,
+  allDigits,
+  kDigits,
+  readPoint,
+  readSize,
+  readSigned,
+  readDecimal,
+  readPosition,
+  readOthers,
+  inFront,
+  readElements,
+  readInside,
+  readListed,
+  atEnd,
+  readMap,
 }
 
 -- ---- bytes that are there
@@ -233,7 +251,11 @@ map-back z =
     let polygons = readListed (readListed (readListed readPosition)) in
     let opens = listed-opens ringText (readListed readPosition) ring-back (listed-opens positionText readPosition position-back position-opens) in
     ap (λ o. o onto λ t. polygons t onto λ m. past tailText (m .1) onto λ u. atEnd (m .0, u))
-      (ap (past headText) (append-assoc headText (listed polygonText z) tailText) ∙ past-back headText (listed polygonText z ++ tailText))
+    (ap (past headText) (append-assoc headText (listed polygonText z) tailText) ∙ past-back headText (listed polygonText z ++ tailText))
     ∙ ap (λ o. o onto λ m. past tailText (m .1) onto λ u. atEnd (m .0, u))
-      (listed-back polygonText (readListed (readListed readPosition)) polygon-back opens z tailText)
+    (listed-back polygonText (readListed (readListed readPosition)) polygon-back opens z tailText)
     ∙ ap (λ o. o onto λ u. atEnd (z, u)) (past-back tailText [])
+
+-- so two maps with the same text are one
+pub one-map : (z z' : List (List (List I32Point))) → mapText z ≡ mapText z' → z ≡ z'
+one-map z z' e = let h = map-back z in let h' = map-back z' in let k = ap readMap e in cc

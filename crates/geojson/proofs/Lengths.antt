@@ -111,10 +111,12 @@ places-placed r p n e = e ∙ ap (λ (k : ℕ). p + k) (sym (places-length 5 n))
 pub size-length : (n : ℕ) → length (hundredThousandths n) ≡ length (digits (n / 100_000)) + 6
 unfolding hundredThousandths
 size-length n =
-    omega (arith,
+    omega (
+      arith,
       length-append (digits (n / 100_000) ++ ascii ".") (places 5 (n % 100_000)),
       length-append (digits (n / 100_000)) (ascii "."),
-      places-length 5 (n % 100_000))
+      places-length 5 (n % 100_000),
+    )
 
 pub long-is : (k n : ℕ) → low k ≤ n / 100_000 → n / 100_000 < unit (suc k) → suc k + 6 ≡ length (hundredThousandths n)
 long-is k n l u = ap (λ (m : ℕ). m + 6) (sym (digits-length k (n / 100_000) l u)) ∙ sym (size-length n)
@@ -133,10 +135,12 @@ decimal-most x h = omega (arith, length-append (minus x) (hundredThousandths (na
 pub position-most : (q : I32Point) → natAbs (q .x) ≤ 2_147_483_648 → natAbs (q .y) ≤ 2_147_483_648 → length (positionText q) ≤ 27
 unfolding positionText
 position-most q h k =
-    omega (arith,
+    omega (
+      arith,
       length-append (ascii "[" ++ decimal (q .x) ++ ascii "," ++ decimal (q .y)) (ascii "]"),
       length-append (ascii "[" ++ decimal (q .x) ++ ascii ",") (decimal (q .y)),
       length-append (ascii "[" ++ decimal (q .x)) (ascii ","),
       length-append (ascii "[") (decimal (q .x)),
       decimal-most (q .x) h,
-      decimal-most (q .y) k)
+      decimal-most (q .y) k,
+    )

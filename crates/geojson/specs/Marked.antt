@@ -1,13 +1,15 @@
--- Document 02's triangle, and decimals at their bounds: computed from the definitions.
+-- Document 02's triangle, decimals at their bounds, and texts that are not read: computed from the definitions.
 -- Assumes nothing.
 use mathlib.Core.Path.{_≡_, refl}
 use mathlib.Core.List.{List, [], _∷_}
+use mathlib.Core.Option.{none}
 use lib.IntN.{ℤ, pos, negsuc}
 use Rattle.plane.specs.declared.I32Point.{I32Point}
 use Rattle.plane.specs.Places.{point}
 use Rattle.geojson.specs.Ascii.{ascii}
 use Rattle.geojson.specs.Decimals.{decimal, digits, digitsBy, places, hundredThousandths}
 use Rattle.geojson.specs.Text.{others, listed, positionText, mapText}
+use Rattle.geojson.specs.Reading.{past, allDigits, kDigits, readPoint, readSize, readSigned, readDecimal, readPosition}
 
 -- a ring of GeoJSON ends where it begins
 abbrev pub triangle : List (List (List I32Point))
@@ -43,3 +45,19 @@ far-west = refl
 pub south-pole : decimal (negsuc 8_999_999) ≡ ascii "-90.00000"
 unfolding decimal hundredThousandths digits digitsBy places
 south-pole = refl
+
+pub four-decimals : readDecimal (ascii "0.0000") ≡ none
+unfolding past allDigits kDigits readPoint readSize readSigned readDecimal
+four-decimals = refl
+
+pub no-whole-part : readDecimal (ascii ".00000") ≡ none
+unfolding past allDigits kDigits readPoint readSize readSigned readDecimal
+no-whole-part = refl
+
+pub no-point : readDecimal (ascii "000000") ≡ none
+unfolding past allDigits kDigits readPoint readSize readSigned readDecimal
+no-point = refl
+
+pub six-decimals : readPosition (ascii "[0.000000,0.00000]") ≡ none
+unfolding past allDigits kDigits readPoint readSize readSigned readDecimal readPosition
+six-decimals = refl

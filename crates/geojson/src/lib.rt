@@ -4,12 +4,12 @@ ghost use mathlib.Core.Path.{_≡_};
 ghost use mathlib.Core.List.{[], _∷_};
 ghost use Prim.Native.Nat.{_+_, _/_, _≤_, _<_};
 ghost use lib.ListN.{length};
-ghost use lib.IntN.{natAbs};
 ghost use Rattle.plane.specs.Places.{point};
-ghost use Rattle.geojson.specs.Decimals.{lastDigit, digits, places, hundredThousandths, minus, decimal};
+ghost use Rattle.geojson.specs.Decimals.{lastDigit, digits, places, hundredThousandths, decimal};
 ghost use Rattle.geojson.specs.Text.{positionText, headText, tailText};
 ghost use Rattle.geojson.specs.Over.{over};
 
+// One byte.
 pub fn put(out: &mut [u8], at: usize, b: u8) -> usize
     requires { ⌜ at < 0x8000_0000_0000_0000 ⌝ }
     ensures { λ r. ⌜ (r ≡ at + 1) × (now (out .exit) ≡ over (now (out .entry)) at (b ∷ [])) ⌝ }
@@ -23,6 +23,7 @@ pub fn put(out: &mut [u8], at: usize, b: u8) -> usize
 
 // ---- decimals
 
+// The last digit of n.
 fn digit(out: &mut [u8], at: usize, n: u32) -> usize
     requires { ⌜ at < 0x8000_0000_0000_0000 ⌝ }
     ensures { λ r. ⌜ (r ≡ at + 1) × (now (out .exit) ≡ over (now (out .entry)) at (lastDigit n)) ⌝ }
@@ -30,6 +31,7 @@ fn digit(out: &mut [u8], at: usize, n: u32) -> usize
     put(out, at, b'0' + (n % 10) as u8)
 }
 
+// All digits of n.
 fn digits(out: &mut [u8], at: usize, n: u32) -> usize
     requires { ⌜ at < 0x7000_0000_0000_0000 ⌝ }
     ensures { λ r. ⌜ (r ≡ at + length (digits n)) × (now (out .exit) ≡ over (now (out .entry)) at (digits n)) ⌝ }
@@ -41,6 +43,7 @@ fn digits(out: &mut [u8], at: usize, n: u32) -> usize
     digit(out, next, n)
 }
 
+// Its last five digits, with the zeros before them.
 fn five_places(out: &mut [u8], at: usize, n: u32) -> usize
     requires { ⌜ at < 0x7000_0000_0000_0000 ⌝ }
     ensures { λ r. ⌜ (r ≡ at + 5) × (now (out .exit) ≡ over (now (out .entry)) at (places 5 n)) ⌝ }
@@ -69,6 +72,7 @@ fn long(n: u32) -> usize
     }
 }
 
+// n hundred-thousandths.
 fn hundred_thousandths(out: &mut [u8], at: usize, n: u32) -> usize
     requires { ⌜ at < 0x6000_0000_0000_0000 ⌝ }
     ensures { λ r. ⌜ (r ≡ at + length (hundredThousandths n)) × (now (out .exit) ≡ over (now (out .entry)) at (hundredThousandths n)) ⌝ }
@@ -82,38 +86,22 @@ fn hundred_thousandths(out: &mut [u8], at: usize, n: u32) -> usize
     five_places(out, first, n % 100_000)
 }
 
-fn minus(out: &mut [u8], at: usize, x: i32) -> usize
-    requires { ⌜ at < 0x8000_0000_0000_0000 ⌝ }
-    ensures { λ r. ⌜ (r ≡ at + length (minus x)) × (now (out .exit) ≡ over (now (out .entry)) at (minus x)) ⌝ }
-{
-    if x < 0 {
-        put(out, at, b'-')
-    } else {
-        at
-    }
-}
-
-fn size(x: i32) -> u32
-    ensures { λ r. ⌜ (r ≡ natAbs x) × (r ≤ 0x8000_0000) ⌝ }
-{
-    // !x is -1 - x
-    if x < 0 {
-        (!x) as u32 + 1
-    } else {
-        x as u32
-    }
-}
-
+// Document 02: "five decimals always".
 pub fn decimal(out: &mut [u8], at: usize, x: i32) -> usize
     requires { ⌜ at < 0x5000_0000_0000_0000 ⌝ }
     ensures { λ r. ⌜ (r ≡ at + length (decimal x)) × (r ≤ at + 12) × (now (out .exit) ≡ over (now (out .entry)) at (decimal x)) ⌝ }
 {
-    let whole = minus(out, at, x);
-    hundred_thousandths(out, whole, size(x))
+    if x < 0 {
+        let whole = put(out, at, b'-');
+        // !x is -1 - x
+        return hundred_thousandths(out, whole, (!x) as u32 + 1);
+    }
+    hundred_thousandths(out, at, x as u32)
 }
 
 // ---- the pieces of the text
 
+// `[x,y]`
 pub fn position(out: &mut [u8], at: usize, x: i32, y: i32) -> usize
     requires { ⌜ at ≤ 0x4000_0000_0000_0000 ⌝ }
     ensures { λ r. ⌜ (r ≡ at + length (positionText (point x y))) × (r ≤ at + 27) × (now (out .exit) ≡ over (now (out .entry)) at (positionText (point x y))) ⌝ }
@@ -125,6 +113,7 @@ pub fn position(out: &mut [u8], at: usize, x: i32, y: i32) -> usize
     put(out, last, b']')
 }
 
+// A text as it stands.
 fn lay(out: &mut [u8], at: usize, text: &[u8]) -> usize
     requires { ⌜ (at ≤ 0x4000_0000_0000_0000) × (length (now text) ≤ 0x1000) ⌝ }
     ensures { λ r. ⌜ (r ≡ at + length (now (text .entry))) × (now (out .exit) ≡ over (now (out .entry)) at (now (text .entry))) ⌝ }
@@ -137,7 +126,7 @@ fn lay(out: &mut [u8], at: usize, text: &[u8]) -> usize
     at + i
 }
 
-// `{"type":"MultiPolygon","coordinates":` and `}`
+// What stands before the coordinates, and what stands behind them.
 pub fn head(out: &mut [u8], at: usize) -> usize
     requires { ⌜ at ≤ 0x4000_0000_0000_0000 ⌝ }
     ensures { λ r. ⌜ (r ≡ at + 37) × (now (out .exit) ≡ over (now (out .entry)) at headText) ⌝ }

@@ -62,3 +62,20 @@ fn put_at(held: &mut [i32], i: usize, q: I32Point)
     held[j] = x;
     held[k] = y;
 }
+
+// The points from one place to another turned round, in place.
+fn turn_round(held: &mut [i32], from: usize, to: usize)
+    requires { ⌜ (from ≤ to) × (2 * to ≤ length (now held)) ⌝ }
+    ensures { λ _. ⌜ spots (now (held .exit)) ≡ turnedIn (spots (now (held .entry))) from to ⌝ }
+{
+    let mut i = from;
+    let mut j = to;
+    while i + 1 < j {
+        j -= 1;
+        let p = point_at(held, i);
+        let q = point_at(held, j);
+        put_at(held, i, q);
+        put_at(held, j, p);
+        i += 1;
+    }
+}

@@ -29,10 +29,10 @@ returns : tie.Need-returns
 unfolding places
 returns c =
     let w = being (five _) (wrote (c .before .before .before .before .before .before .before .before .before .before .before .before .before .before .before .before .before .before .digit .ensures .0) (c .before .before .before .before .before .before .before .before .before .before .before .before .before .before .before .before .before .before .digit .ensures .1)
-        behind wrote (c .before .before .before .before .before .before .before .before .before .before .before .before .before .before .digit2 .ensures .0) (c .before .before .before .before .before .before .before .before .before .before .before .before .before .before .digit2 .ensures .1)
-        behind wrote (c .before .before .before .before .before .before .before .before .before .before .digit3 .ensures .0) (c .before .before .before .before .before .before .before .before .before .before .digit3 .ensures .1)
-        behind wrote (c .before .before .before .before .before .before .digit4 .ensures .0) (c .before .before .before .before .before .before .digit4 .ensures .1)
-        behind wrote (c .before .before .digit5 .ensures .0) (c .before .before .digit5 .ensures .1)) in
+    behind wrote (c .before .before .before .before .before .before .before .before .before .before .before .before .before .before .digit2 .ensures .0) (c .before .before .before .before .before .before .before .before .before .before .before .before .before .before .digit2 .ensures .1)
+    behind wrote (c .before .before .before .before .before .before .before .before .before .before .digit3 .ensures .0) (c .before .before .before .before .before .before .before .before .before .before .digit3 .ensures .1)
+    behind wrote (c .before .before .before .before .before .before .digit4 .ensures .0) (c .before .before .before .before .before .before .digit4 .ensures .1)
+    behind wrote (c .before .before .digit5 .ensures .0) (c .before .before .digit5 .ensures .1)) in
     (w .next, w .is)
 
 pub five-places-spec : {M : Type 1} → statement M

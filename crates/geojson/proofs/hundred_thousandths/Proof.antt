@@ -35,8 +35,8 @@ returns-2 : tie.Need-returns-2
 unfolding hundredThousandths
 returns-2 c =
     let w = wrote (c .before .before .before .before .before .before .before .before .before .before .digits .ensures .0) (c .before .before .before .before .before .before .before .before .before .before .digits .ensures .1)
-        behind wrote (c .before .before .before .before .before .before .put .ensures .0) (c .before .before .before .before .before .before .put .ensures .1)
-        behind wrote (places-placed _ _ _ (c .before .before .five-places .ensures .0)) (c .before .before .five-places .ensures .1) in
+    behind wrote (c .before .before .before .before .before .before .put .ensures .0) (c .before .before .before .before .before .before .put .ensures .1)
+    behind wrote (places-placed _ _ _ (c .before .before .five-places .ensures .0)) (c .before .before .five-places .ensures .1) in
     (w .next, w .is)
 
 pub hundred-thousandths-spec : {M : Type 1} → statement M

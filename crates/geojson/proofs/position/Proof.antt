@@ -39,10 +39,10 @@ returns c =
     let y = toZ-ofZ w32 (a .args .y) (a .fits .y) in
     let small = position-most (point (a .args .x) (a .args .y)) (natAbs-le (a .args .x) (a .fits .x .sfits)) (natAbs-le (a .args .y) (a .fits .y .sfits)) in
     let w = wrote (c .before .before .before .before .before .before .before .before .before .before .before .before .before .before .before .before .before .before .put .ensures .0) (c .before .before .before .before .before .before .before .before .before .before .before .before .before .before .before .before .before .before .put .ensures .1)
-        behind being (ap decimal x) (wrote (c .before .before .before .before .before .before .before .before .before .before .before .before .before .before .decimal .ensures .0) (c .before .before .before .before .before .before .before .before .before .before .before .before .before .before .decimal .ensures .2))
-        behind wrote (c .before .before .before .before .before .before .before .before .before .before .put2 .ensures .0) (c .before .before .before .before .before .before .before .before .before .before .put2 .ensures .1)
-        behind being (ap decimal y) (wrote (c .before .before .before .before .before .before .decimal2 .ensures .0) (c .before .before .before .before .before .before .decimal2 .ensures .2))
-        behind wrote (c .before .before .put3 .ensures .0) (c .before .before .put3 .ensures .1) in
+    behind being (ap decimal x) (wrote (c .before .before .before .before .before .before .before .before .before .before .before .before .before .before .decimal .ensures .0) (c .before .before .before .before .before .before .before .before .before .before .before .before .before .before .decimal .ensures .2))
+    behind wrote (c .before .before .before .before .before .before .before .before .before .before .put2 .ensures .0) (c .before .before .before .before .before .before .before .before .before .before .put2 .ensures .1)
+    behind being (ap decimal y) (wrote (c .before .before .before .before .before .before .decimal2 .ensures .0) (c .before .before .before .before .before .before .decimal2 .ensures .2))
+    behind wrote (c .before .before .put3 .ensures .0) (c .before .before .put3 .ensures .1) in
     (w .next, near _ _ _ _ (w .next) small, w .is)
 
 pub position-spec : {M : Type 1} → statement M
