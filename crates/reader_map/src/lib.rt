@@ -32,7 +32,7 @@ pub enum Text {
 // Where in the lent numbers the next of k positions stands, of which `left` are left.
 fn spot(back: bool, k: usize, left: usize) -> usize
     requires { ⌜ (0 < left) × (left ≤ k) × (k ≤ 10_000) ⌝ }
-    ensures { λ r. ⌜ r ≡ 2 * spotOf back k left ⌝ }
+    ensures { λ r. ⌜ (r ≡ 2 * spotOf back k left) × (r + 1 < 2 * k) ⌝ }
 {
     if back { 2 * (left - 1) } else { 2 * (k - left) }
 }
