@@ -16,6 +16,7 @@ use Rattle.answer.proofs.AnswersLaws.{need-met, need-not, need-inv, ok-inv, zer
 use Rattle.geojson.specs.Over.{over}
 use Rattle.geojson.proofs.OverLaws.{Written, wrote, _behind_, length-over}
 use Rattle.reader_map.specs.Steps.{toCome, Drawn}
+use Rattle.reader_map.proofs.Rows.{run-first}
 
 pub record Onward (out : List ℕ) (at : ℕ) (rest : List ℕ) (before : List ℕ) (from : ℕ) (whole : List ℕ) : Type 0 where
   pub laid : over out at rest ≡ over before from whole
@@ -89,11 +90,6 @@ unfolding toCome
 come-end text m zero i h = refl
 come-end text m (suc n) i h = absurd (omega arith)
 
-run-one : {A : Type 0} (g : ℕ → A) (n i : ℕ) → 0 < n → run g n i ≡ g i ∷ run g (n - 1) (i + 1)
-unfolding run
-run-one g zero i h = absurd (omega arith)
-run-one g (suc n) i h = let e : suc n - 1 ≡ n = omega arith in rw e
-
 run-none : {A : Type 0} (g : ℕ → A) (n i : ℕ) → n ≤ 0 → run g n i ≡ []
 unfolding run
 run-none g zero i h = refl
@@ -111,7 +107,7 @@ module _ {A : Type 0} {P : A → Bool} {g : ℕ → A} {text : ℕ → List ℕ}
     module _ (h : 0 < n) where
       -- what of the elements that are left can be drawn
       fits-one : P (g i) && every P (run g (n - 1) (i + 1)) ≡ every P (run g count first)
-      fits-one = ap (every P) (sym (run-one g n i h)) ∙ row .fits
+      fits-one = ap (every P) (sym (run-first g n i h)) ∙ row .fits
 
       -- a mark and an element more
       pub row-step : P (g i) ≡ true → {p : ℕ} {mid : List ℕ} → Written out at (m ∷ []) p mid → {q : ℕ} {after : List ℕ} → Written mid p (text i) q after → length (text i) + 1 ≤ each → Row P g text each count first from before 44 (n - 1) (i + 1) q after

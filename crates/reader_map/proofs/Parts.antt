@@ -32,7 +32,7 @@ use Rattle.reader_outline.specs.Held.{pointsIn}
 use Rattle.reader_outline.specs.Told.{positionsAt, outlineAt, Keeps}
 use Rattle.reader_map.specs.Steps.{toCome, way, ringFits, polygonFits, sides, sideText, partText}
 use Rattle.reader_map.proofs.Onward.{refused-need}
-use Rattle.reader_map.proofs.Rows.{listed-first, listed-row, map-run}
+use Rattle.reader_map.proofs.Rows.{listed-first, listed-row, run-first, map-run}
 
 -- ---- a ring
 drawable-some : (l : List I32Point) → drawable l ≡ true → 4 ≤ length l
@@ -59,7 +59,7 @@ module _ (o : Opened) (s : List ℕ) (i : ℕ) (hole : Bool) where
     unfolding outlineAt
     outline-fits = need-inv 48 (drawable (positionsAt o s i)) (ok (length (positionsAt o s i), backwards hole (positionsAt o s i))) (k, back) e .0
 
-    told : (k, back) ≡ (length (positionsAt o s i), backwards hole (positionsAt o s i))
+    told : _≡_ {A = ℕ × Bool} (k, back) (length (positionsAt o s i), backwards hole (positionsAt o s i))
     unfolding outlineAt
     told = ok-inv (k, back) (length (positionsAt o s i), backwards hole (positionsAt o s i)) (need-inv 48 (drawable (positionsAt o s i)) (ok (length (positionsAt o s i), backwards hole (positionsAt o s i))) (k, back) e .1)
 
@@ -79,6 +79,21 @@ module _ (o : Opened) (s : List ℕ) (i : ℕ) (hole : Bool) where
         let kept : pointsIn held k ≡ positionsAt o s i = ap (pointsIn held) count ∙ h (drawable-few (positionsAt o s i) outline-fits) in
         ap₂ (λ (b : Bool) (l : List I32Point). ringText (cond b (reverse l) l)) (ap (λ (t : ℕ × Bool). t .1) told) kept
 
+-- ---- texts by the places of rings and polygons
+sides-row : (o : Opened) (s : List ℕ) (first count : ℕ) → 0 < count → polygonText (outline false (ringAt (directories o s) first) ∷ map (outline true) (run (ringAt (directories o s)) (count - 1) (first + 1))) ≡ toCome (sideText o s first) 91 count first
+unfolding sideText
+sides-row o s first count h =
+    ap (λ (l : List (List I32Point)). polygonText (outline false (ringAt (directories o s) first) ∷ l)) (map-run (outline true) (ringAt (directories o s)) (count - 1) (first + 1))
+    ∙ listed-first ringText (outline false (ringAt (directories o s) first)) (λ (j : ℕ). outline true (ringAt (directories o s) j)) (sideText o s first) count first h
+    (ap (λ (b : Bool). ringText (outline b (ringAt (directories o s) first))) (sym (le-ltb first first (omega arith))))
+    (λ j l. ap (λ (b : Bool). ringText (outline b (ringAt (directories o s) j))) (sym (lt-ltb first j l)))
+
+parts-row : (o : Opened) (s : List ℕ) (first count : ℕ) → 0 < count → listed polygonText (map sides (run (polygonAt (directories o s)) count first)) ≡ toCome (partText o s) 91 count first
+unfolding partText
+parts-row o s first count h =
+    ap (listed polygonText) (map-run sides (polygonAt (directories o s)) count first)
+    ∙ listed-row polygonText (λ (j : ℕ). sides (polygonAt (directories o s) j)) (partText o s) count first h (λ j. refl)
+
 -- ---- a polygon: the rings that its record names
 module _ (o : Opened) (s : List ℕ) (sound : Sound o s) (i : ℕ) where
   module _ (h : i < o .polys .count) where
@@ -97,3 +112,41 @@ module _ (o : Opened) (s : List ℕ) (sound : Sound o s) (i : ℕ) where
 
       pub poly-in : v .first + v .count ≤ o .rings .count
       poly-in = omega (arith, poly-ruled o s sound i h .names .fits, ap (λ (u : ListRecord). u .count) poly-record, ap (λ (u : ListRecord). u .first) poly-record)
+
+      pub poly-fits : every ringFits (run (ringAt (directories o s)) (v .count) (v .first)) ≡ polygonFits (polygonAt (directories o s) i)
+      unfolding polygonAt directories
+      poly-fits =
+          ap (λ (u : ListRecord). every ringFits (run (ringAt (directories o s)) (u .count) (u .first))) poly-record
+          ∙ ap (every ringFits) (run-first (ringAt (directories o s)) (polyRecord o s i .count) (polyRecord o s i .first) (poly-ruled o s sound i h .names .some))
+
+      pub poly-text : toCome (sideText o s (v .first)) 91 (v .count) (v .first) ≡ partText o s i
+      unfolding partText polygonAt directories
+      poly-text =
+          ap (λ (u : ListRecord). toCome (sideText o s (u .first)) 91 (u .count) (u .first)) poly-record
+          ∙ sym (sides-row o s (polyRecord o s i .first) (polyRecord o s i .count) (poly-ruled o s sound i h .names .some))
+
+-- ---- a zone: the polygons that its record names
+module _ (o : Opened) (s : List ℕ) (sound : Sound o s) (i : ℕ) where
+  module _ (h : i < o .zones .count) where
+    pub zone-there : (k : Refusal) → refused k ≡ tzAt o s i → ⊥
+    zone-there k e =
+        let g = zone-is o s sound i h in
+        let z : _≡_ {A = ℕ} 0 1 = cc in
+        zero-one z
+
+    module _ (v : ListRecord) (e : ok v ≡ tzAt o s i) where
+      zone-record : v ≡ zoneRecord o s i
+      zone-record = ok-inv v (zoneRecord o s i) (e ∙ sym (zone-is o s sound i h))
+
+      pub zone-in : v .first + v .count ≤ o .polys .count
+      zone-in = omega (arith, zone-ruled o s sound i h .names .fits, ap (λ (u : ListRecord). u .count) zone-record, ap (λ (u : ListRecord). u .first) zone-record)
+
+      pub zone-fits : every polygonFits (run (polygonAt (directories o s)) (v .count) (v .first)) ≡ zoneDrawable (zoneAt (directories o s) i)
+      unfolding zoneDrawable zoneAt directories
+      zone-fits = ap (λ (u : ListRecord). every polygonFits (run (polygonAt (directories o s)) (u .count) (u .first))) zone-record
+
+      pub zone-text : (headText ++ toCome (partText o s) 91 (v .count) (v .first)) ++ tailText ≡ mapText (outlines (zoneAt (directories o s) i))
+      unfolding mapText outlines zoneAt directories
+      zone-text =
+          ap (λ (u : ListRecord). (headText ++ toCome (partText o s) 91 (u .count) (u .first)) ++ tailText) zone-record
+          ∙ ap (λ (t : List ℕ). (headText ++ t) ++ tailText) (sym (parts-row o s (zoneRecord o s i .first) (zoneRecord o s i .count) (zone-ruled o s sound i h .names .some)))

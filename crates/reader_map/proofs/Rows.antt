@@ -47,6 +47,11 @@ module _ {A : Type 0} where
   pub run-list : (l : List A) (d : A) (n : ℕ) → n ≡ length l → run (λ (j : ℕ). getD l j d) n 0 ≡ l
   run-list l d n e = run-drop l d n 0 (omega arith)
 
+pub run-first : {A : Type 0} (g : ℕ → A) (n i : ℕ) → 0 < n → run g n i ≡ g i ∷ run g (n - 1) (i + 1)
+unfolding run
+run-first g zero i h = absurd (omega arith)
+run-first g (suc n) i h = let e : suc n - 1 ≡ n = omega arith in rw e
+
 pub map-run : {A B : Type 0} (f : A → B) (g : ℕ → A) (n i : ℕ) → map f (run g n i) ≡ run (λ (j : ℕ). f (g j)) n i
 unfolding run
 map-run f g zero i = refl

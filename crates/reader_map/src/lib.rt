@@ -87,7 +87,7 @@ fn draw_rings(
     out: &mut [u8],
     from: usize,
 ) -> Text
-    requires { ⌜ Ready o (now s) × (first + count ≤ o .rings .count) × (length (now held) ≡ 20_000) × (from ≤ 0x1000_0000_0000_0000) ⌝ }
+    requires { ⌜ Ready o (now s) × (first < 0x1_0000_0000) × (first + count ≤ o .rings .count) × (length (now held) ≡ 20_000) × (from ≤ 0x1000_0000_0000_0000) ⌝ }
     ensures { λ r. ⌜ Drawn (every ringFits (run (ringAt (directories o (now (s .entry)))) count first)) (toCome (sideText o (now (s .entry)) first) 91 count first) 18_349_931_071 from (textTold r) (now (out .entry)) (now (out .exit)) ⌝ }
 {
     let mut at = from;
@@ -134,7 +134,7 @@ fn draw_polygons(
     out: &mut [u8],
     from: usize,
 ) -> Text
-    requires { ⌜ Ready o (now s) × (first + count ≤ o .polys .count) × (length (now held) ≡ 20_000) × (from ≤ 0x800_0000_0000_0000) ⌝ }
+    requires { ⌜ Ready o (now s) × (first < 0x1_0000_0000) × (first + count ≤ o .polys .count) × (length (now held) ≡ 20_000) × (from ≤ 0x800_0000_0000_0000) ⌝ }
     ensures { λ r. ⌜ Drawn (every polygonFits (run (polygonAt (directories o (now (s .entry)))) count first)) (toCome (partText o (now (s .entry))) 91 count first) 1_202_562_732_803_521 from (textTold r) (now (out .entry)) (now (out .exit)) ⌝ }
 {
     let mut at = from;
