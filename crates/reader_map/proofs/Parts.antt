@@ -103,26 +103,29 @@ module _ (o : Opened) (s : List ℕ) (sound : Sound o s) (i : ℕ) where
         let z : _≡_ {A = ℕ} 0 1 = cc in
         zero-one z
 
-    module _ (v : ListRecord) (e : ok v ≡ polyAt o s i) where
+    module _ (v : ListRecord) (e : ok v ≡ polyAt o s i) (from : ℕ) (f : from ≡ v .first) where
       poly-record : v ≡ polyRecord o s i
       poly-record = ok-inv v (polyRecord o s i) (e ∙ sym (poly-is o s sound i h))
 
-      poly-some : 0 < v .count
-      poly-some = omega (arith, poly-ruled o s sound i h .names .some, ap (λ (u : ListRecord). u .count) poly-record)
+      poly-first : from ≡ polyRecord o s i .first
+      poly-first = f ∙ ap (λ (u : ListRecord). u .first) poly-record
 
-      pub poly-in : v .first + v .count ≤ o .rings .count
-      poly-in = omega (arith, poly-ruled o s sound i h .names .fits, ap (λ (u : ListRecord). u .count) poly-record, ap (λ (u : ListRecord). u .first) poly-record)
+      poly-count : v .count ≡ polyRecord o s i .count
+      poly-count = ap (λ (u : ListRecord). u .count) poly-record
 
-      pub poly-fits : every ringFits (run (ringAt (directories o s)) (v .count) (v .first)) ≡ polygonFits (polygonAt (directories o s) i)
+      pub poly-in : from + v .count ≤ o .rings .count
+      poly-in = omega (arith, poly-ruled o s sound i h .names .fits, poly-first, poly-count)
+
+      pub poly-fits : every ringFits (run (ringAt (directories o s)) (v .count) from) ≡ polygonFits (polygonAt (directories o s) i)
       unfolding polygonAt directories
       poly-fits =
-          ap (λ (u : ListRecord). every ringFits (run (ringAt (directories o s)) (u .count) (u .first))) poly-record
+          ap₂ (λ (n j : ℕ). every ringFits (run (ringAt (directories o s)) n j)) poly-count poly-first
           ∙ ap (every ringFits) (run-first (ringAt (directories o s)) (polyRecord o s i .count) (polyRecord o s i .first) (poly-ruled o s sound i h .names .some))
 
-      pub poly-text : toCome (sideText o s (v .first)) 91 (v .count) (v .first) ≡ partText o s i
+      pub poly-text : toCome (sideText o s from) 91 (v .count) from ≡ partText o s i
       unfolding partText polygonAt directories
       poly-text =
-          ap (λ (u : ListRecord). toCome (sideText o s (u .first)) 91 (u .count) (u .first)) poly-record
+          ap₂ (λ (n j : ℕ). toCome (sideText o s j) 91 n j) poly-count poly-first
           ∙ sym (sides-row o s (polyRecord o s i .first) (polyRecord o s i .count) (poly-ruled o s sound i h .names .some))
 
 -- ---- a zone: the polygons that its record names
@@ -134,19 +137,25 @@ module _ (o : Opened) (s : List ℕ) (sound : Sound o s) (i : ℕ) where
         let z : _≡_ {A = ℕ} 0 1 = cc in
         zero-one z
 
-    module _ (v : ListRecord) (e : ok v ≡ tzAt o s i) where
+    module _ (v : ListRecord) (e : ok v ≡ tzAt o s i) (from : ℕ) (f : from ≡ v .first) where
       zone-record : v ≡ zoneRecord o s i
       zone-record = ok-inv v (zoneRecord o s i) (e ∙ sym (zone-is o s sound i h))
 
-      pub zone-in : v .first + v .count ≤ o .polys .count
-      zone-in = omega (arith, zone-ruled o s sound i h .names .fits, ap (λ (u : ListRecord). u .count) zone-record, ap (λ (u : ListRecord). u .first) zone-record)
+      zone-first : from ≡ zoneRecord o s i .first
+      zone-first = f ∙ ap (λ (u : ListRecord). u .first) zone-record
 
-      pub zone-fits : every polygonFits (run (polygonAt (directories o s)) (v .count) (v .first)) ≡ zoneDrawable (zoneAt (directories o s) i)
+      zone-count : v .count ≡ zoneRecord o s i .count
+      zone-count = ap (λ (u : ListRecord). u .count) zone-record
+
+      pub zone-in : from + v .count ≤ o .polys .count
+      zone-in = omega (arith, zone-ruled o s sound i h .names .fits, zone-first, zone-count)
+
+      pub zone-fits : every polygonFits (run (polygonAt (directories o s)) (v .count) from) ≡ zoneDrawable (zoneAt (directories o s) i)
       unfolding zoneDrawable zoneAt directories
-      zone-fits = ap (λ (u : ListRecord). every polygonFits (run (polygonAt (directories o s)) (u .count) (u .first))) zone-record
+      zone-fits = ap₂ (λ (n j : ℕ). every polygonFits (run (polygonAt (directories o s)) n j)) zone-count zone-first
 
-      pub zone-text : (headText ++ toCome (partText o s) 91 (v .count) (v .first)) ++ tailText ≡ mapText (outlines (zoneAt (directories o s) i))
+      pub zone-text : (headText ++ toCome (partText o s) 91 (v .count) from) ++ tailText ≡ mapText (outlines (zoneAt (directories o s) i))
       unfolding mapText outlines zoneAt directories
       zone-text =
-          ap (λ (u : ListRecord). (headText ++ toCome (partText o s) 91 (u .count) (u .first)) ++ tailText) zone-record
+          ap₂ (λ (n j : ℕ). (headText ++ toCome (partText o s) 91 n j) ++ tailText) zone-count zone-first
           ∙ ap (λ (t : List ℕ). (headText ++ t) ++ tailText) (sym (parts-row o s (zoneRecord o s i .first) (zoneRecord o s i .count) (zone-ruled o s sound i h .names .some)))
