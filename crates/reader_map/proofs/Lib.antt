@@ -4,3 +4,4 @@ pub mod Onward
 pub mod Spots
 pub mod Parts
 pub mod Asking
+pub mod Read
