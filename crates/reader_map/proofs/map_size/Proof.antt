@@ -1,36 +1,34 @@
+-- `map_size` meets its contract: 45, or what is drawn is counted.
+-- Assumes nothing.
 use native.Mathlib.Omega.{arith}
+use mathlib.Core.Path.{ap, _∙_}
 use borrow.Author.Needs.{needs}
+use Rattle.answer.specs.Answers.{refused}
+use Rattle.reader_map.proofs.Asking.{size-over, size-is}
 use Rattle.reader_map.proofs.map_size.Statement.{statement}
 use Rattle.reader_map.proofs.map_size.Tie as tie
-use Rattle.reader_map.proofs.map_size.Reads as reads
-use Rattle.reader_map.proofs.map_size.Lts as lts
-use Rattle.answer.proofs.refuse.Reads as refuse-reads
-use Rattle.fields.proofs.wide.Reads as wide-reads
-use Rattle.reader_map.proofs.draw.Reads as draw-reads
 
--- src/lib.rt:197:30
 refuse-requires : tie.Need-refuse-requires
 refuse-requires c κs = search needs
 
--- src/lib.rt:197:9
 returns : tie.Need-returns
-returns c = search needs
+returns c = ap refused (c .refuse .ensures) ∙ size-over _ _ _ (c .before .if1 .taken)
 
--- src/lib.rt:200:16
 wide-requires : tie.Need-wide-requires
 wide-requires c κs = search needs
 
--- src/lib.rt:200:36
 slice-aggregate-draw : tie.Need-slice-aggregate-draw
 slice-aggregate-draw c = search needs
 
--- src/lib.rt:200:5
 draw-requires : tie.Need-draw-requires
-draw-requires c κs = search needs
+draw-requires c κs =
+    let w = c .before in
+    (w .before .before .before .before .pre, omega (arith, w .wide .ensures .0, w .before .if1 .left))
 
--- src/lib.rt:192:1
 returns-2 : tie.Need-returns-2
-returns-2 c = search needs
+returns-2 c =
+    let w = c .before .before .before in
+    size-is _ _ _ (w .before .if1 .left) _ (w .wide .ensures .0) _ _ _ _ (c .before .draw .ensures)
 
 pub map-size-spec : {M : Type 1} → statement M
 map-size-spec =
