@@ -1,3 +1,6 @@
 -- Points in lent numbers, and what is strung of them.
 pub mod Spots
 pub mod Turning
+pub mod Filling
+pub mod Rows
+pub mod Stringing

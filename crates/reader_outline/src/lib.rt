@@ -79,3 +79,63 @@ fn turn_round(held: &mut [i32], from: usize, to: usize)
         i += 1;
     }
 }
+
+// The points of chunk `index`, behind the first k positions.
+fn fill_chunk(o: Opened, s: &[u8], index: usize, held: &mut [i32], k: usize) -> Filled
+    requires { ⌜ Ready o (now s) ⌝ }
+    requires { ⌜ index < o .chunks .count ⌝ }
+    requires { ⌜ (length (now held) ≡ 20_000) × (k ≤ 10_000) ⌝ }
+    ensures { λ r. ⌜ (filledTold r ≡ counted (pointsIn (now (held .entry)) k ++ chunkPoints (chunkShape o (now (s .entry)) index))) × Keeps (now (held .exit)) (pointsIn (now (held .entry)) k ++ chunkPoints (chunkShape o (now (s .entry)) index)) ⌝ }
+{
+    let t = reader_records::chunk_at(o, s, index);
+    match t {
+        ChunkAt::Refused(r) => {
+            return Filled::Refused(r);
+        }
+        ChunkAt::At(v) => {
+            let a = 2 * k;
+            let c = reader_chunks::decode_chunk_points(o, s, index, &mut held[a..]);
+            match c {
+                Checked::Refused(_) => {
+                    return Filled::Refused(answer::refuse(48));
+                }
+                Checked::Fine => {
+                    return Filled::Upto(k + fields::wide16(v.count));
+                }
+            }
+        }
+    }
+}
+
+// The points of that many chunks from chunk `first` on, behind the first k positions.
+fn fill_chunks(
+    o: Opened,
+    s: &[u8],
+    first: usize,
+    count: u16,
+    held: &mut [i32],
+    k: usize,
+) -> Filled
+    requires { ⌜ Ready o (now s) ⌝ }
+    requires { ⌜ first + count ≤ o .chunks .count ⌝ }
+    requires { ⌜ (length (now held) ≡ 20_000) × (k ≤ 10_000) ⌝ }
+    ensures { λ r. ⌜ (filledTold r ≡ counted (pointsIn (now (held .entry)) k ++ rowPoints o (now (s .entry)) count first)) × Keeps (now (held .exit)) (pointsIn (now (held .entry)) k ++ rowPoints o (now (s .entry)) count first) ⌝ }
+{
+    let mut i = first;
+    let mut left = count;
+    let mut n = k;
+    while 0 < left {
+        let t = fill_chunk(o, s, i, held, n);
+        match t {
+            Filled::Refused(r) => {
+                return Filled::Refused(r);
+            }
+            Filled::Upto(m) => {
+                n = m;
+            }
+        }
+        i += 1;
+        left -= 1;
+    }
+    Filled::Upto(n)
+}
