@@ -3,4 +3,6 @@ pub mod Spots
 pub mod Turning
 pub mod Filling
 pub mod Rows
+pub mod Sides
 pub mod Stringing
+pub mod Legs

@@ -139,3 +139,57 @@ fn fill_chunks(
     }
     Filled::Upto(n)
 }
+
+// The same of a group, turned round where its op says so.
+fn fill_group(
+    o: Opened,
+    s: &[u8],
+    g: GroupRecord,
+    turned: bool,
+    held: &mut [i32],
+    k: usize,
+) -> Filled
+    requires { ⌜ Ready o (now s) ⌝ }
+    requires { ⌜ g .first + g .count ≤ o .chunks .count ⌝ }
+    requires { ⌜ (length (now held) ≡ 20_000) × (k ≤ 10_000) ⌝ }
+    ensures { λ r. ⌜ (filledTold r ≡ counted (pointsIn (now (held .entry)) k ++ sidePoints o (now (s .entry)) g turned)) × Keeps (now (held .exit)) (pointsIn (now (held .entry)) k ++ sidePoints o (now (s .entry)) g turned) ⌝ }
+{
+    let t = fill_chunks(o, s, fields::wide(g.first), g.count, held, k);
+    match t {
+        Filled::Refused(r) => {
+            return Filled::Refused(r);
+        }
+        Filled::Upto(n) => {
+            if turned {
+                turn_round(held, k, n);
+                return Filled::Upto(n);
+            }
+            return Filled::Upto(n);
+        }
+    }
+}
+
+// Where a group is entered.
+fn entry_of(g: GroupRecord, turned: bool) -> I32Point
+    ensures { λ r. ⌜ r ≡ entryOf g turned ⌝ }
+{
+    if turned {
+        return g.exit;
+    }
+    g.entry
+}
+
+// The place from which a leg that is entered at e is written: over the last position where that is e.
+fn leg_start(held: &[i32], k: usize, e: I32Point) -> usize
+    requires { ⌜ (length (now held) ≡ 20_000) × (k ≤ 10_000) ⌝ }
+    ensures { λ r. ⌜ Starts (now (held .entry)) k e r ⌝ }
+{
+    if k == 0 {
+        return 0;
+    }
+    let q = point_at(held, k - 1);
+    if boxes::same_point(q, e) {
+        return k - 1;
+    }
+    k
+}
