@@ -2,7 +2,7 @@
 -- Assumes nothing.
 use Prim.Native.Nat.{ℕ, suc, _+_, _-_, _≤_, _<_}
 use native.Mathlib.Omega.{arith}
-use mathlib.Core.Path.{_≡_, refl, sym, ap, ap₂, _∙_}
+use mathlib.Core.Path.{_≡_, refl, sym, ap, ap₂, _∙_, subst}
 use mathlib.Core.Bool.{Bool, true, false, cond}
 use mathlib.Core.List.{List, [], _∷_, _++_, map, reverse}
 use lib.ListN.{length, take, drop, length-append, length-reverse}
@@ -128,11 +128,17 @@ module _ (o : Opened) (s : List ℕ) (k : Ready o s) where
               ∙ ap (λ (x : GroupRecord). entryOf x t ∷ drop 1 (sidePoints o s x t)) (sym found)
 
           -- written from place j on, it goes on from the first n positions
-          pub leg-goes-on : (m : List ℤ) (n j : ℕ) → Starts m n (entryOf g t) j → pointsIn m j ++ sidePoints o s g t ≡ joinedOn (pointsIn m n) (legPoints (Layout.legAt (directories o s) i))
+          leg-goes-on : (m : List ℤ) (n j : ℕ) → Starts m n (entryOf g t) j → pointsIn m j ++ sidePoints o s g t ≡ joinedOn (pointsIn m n) (legPoints (Layout.legAt (directories o s) i))
           leg-goes-on m n j a =
               ap (λ (l : List P). pointsIn m j ++ l) (sym leg-is ∙ leg-starts)
               ∙ a .goes-on (drop 1 (sidePoints o s g t))
               ∙ ap (joinedOn (pointsIn m n)) (sym leg-starts)
+
+          pub leg-filled : (m : List ℤ) (n : ℕ) (x : P) → x ≡ entryOf g t → (j : ℕ) → Starts m n x j → (a : Answer ℕ) (w : List ℤ) → a ≡ counted (pointsIn m j ++ sidePoints o s g t) → Keeps w (pointsIn m j ++ sidePoints o s g t)
+              → (a ≡ counted (joinedOn (pointsIn m n) (legPoints (Layout.legAt (directories o s) i)))) × Keeps w (joinedOn (pointsIn m n) (legPoints (Layout.legAt (directories o s) i)))
+          leg-filled m n x e j b a w c d =
+              let q = leg-goes-on m n j (subst (λ (y : P). Starts m n y j) e b) in
+              (c ∙ ap counted q, subst (Keeps w) q d)
 
     pub leg-some : 0 < length (legPoints (Layout.legAt (directories o s) i))
     leg-some =

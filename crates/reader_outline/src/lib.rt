@@ -14,7 +14,7 @@ ghost use Rattle.shapes.specs.Outline.{closed, swept, doubledArea, drawable};
 ghost use Rattle.reader_exact.specs.Directories.{chunkShape, directories};
 ghost use Rattle.reader_outline.specs.Held.{spots, pointsIn};
 ghost use Rattle.reader_outline.specs.Told.{Ready, filledTold, outlinedTold, counted, Keeps, positionsAt, outlineAt};
-ghost use Rattle.reader_outline.specs.Steps.{rowPoints, sidePoints, entryOf, joinedOn, legsOn, Starts, turnedIn};
+ghost use Rattle.reader_outline.specs.Steps.{rowPoints, sidePoints, legsRow, entryOf, joinedOn, legsOn, Starts, turnedIn};
 use answer::Checked;
 use answer::Refusal;
 use opened::Opened;
@@ -192,4 +192,110 @@ fn leg_start(held: &[i32], k: usize, e: I32Point) -> usize
         return k - 1;
     }
     k
+}
+
+// The leg of op `op`, behind the first k positions: an entry equal to the last of them stands once.
+fn fill_leg(o: Opened, s: &[u8], op: usize, held: &mut [i32], k: usize) -> Filled
+    requires { ⌜ Ready o (now s) ⌝ }
+    requires { ⌜ op < o .ops .count ⌝ }
+    requires { ⌜ (length (now held) ≡ 20_000) × (k ≤ 10_000) ⌝ }
+    ensures { λ r. ⌜ (filledTold r ≡ counted (joinedOn (pointsIn (now (held .entry)) k) (legPoints (legAt (directories o (now (s .entry))) op)))) × Keeps (now (held .exit)) (joinedOn (pointsIn (now (held .entry)) k) (legPoints (legAt (directories o (now (s .entry))) op))) ⌝ }
+{
+    let t = reader_records::op_at(o, s, op);
+    match t {
+        OpAt::Refused(r) => {
+            return Filled::Refused(r);
+        }
+        OpAt::At(w) => {
+            let u = reader_records::group_at(o, s, w % 0x8000_0000);
+            match u {
+                GroupAt::Refused(r) => {
+                    return Filled::Refused(r);
+                }
+                GroupAt::At(g) => {
+                    let turned = !(w < 0x8000_0000);
+                    let j = leg_start(held, k, entry_of(g, turned));
+                    return fill_group(o, s, g, turned, held, j);
+                }
+            }
+        }
+    }
+}
+
+// The legs of that many ops from op `first` on, one after another.
+fn fill_legs(o: Opened, s: &[u8], first: usize, count: u16, held: &mut [i32]) -> Filled
+    requires { ⌜ Ready o (now s) ⌝ }
+    requires { ⌜ first + count ≤ o .ops .count ⌝ }
+    requires { ⌜ length (now held) ≡ 20_000 ⌝ }
+    ensures { λ r. ⌜ (filledTold r ≡ counted (legsOn [] (legsRow o (now (s .entry)) count first))) × Keeps (now (held .exit)) (legsOn [] (legsRow o (now (s .entry)) count first)) ⌝ }
+{
+    let mut i = first;
+    let mut left = count;
+    let mut n: usize = 0;
+    while 0 < left {
+        let t = fill_leg(o, s, i, held, n);
+        match t {
+            Filled::Refused(r) => {
+                return Filled::Refused(r);
+            }
+            Filled::Upto(m) => {
+                n = m;
+            }
+        }
+        i += 1;
+        left -= 1;
+    }
+    Filled::Upto(n)
+}
+
+// The first k positions, and the first of them once more unless it is the last.
+fn close_ring(held: &mut [i32], k: usize) -> Filled
+    requires { ⌜ 0 < k ⌝ }
+    requires { ⌜ (length (now held) ≡ 20_000) × (k ≤ 10_000) ⌝ }
+    ensures { λ r. ⌜ (filledTold r ≡ counted (closed (pointsIn (now (held .entry)) k))) × Keeps (now (held .exit)) (closed (pointsIn (now (held .entry)) k)) ⌝ }
+{
+    let a = point_at(held, 0);
+    let z = point_at(held, k - 1);
+    if boxes::same_point(z, a) {
+        return Filled::Upto(k);
+    }
+    if k == 10_000 {
+        return Filled::Refused(answer::refuse(48));
+    }
+    put_at(held, k, a);
+    Filled::Upto(k + 1)
+}
+
+// The positions of ring `ring` into lent numbers, two a position: 48 where there are over 10,000.
+pub fn ring_positions(o: Opened, s: &[u8], ring: usize, held: &mut [i32]) -> Filled
+    requires { ⌜ Ready o (now s) ⌝ }
+    requires { ⌜ ring < o .rings .count ⌝ }
+    requires { ⌜ length (now held) ≡ 20_000 ⌝ }
+    ensures { λ r. ⌜ (filledTold r ≡ counted (positionsAt o (now (s .entry)) ring)) × Keeps (now (held .exit)) (positionsAt o (now (s .entry)) ring) ⌝ }
+{
+    let t = reader_records::ring_at(o, s, ring);
+    match t {
+        RingAt::Refused(r) => {
+            return Filled::Refused(r);
+        }
+        RingAt::At(v) => {
+            let u = fill_legs(o, s, fields::wide(v.first), v.count, held);
+            match u {
+                Filled::Refused(r) => {
+                    return Filled::Refused(r);
+                }
+                Filled::Upto(n) => {
+                    return close_ring(held, n);
+                }
+            }
+        }
+    }
+}
+
+// The product of two coordinates.
+fn product(x: i32, y: i32) -> i64
+    requires { ⌜ (natAbs x ≤ 18_000_000) × (natAbs y ≤ 9_000_000) ⌝ }
+    ensures { λ r. ⌜ r ≡ x *ℤ y ⌝ }
+{
+    (x as i64) * (y as i64)
 }
