@@ -29,9 +29,9 @@ use Rattle.reader_exact.proofs.Exact.{sound-named}
 use Rattle.reader_outline.specs.Held.{pointsIn}
 use Rattle.reader_outline.specs.Told.{Ready, counted, Keeps, positionsAt}
 use Rattle.reader_outline.specs.Steps.{rowPoints, sidePoints, legsRow, entryOf, joinedOn, legsOn, Starts}
-use Rattle.reader_outline.proofs.Filling.{never, fills, fills-no, stands-there}
+use Rattle.reader_outline.proofs.Filling.{never, upto, fills, fills-no, stands-there}
 use Rattle.reader_outline.proofs.Rows.{row-one}
-use Rattle.reader_outline.proofs.Stringing.{strung-is, joined-longer, legs-longer}
+use Rattle.reader_outline.proofs.Stringing.{strung-is, legs-longer, closed-longer}
 
 abbrev P : Type 0
 P = I32Point
@@ -235,3 +235,25 @@ module _ (o : Opened) (s : List ℕ) (k : Ready o s) (i : ℕ) (h : i < o .rings
         ∙ strung-is (leg o s (v .first)) (legsRow o s (v .count - 1) (v .first + 1)) first-leg
         ∙ ap strung (sym legs)
         ∙ ap (λ (x : RingRecord). strung (legsRow o s (x .count) (x .first))) ring-found)
+
+    -- the legs as the code fills them, from where the ring says, and then the ring closed
+    module _ (a : ℕ) (f : a ≡ v .first) where
+      abbrev filled : List P
+      filled = legsOn [] (legsRow o s (v .count) a)
+
+      whole : closed filled ≡ positionsAt o s i
+      whole = ap (λ (x : ℕ). closed (legsOn [] (legsRow o s (v .count) x))) f ∙ positions-are
+
+      pub ring-no : (r : Refusal) → refused r ≡ counted filled → (m : List ℤ) → (refused r ≡ counted (positionsAt o s i)) × Keeps m (positionsAt o s i)
+      ring-no r g m = fills-no m (positionsAt o s i) filled r g (omega (arith, closed-longer filled, ap length whole))
+
+      module _ (n : ℕ) (g : ok n ≡ counted filled) where
+        pub ring-room : (0 < n) × (n ≤ 10_000)
+        ring-room =
+            let u = upto filled n g in
+            (omega (arith, u .0, strung-some, ap (λ (x : ℕ). length (legsOn [] (legsRow o s (v .count) x))) f), omega (arith, u))
+
+        pub ring-closed : (m : List ℤ) → Keeps m filled → (x : Answer ℕ) (w : List ℤ) → x ≡ counted (closed (pointsIn m n)) → Keeps w (closed (pointsIn m n)) → (x ≡ counted (positionsAt o s i)) × Keeps w (positionsAt o s i)
+        ring-closed m q x w b d =
+            let y : closed (pointsIn m n) ≡ positionsAt o s i = ap closed (stands-there m filled n g q .0) ∙ whole in
+            (b ∙ ap counted y, subst (Keeps w) y d)

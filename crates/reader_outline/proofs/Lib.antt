@@ -6,3 +6,4 @@ pub mod Rows
 pub mod Sides
 pub mod Stringing
 pub mod Legs
+pub mod Area

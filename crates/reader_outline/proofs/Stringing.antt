@@ -50,7 +50,7 @@ unfolding legsOn joinedOn
 strung-is [] ls h = absurd (omega arith)
 strung-is (a ∷ r) ls h = on-strung a r ls
 
-pub joined-longer : (p l : List P) → length p ≤ length (joinedOn p l)
+joined-longer : (p l : List P) → length p ≤ length (joinedOn p l)
 unfolding joinedOn
 joined-longer [] l = omega arith
 joined-longer (a ∷ r) l = omega (arith, length-append (a ∷ r) (after (lastFrom a r) l))
@@ -118,6 +118,14 @@ last-is (b ∷ a) q = last-append b a q []
 closed-by : (l : List P) → 0 < length l → closed l ≡ cond (samePoint (lastOf l) (firstOf l)) l (l ++ (firstOf l ∷ []))
 closed-by [] h = absurd (omega arith)
 closed-by (a ∷ r) h = refl
+
+pub closed-longer : (l : List P) → length l ≤ length (closed l)
+closed-longer [] = omega arith
+closed-longer (a ∷ r) = go (samePoint (lastFrom a r) a)
+  where
+    go : (t : Bool) → length (a ∷ r) ≤ length (cond t (a ∷ r) (a ∷ r ++ (a ∷ [])))
+    go true = omega arith
+    go false = omega (arith, length-append (a ∷ r) (a ∷ []))
 
 module _ (m : List ℤ) (k : ℕ) (h : 0 < k) (small : k ≤ 10_000) (size : length m ≡ 20_000) (a z : P) (f : a ≡ getD (spots m) 0 origin) (g : z ≡ getD (spots m) (k - 1) origin) where
   room : 2 * k ≤ length m

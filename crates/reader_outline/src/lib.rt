@@ -299,3 +299,31 @@ fn product(x: i32, y: i32) -> i64
 {
     (x as i64) * (y as i64)
 }
+
+// What the way from one point to the next adds to the doubled area.
+fn sweep(a: I32Point, b: I32Point) -> i64
+    requires { ⌜ inDomain a ≡ true ⌝ }
+    requires { ⌜ inDomain b ≡ true ⌝ }
+    ensures { λ r. ⌜ r ≡ swept a b ⌝ }
+{
+    let p = product(a.x, b.y);
+    let q = product(b.x, a.y);
+    p - q
+}
+
+// The exact doubled area of the first k positions.
+pub fn doubled_area(held: &[i32], k: usize) -> i64
+    requires { ⌜ (k ≤ 10_000) × (2 * k ≤ length (now held)) ⌝ }
+    requires { ⌜ every inDomain (pointsIn (now held) k) ≡ true ⌝ }
+    ensures { λ r. ⌜ r ≡ doubledArea (pointsIn (now (held .entry)) k) ⌝ }
+{
+    let mut sum: i64 = 0;
+    let mut i: usize = 1;
+    while i < k {
+        let a = point_at(held, i - 1);
+        let b = point_at(held, i);
+        sum = sum + sweep(a, b);
+        i += 1;
+    }
+    sum
+}
