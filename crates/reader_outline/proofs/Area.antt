@@ -96,17 +96,23 @@ module _ (m : List ℤ) (k : ℕ) (sum : ℤ) (i : ℕ) (w : Summing m k sum i) 
           brief [] (suc k) = omega arith
           brief (a ∷ l) (suc k) = omega (arith, brief l k)
 
-  module _ (h : i < k) (n : 2 * k ≤ length m) (small : k ≤ 10_000) (a b : I32Point) (f : a ≡ getD (spots m) (i - 1) origin) (g : b ≡ getD (spots m) i origin) (p : inDomain a ≡ true) (q : inDomain b ≡ true) where
+  module _ (h : i < k) (n : 2 * k ≤ length m) (small : k ≤ 10_000) (a b : I32Point) (f : a ≡ getD (spots m) (i - 1) origin) (g : b ≡ getD (spots m) i origin) (d : every inDomain (pointsIn m k) ≡ true) where
+    pub first-in : inDomain a ≡ true
+    first-in = ap inDomain f ∙ domain-at m k d n (i - 1) (omega (arith, h, w .up))
+
+    pub second-in : inDomain b ≡ true
+    second-in = ap inDomain g ∙ domain-at m k d n i h
+
     -- what is added leaves the sum within 64 bits
     more : natAbs (sum +ℤ swept a b) ≤ 324_000_000_000_000 * (i + 1)
-    more = omega (arith, w .size, sum-abs sum (swept a b), swept-fits a b p q)
+    more = omega (arith, w .size, sum-abs sum (swept a b), swept-fits a b first-in second-in)
 
-    pub sum-near : SFits w64 (sum +ℤ swept a b)
-    sum-near = near (sum +ℤ swept a b) (omega (arith, more, h, small))
+    pub sum-near : (y : ℤ) → y ≡ swept a b → SFits w64 (sum +ℤ y)
+    sum-near y e = rw e (near (sum +ℤ swept a b) (omega (arith, more, h, small)))
 
-    pub sum-on : (z : ℤ) → z ≡ sum +ℤ swept a b → Summing m k z (i + 1)
+    on : (z : ℤ) → z ≡ sum +ℤ swept a b → Summing m k z (i + 1)
     unfolding pointsIn
-    sum-on z e =
+    on z e =
         let l = spots m in
         let c : drop i (take k l) ≡ getD l i origin ∷ drop (i + 1) (take k l) =
             drop-cons (take k l) i origin (omega (arith, h, length-take-le k l (spots-room k m n)))
@@ -127,3 +133,6 @@ module _ (m : List ℤ) (k : ℕ) (sum : ℤ) (i : ℕ) (w : Summing m k sum i) 
 
         back-one : (j : ℕ) → j + 1 - 1 ≡ j
         back-one j = omega arith
+
+    pub sum-on : (y : ℤ) → y ≡ swept a b → Summing m k (toZ w64 (ofZ w64 (sum +ℤ y))) (i + 1)
+    sum-on y e = on (toZ w64 (ofZ w64 (sum +ℤ y))) (toZ-ofZ w64 (sum +ℤ y) (sum-near y e) ∙ ap (λ (x : ℤ). sum +ℤ x) e)

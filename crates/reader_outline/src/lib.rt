@@ -13,7 +13,7 @@ ghost use Rattle.shapes.specs.Layout.{legAt};
 ghost use Rattle.shapes.specs.Outline.{closed, swept, doubledArea, drawable};
 ghost use Rattle.reader_exact.specs.Directories.{chunkShape, directories};
 ghost use Rattle.reader_outline.specs.Held.{spots, pointsIn};
-ghost use Rattle.reader_outline.specs.Told.{Ready, filledTold, outlinedTold, counted, Keeps, positionsAt, outlineAt};
+ghost use Rattle.reader_outline.specs.Told.{Ready, filledTold, outlinedTold, counted, Keeps, positionsAt, drawnBy, outlineAt};
 ghost use Rattle.reader_outline.specs.Steps.{rowPoints, sidePoints, legsRow, entryOf, joinedOn, legsOn, Starts, turnedIn};
 use answer::Checked;
 use answer::Refusal;
@@ -326,4 +326,42 @@ pub fn doubled_area(held: &[i32], k: usize) -> i64
         i += 1;
     }
     sum
+}
+
+// The outline of a ring, which may be a hole, of the first n positions: 48 for under four, or zero area.
+fn drawn(held: &[i32], n: usize, hole: bool) -> Outlined
+    requires { ⌜ (n ≤ 10_000) × (2 * n ≤ length (now held)) ⌝ }
+    requires { ⌜ every inDomain (pointsIn (now held) n) ≡ true ⌝ }
+    ensures { λ r. ⌜ outlinedTold r ≡ drawnBy (pointsIn (now (held .entry)) n) hole ⌝ }
+{
+    if n < 4 {
+        return Outlined::Refused(answer::refuse(48));
+    }
+    let area = doubled_area(held, n);
+    if area == 0 {
+        return Outlined::Refused(answer::refuse(48));
+    }
+    if hole {
+        return Outlined::Drawn(n, 0 < area);
+    }
+    Outlined::Drawn(n, area < 0)
+}
+
+// The outline of ring `ring`, which may be a hole: its positions into lent numbers, how many they are, and whether they are written from the first backwards. 48 for a ring of under four positions, over 10,000, or zero area.
+pub fn outline_of(o: Opened, s: &[u8], ring: usize, hole: bool, held: &mut [i32]) -> Outlined
+    requires { ⌜ Ready o (now s) ⌝ }
+    requires { ⌜ ring < o .rings .count ⌝ }
+    requires { ⌜ length (now held) ≡ 20_000 ⌝ }
+    ensures { λ r. ⌜ outlinedTold r ≡ outlineAt o (now (s .entry)) ring hole ⌝ }
+    ensures memory { λ r. ⌜ Keeps (now (held .exit)) (positionsAt o (now (s .entry)) ring) ⌝ }
+{
+    let t = ring_positions(o, s, ring, held);
+    match t {
+        Filled::Refused(r) => {
+            return Outlined::Refused(r);
+        }
+        Filled::Upto(n) => {
+            return drawn(held, n, hole);
+        }
+    }
 }
