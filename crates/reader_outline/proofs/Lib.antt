@@ -7,3 +7,4 @@ pub mod Sides
 pub mod Stringing
 pub mod Legs
 pub mod Area
+pub mod Drawing
