@@ -3,19 +3,16 @@
 use Prim.Native.Nat.{ℕ, zero, suc, _+_, _-_, _*_, _≤_, _<_, _^_}
 use native.Mathlib.Omega.{arith}
 use mathlib.Core.Path.{_≡_, refl, sym, ap, ap₂, _∙_}
-use mathlib.Core.Bool.{Bool, true, false, not, _&&_}
+use mathlib.Core.Bool.{true}
 use mathlib.Core.List.{List, [], _∷_}
 use lib.ListN.{length, take, drop, getD, drop-of-length-le}
 use lib.Seq.{drop-cons, getD-take, length-take-le}
-use lib.Dec.{leb}
 use lib.IntN.{ℤ, pos, natAbs, _+ℤ_, _-ℤ_, _*ℤ_, +ℤ-idl, +ℤ-idr, +ℤ-assoc}
 use mir.Syntax.{w64}
 use mir.Val.{SFits, toZ, ofZ}
 use mir.ValLaws.{toZ-ofZ}
-use borrow.Author.Tests.{le-leb, lt-leb}
 use Rattle.basics.specs.Truth.{and-l, and-r}
 use Rattle.basics.specs.Signed.{sum-abs, mag-le}
-use Rattle.basics.specs.Whole.{isZero}
 use Rattle.plane.specs.declared.I32Point.{I32Point}
 use Rattle.plane.specs.Domain.{inDomain}
 use Rattle.plane.proofs.DomainLaws.{domain-x, domain-y}
@@ -115,8 +112,8 @@ module _ (m : List ℤ) (k : ℕ) (sum : ℤ) (i : ℕ) (w : Summing m k sum i) 
     on z e =
         let l = spots m in
         let c : drop i (take k l) ≡ getD l i origin ∷ drop (i + 1) (take k l) =
-            drop-cons (take k l) i origin (omega (arith, h, length-take-le k l (spots-room k m n)))
-            ∙ ap₂ (λ (x : I32Point) (j : ℕ). x ∷ drop j (take k l)) (getD-take k l i origin h) (one i) in
+        drop-cons (take k l) i origin (omega (arith, h, length-take-le k l (spots-room k m n)))
+        ∙ ap₂ (λ (x : I32Point) (j : ℕ). x ∷ drop j (take k l)) (getD-take k l i origin h) (one i) in
         record {
           up = omega arith;
           size = omega (arith, more, ap natAbs e);

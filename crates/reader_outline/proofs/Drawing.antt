@@ -2,24 +2,28 @@
 -- Assumes nothing.
 use Prim.Native.Nat.{ℕ, zero, suc, _*_, _≤_, _<_, _^_}
 use native.Mathlib.Omega.{arith}
-use mathlib.Core.Path.{_≡_, refl, sym, ap, _∙_}
-use mathlib.Core.Bool.{Bool, true, false, cond}
-use mathlib.Core.List.{List}
+use mathlib.Core.Path.{_≡_, refl, sym, ap, ap₂, _∙_}
+use mathlib.Core.Bool.{Bool, true, false, not, _&&_, cond}
+use mathlib.Core.List.{List, reverse}
 use lib.ListN.{length}
+use lib.Dec.{leb}
 use lib.IntN.{ℤ, pos, negsuc}
 use lib.Signed.{mag, ltZ}
 use mir.Syntax.{w64}
 use mir.Val.{toZ, ofZ, hbits}
-use borrow.Author.Tests.{le-leb, lt-leb, ne-eqb}
+use borrow.Author.Tests.{le-leb, lt-leb, leb-true, ne-eqb}
+use Rattle.basics.specs.Truth.{and-l, and-r}
 use Rattle.basics.specs.Signed.{back}
 use Rattle.basics.specs.Whole.{isZero}
 use Rattle.plane.specs.declared.I32Point.{I32Point}
 use Rattle.plane.specs.Domain.{inDomain}
 use Rattle.plane.specs.Lines.{every}
 use Rattle.answer.specs.declared.Refusal.{Refusal}
-use Rattle.answer.specs.Answers.{Answer, ok, no, refused}
+use Rattle.answer.specs.Answers.{ok, no, refused}
+use Rattle.answer.proofs.AnswersLaws.{need-inv, ok-inv}
+use Rattle.shapes.specs.Shapes.{Ring}
 use Rattle.shapes.specs.Layout.{ringAt}
-use Rattle.shapes.specs.Outline.{doubledArea, drawable, backwards}
+use Rattle.shapes.specs.Outline.{ringPositions, doubledArea, drawable, backwards, outline}
 use Rattle.shapes.proofs.File.{ring-in}
 use Rattle.shapes.proofs.Outline.{positions-in}
 use Rattle.opened.specs.declared.Opened.{Opened}
@@ -28,7 +32,7 @@ use Rattle.reader_exact.proofs.Exact.{sound-named, sound-domain}
 use Rattle.reader_outline.specs.Held.{pointsIn}
 use Rattle.reader_outline.specs.Told.{Ready, counted, Keeps, positionsAt, drawnBy}
 use Rattle.reader_outline.proofs.Spots.{points-length}
-use Rattle.reader_outline.proofs.Filling.{over, stands-there}
+use Rattle.reader_outline.proofs.Filling.{over, kept, stands-there}
 
 -- ---- an area of 0, by its bits
 pub zero-is : (z : ℤ) → mag z < 2 ^ hbits w64 → ofZ w64 z ≡ 0 → isZero z ≡ true
@@ -71,6 +75,37 @@ unfolding drawnBy drawable
 drawn-over l hole r e =
     let f = over l r e in
     rw (f .0, le-leb 4 (length l) (omega (arith, f .1)), lt-leb (length l) 10_000 (f .1))
+
+-- ---- what an outline that is drawn tells
+pub record Told (l : List I32Point) (hole : Bool) (n : ℕ) (back : Bool) : Type 0 where
+  pub can : drawable l ≡ true
+  pub many : n ≡ length l
+  pub turns : back ≡ backwards hole l
+  pub least : 4 ≤ n
+  pub most : n ≤ 10_000
+
+pub drawn-tells : (l : List I32Point) (hole : Bool) (n : ℕ) (back : Bool) → ok (n, back) ≡ drawnBy l hole → Told l hole n back
+unfolding drawnBy drawable
+drawn-tells l hole n back e =
+    let f = need-inv 48 (drawable l) (ok (length l, backwards hole l)) (n, back) e in
+    let g = ok-inv (n, back) (length l, backwards hole l) (f .1) in
+    let c = and-l (leb 4 (length l) && leb (length l) 10_000) (not (isZero (doubledArea l))) (f .0) in
+    let m : n ≡ length l = ap (λ (p : ℕ × Bool). p .0) g in
+    record {
+      can = f .0;
+      many = m;
+      turns = ap (λ (p : ℕ × Bool). p .1) g;
+      least = omega (arith, m, leb-true 4 (length l) (and-l (leb 4 (length l)) (leb (length l) 10_000) c));
+      most = omega (arith, m, leb-true (length l) 10_000 (and-r (leb 4 (length l)) (leb (length l) 10_000) c));
+    }
+
+-- the positions that the numbers hold, backwards where that is told, are the ring's outline
+pub outline-held : (r : Ring) (m : List ℤ) (hole : Bool) (n : ℕ) (back : Bool) → ok (n, back) ≡ drawnBy (ringPositions r) hole → Keeps m (ringPositions r) → cond back (reverse (pointsIn m n)) (pointsIn m n) ≡ outline hole r
+unfolding outline
+outline-held r m hole n back e k =
+    let t = drawn-tells (ringPositions r) hole n back e in
+    let p : pointsIn m n ≡ ringPositions r = ap (pointsIn m) (t .many) ∙ kept (ringPositions r) m k (omega (arith, t .many, t .most)) in
+    ap₂ (λ (b : Bool) (l : List I32Point). cond b (reverse l) l) (t .turns) p
 
 -- ---- a ring of the file
 module _ (o : Opened) (s : List ℕ) (k : Ready o s) (i : ℕ) (h : i < o .rings .count) where

@@ -14,12 +14,12 @@ use Rattle.plane.specs.declared.I32Point.{I32Point}
 use Rattle.answer.specs.declared.Refusal.{Refusal}
 use Rattle.answer.specs.Refusals.{refusal}
 use Rattle.answer.specs.Answers.{Answer, ok, refused, no, need, fine, outcome}
-use Rattle.answer.proofs.AnswersLaws.{zero-one, need-inv, ok-inv, outcome-fine}
-use Rattle.chunks.specs.Decode.{flat, filled}
+use Rattle.answer.proofs.AnswersLaws.{zero-one, need-inv, ok-inv}
+use Rattle.chunks.specs.Decode.{flat}
 use Rattle.opened.specs.declared.Opened.{Opened}
 use Rattle.reader_records.specs.declared.ChunkRecord.{ChunkRecord}
 use Rattle.reader_records.specs.Records.{chunkAt}
-use Rattle.reader_chunks.specs.Chunks.{chunkPoints, decodeIn, decodeAt, decodedAt}
+use Rattle.reader_chunks.specs.Chunks.{chunkPoints, decodeAt, decodedAt}
 use Rattle.reader_chunks.proofs.Decodes.{stands, count-stands, taken, roomless, accepted}
 use Rattle.reader_exact.specs.Directories.{chunkShape}
 use Rattle.reader_exact.specs.Sound.{Sound}

@@ -4,8 +4,8 @@ use Prim.Native.Nat.{ℕ, suc, _+_, _-_, _≤_, _<_}
 use native.Mathlib.Omega.{arith}
 use mathlib.Core.Path.{_≡_, refl, sym, ap, ap₂, _∙_, subst}
 use mathlib.Core.Bool.{Bool, true, false, cond}
-use mathlib.Core.List.{List, [], _∷_, _++_, map, reverse}
-use lib.ListN.{length, take, drop, length-append, length-reverse}
+use mathlib.Core.List.{List, [], _∷_, _++_, reverse}
+use lib.ListN.{length, drop, length-append, length-reverse}
 use lib.IntN.{ℤ}
 use Rattle.plane.specs.declared.I32Point.{I32Point}
 use Rattle.plane.specs.Lines.{firstOf, lastOf, first-reverse}
@@ -23,7 +23,6 @@ use Rattle.reader_records.specs.declared.GroupRecord.{GroupRecord}
 use Rattle.reader_records.specs.declared.RingRecord.{RingRecord}
 use Rattle.reader_records.specs.Records.{opAt, groupAt, ringAt, groupIndex, turnsRound}
 use Rattle.reader_exact.specs.Directories.{directories, chunkShape, opWord, opGroup, groupRecord, ringRecord}
-use Rattle.reader_exact.specs.Sound.{Sound}
 use Rattle.reader_exact.proofs.Given.{op-is, op-named, group-is, group-ruled, ring-is, ring-ruled}
 use Rattle.reader_exact.proofs.Exact.{sound-named}
 use Rattle.reader_outline.specs.Held.{pointsIn}

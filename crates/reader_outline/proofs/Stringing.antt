@@ -5,7 +5,7 @@ use native.Mathlib.Omega.{arith}
 use mathlib.Core.Path.{_≡_, refl, sym, ap, ap₂, _∙_}
 use mathlib.Core.Bool.{Bool, true, false, cond}
 use mathlib.Core.List.{List, [], _∷_, _++_, append-assoc, append-nil}
-use lib.ListN.{length, take, drop, set, getD, length-append}
+use lib.ListN.{length, take, set, getD, length-append}
 use lib.Seq.{take-suc, take-suc-set, append-snoc}
 use lib.IntN.{ℤ}
 use Rattle.plane.specs.declared.I32Point.{I32Point}

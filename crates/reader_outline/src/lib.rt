@@ -1,16 +1,15 @@
 // A ring's positions read from the file into lent numbers, two a position, and its outline. Asked only of a file that the full check accepts.
 ghost use mathlib.Core.Path.{_≡_};
 ghost use mathlib.Core.Bool.{true};
-ghost use mathlib.Core.List.{[], _++_, map};
+ghost use mathlib.Core.List.{[], _++_};
 ghost use Prim.Native.Nat.{_+_, _*_, _≤_, _<_};
 ghost use lib.ListN.{length, set, getD};
-ghost use lib.IntN.{natAbs, _*ℤ_, _+ℤ_};
+ghost use lib.IntN.{natAbs, _*ℤ_};
 ghost use Rattle.plane.specs.Domain.{inDomain};
 ghost use Rattle.plane.specs.Lines.{every, origin};
-ghost use Rattle.plane.specs.Runs.{run};
 ghost use Rattle.shapes.specs.Shapes.{chunkPoints, legPoints};
 ghost use Rattle.shapes.specs.Layout.{legAt};
-ghost use Rattle.shapes.specs.Outline.{closed, swept, doubledArea, drawable};
+ghost use Rattle.shapes.specs.Outline.{closed, swept, doubledArea};
 ghost use Rattle.reader_exact.specs.Directories.{chunkShape, directories};
 ghost use Rattle.reader_outline.specs.Held.{spots, pointsIn};
 ghost use Rattle.reader_outline.specs.Told.{Ready, filledTold, outlinedTold, counted, Keeps, positionsAt, drawnBy, outlineAt};
@@ -108,14 +107,7 @@ fn fill_chunk(o: Opened, s: &[u8], index: usize, held: &mut [i32], k: usize) -> 
 }
 
 // The points of that many chunks from chunk `first` on, behind the first k positions.
-fn fill_chunks(
-    o: Opened,
-    s: &[u8],
-    first: usize,
-    count: u16,
-    held: &mut [i32],
-    k: usize,
-) -> Filled
+fn fill_chunks(o: Opened, s: &[u8], first: usize, count: u16, held: &mut [i32], k: usize) -> Filled
     requires { ⌜ Ready o (now s) ⌝ }
     requires { ⌜ first + count ≤ o .chunks .count ⌝ }
     requires { ⌜ (length (now held) ≡ 20_000) × (k ≤ 10_000) ⌝ }

@@ -4,7 +4,6 @@ use Prim.Native.Nat.{_-_}
 use mathlib.Core.Path.{_∙_}
 use mir.Syntax.{w64}
 use mir.Val.{toZ}
-use native.Mathlib.Omega.{arith}
 use borrow.Author.Needs.{needs}
 use Rattle.basics.specs.Signed.{back}
 use Rattle.reader_outline.proofs.Area.{Summing, sum-start, first-in, second-in, sum-near, sum-on, sum-end}

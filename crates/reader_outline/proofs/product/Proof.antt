@@ -1,6 +1,5 @@
 -- `product` meets its contract: the product of two coordinates fits 64 bits.
 -- Assumes nothing.
-use mathlib.Core.Path.{refl}
 use lib.IntN.{_*ℤ_}
 use mir.Syntax.{w32, w64}
 use mir.ValLaws.{toZ-ofZ}

@@ -1,6 +1,6 @@
 -- `sweep` meets its contract: two products of coordinates, and their difference.
 -- Assumes nothing.
-use mathlib.Core.Path.{_≡_, ap₂, _∙_}
+use mathlib.Core.Path.{ap₂, _∙_}
 use lib.IntN.{ℤ, _*ℤ_}
 use mir.Syntax.{w32, w64}
 use mir.ValLaws.{toZ-ofZ}
