@@ -5,3 +5,4 @@ pub mod Spots
 pub mod Parts
 pub mod Asking
 pub mod Read
+pub mod Determined

@@ -29,7 +29,7 @@ use Rattle.reader_exact.specs.Directories.{directories, polyRecord, zoneRecord}
 use Rattle.reader_exact.specs.Sound.{Sound}
 use Rattle.reader_exact.proofs.Given.{poly-is, poly-ruled, zone-is, zone-ruled}
 use Rattle.reader_outline.specs.Held.{pointsIn}
-use Rattle.reader_outline.specs.Told.{positionsAt, outlineAt, Keeps}
+use Rattle.reader_outline.specs.Told.{positionsAt, drawnBy, outlineAt, Keeps}
 use Rattle.reader_map.specs.Steps.{toCome, way, ringFits, polygonFits, sides, sideText, partText}
 use Rattle.reader_map.proofs.Onward.{refused-need}
 use Rattle.reader_map.proofs.Rows.{listed-first, listed-row, run-first, map-run}
@@ -51,16 +51,16 @@ drawable-few l h =
 
 module _ (o : Opened) (s : List ℕ) (i : ℕ) (hole : Bool) where
   pub outline-no : (k : Refusal) → refused k ≡ outlineAt o s i hole → (drawable (positionsAt o s i) ≡ false) × (k ≡ refusal 48)
-  unfolding outlineAt
+  unfolding drawnBy
   outline-no k e = refused-need (drawable (positionsAt o s i)) (length (positionsAt o s i), backwards hole (positionsAt o s i)) k e
 
   module _ (k : ℕ) (back : Bool) (e : ok (k, back) ≡ outlineAt o s i hole) where
     pub outline-fits : drawable (positionsAt o s i) ≡ true
-    unfolding outlineAt
+    unfolding drawnBy
     outline-fits = need-inv 48 (drawable (positionsAt o s i)) (ok (length (positionsAt o s i), backwards hole (positionsAt o s i))) (k, back) e .0
 
     told : _≡_ {A = ℕ × Bool} (k, back) (length (positionsAt o s i), backwards hole (positionsAt o s i))
-    unfolding outlineAt
+    unfolding drawnBy
     told = ok-inv (k, back) (length (positionsAt o s i), backwards hole (positionsAt o s i)) (need-inv 48 (drawable (positionsAt o s i)) (ok (length (positionsAt o s i), backwards hole (positionsAt o s i))) (k, back) e .1)
 
     count : k ≡ length (positionsAt o s i)
