@@ -1,21 +1,21 @@
 -- Reading gives back what the text was made of: every number, every position, every list, every map.
 -- Assumes nothing.
-use Prim.Native.Nat.{ℕ, zero, suc, _+_, _-_, _*_, _≤_, _<_, _/_, _%_}
+use Prim.Native.Nat.{ℕ, zero, suc, _+_, _-_, _*_, _<_, _/_, _%_}
 use native.Mathlib.Nat.{not-suc-le-zero}
 use native.Mathlib.Omega.{arith}
-use mathlib.Core.Path.{_≡_, refl, sym, ap, ap₂, _∙_}
-use mathlib.Core.Bool.{Bool, true, false, _&&_, cond, false≢true}
-use mathlib.Core.List.{List, [], _∷_, _++_, append-nil, append-assoc}
+use mathlib.Core.Path.{_≡_, refl, ap, ap₂, _∙_}
+use mathlib.Core.Bool.{Bool, true, false, cond, false≢true}
+use mathlib.Core.List.{List, [], _∷_, _++_, append-assoc}
 use mathlib.Core.Option.{Option, none, some}
 use borrow.Author.Tests.{ltb-true, ltb-false, leb-true, le-leb, eq-eqb, ne-eqb}
-use lib.Dec.{ltb, leb, eqb}
+use lib.Dec.{ltb, leb}
 use lib.ListN.{length, length-append}
-use lib.IntN.{ℤ, pos, negsuc, negℤ, natAbs}
+use lib.IntN.{ℤ, pos, negsuc, negℤ}
 use Rattle.basics.specs.Truth.{and-i, and-l}
 use Rattle.plane.specs.declared.I32Point.{I32Point}
 use Rattle.plane.specs.Places.{point}
 use Rattle.geojson.specs.Ascii.{ascii}
-use Rattle.geojson.specs.Decimals.{lastDigit, digitsBy, digits, places, hundredThousandths, minus, decimal}
+use Rattle.geojson.specs.Decimals.{lastDigit, digitsBy, digits, places, hundredThousandths, decimal}
 use Rattle.geojson.specs.Text.{others, listed, positionText, ringText, polygonText, headText, tailText, mapText}
 use Rattle.geojson.specs.Reading.{
   Reader,
@@ -23,7 +23,6 @@ use Rattle.geojson.specs.Reading.{
   past,
   isDigit,
   beginsWithDigit,
-  withDigit,
   allDigits,
   kDigits,
   readPoint,
@@ -34,7 +33,7 @@ use Rattle.geojson.specs.Reading.{
   readOthers,
   inFront,
   readElements,
-  readInside,
+  closedOr,
   readListed,
   atEnd,
   readMap,
@@ -196,7 +195,7 @@ module _ {A : Type 0} (f : A → List ℕ) (read : Reader A) (back : ReadsBack f
       ∙ ap (inFront a) h
 
   others-back : (l : List A) (n : ℕ) (s : List ℕ) → length l < n → readOthers read n (others f l ++ s) ≡ some (l, s)
-  unfolding others readOthers
+  unfolding others readOthers past
   others-back l zero s h = absurd (not-suc-le-zero h)
   others-back [] (suc n) s h = refl
   others-back (a ∷ l) (suc n) s h =
@@ -221,12 +220,12 @@ module _ {A : Type 0} (f : A → List ℕ) (read : Reader A) (back : ReadsBack f
   not-closed a s = ap (λ t. past (ascii "]") (t ++ s)) (opens a .1)
 
   pub listed-back : ReadsBack (listed f) (readListed read)
-  unfolding listed readListed readInside past
+  unfolding listed readListed past
   listed-back [] rest = refl
   listed-back (a ∷ l) rest =
       let split = append-assoc (f a) (others f l) rest in
-      ap (λ t. readInside read (past (ascii "]") t) t) split
-      ∙ ap (λ o. readInside read o (f a ++ (others f l ++ rest))) (not-closed a (others f l ++ rest))
+      ap (λ t. closedOr (past (ascii "]") t) (readElements read t)) split
+      ∙ ap (λ o. closedOr o (readElements read (f a ++ (others f l ++ rest)))) (not-closed a (others f l ++ rest))
       ∙ elements-back a l rest
 
   pub listed-opens : Bracketed (listed f)

@@ -3,7 +3,7 @@
 use mathlib.Core.Path.{_≡_, refl}
 use mathlib.Core.List.{List, [], _∷_}
 use mathlib.Core.Option.{none}
-use lib.IntN.{ℤ, pos, negsuc}
+use lib.IntN.{pos, negsuc}
 use Rattle.plane.specs.declared.I32Point.{I32Point}
 use Rattle.plane.specs.Places.{point}
 use Rattle.geojson.specs.Ascii.{ascii}
@@ -58,6 +58,6 @@ pub no-point : readDecimal (ascii "000000") ≡ none
 unfolding past allDigits kDigits readPoint readSize readSigned readDecimal
 no-point = refl
 
-pub six-decimals : readPosition (ascii "[0.000000,0.00000]") ≡ none
+pub six-decimals : readPosition (ascii "[0.000000,0.000000]") ≡ none
 unfolding past allDigits kDigits readPoint readSize readSigned readDecimal readPosition
 six-decimals = refl

@@ -29,6 +29,7 @@ past (b ∷ t) [] = none
 past (b ∷ t) (x ∷ s) = cond (eqb x b) (past t s) none
 
 -- ---- decimals
+-- "0" is 48, "9" is 57
 abbrev pub isDigit : ℕ → Bool
 isDigit b = leb 48 b && leb b 57
 
@@ -51,13 +52,15 @@ kDigits zero n s = some (n, s)
 kDigits (suc k) n [] = none
 kDigits (suc k) n (b ∷ s) = cond (isDigit b) (kDigits k (withDigit n b) s) none
 
--- one digit or more, the point, five digits: with the point left out, how many hundred-thousandths it is
+-- behind the digits of the whole part w: the point and five digits. Without the point they say how many hundred-thousandths it is
 unfoldable pub readPoint : ℕ × List ℕ → Option (ℕ × List ℕ)
 readPoint w = past (ascii ".") (w .1) onto λ s. kDigits 5 (w .0) s
 
+-- no sign, and at least one digit
 unfoldable pub readSize : Reader ℕ
 readSize s = cond (beginsWithDigit s) (readPoint (allDigits 0 s)) none
 
+-- behind a minus, or without one
 unfoldable pub readSigned : Option (List ℕ) → Reader ℤ
 readSigned (some t) s = readSize t onto λ n. some (negℤ (pos (n .0)), n .1)
 readSigned none s = readSize s onto λ n. some (pos (n .0), n .1)
@@ -81,25 +84,25 @@ abbrev pub inFront : {A : Type 0} → A → Option (List A × List ℕ) → Opti
 inFront a none = none
 inFront a (some r) = some (a ∷ r .0, r .1)
 
+-- no element where the bracket closes, else what is read otherwise
+abbrev pub closedOr : {A : Type 0} → Option (List ℕ) → Option (List A × List ℕ) → Option (List A × List ℕ)
+closedOr (some t) r = some ([], t)
+closedOr none r = r
+
 module _ {A : Type 0} (read : Reader A) where
-  -- behind an element, at most n others
+  -- behind an element: fewer than n others, each behind a comma
   unfoldable pub readOthers : ℕ → Reader (List A)
   readOthers zero s = none
-  readOthers (suc n) [] = none
-  readOthers (suc n) (b ∷ s) =
-      cond (eqb b 93) (some ([], s))
-      (cond (eqb b 44) (read s onto λ a. inFront (a .0) (readOthers n (a .1))) none)
+  readOthers (suc n) s =
+      closedOr (past (ascii "]") s)
+      (past (ascii ",") s onto λ t. read t onto λ a. inFront (a .0) (readOthers n (a .1)))
 
+  -- there are fewer elements than bytes
   unfoldable pub readElements : Reader (List A)
   readElements s = read s onto λ a. inFront (a .0) (readOthers (length (a .1)) (a .1))
 
-  -- "]" at once, or elements
-  unfoldable pub readInside : Option (List ℕ) → Reader (List A)
-  readInside (some t) s = some ([], t)
-  readInside none s = readElements s
-
   unfoldable pub readListed : Reader (List A)
-  readListed s = past (ascii "[") s onto λ t. readInside (past (ascii "]") t) t
+  readListed s = past (ascii "[") s onto λ t. closedOr (past (ascii "]") t) (readElements t)
 
 -- ---- the whole text, and nothing behind it
 abbrev pub atEnd : {A : Type 0} → A × List ℕ → Option A

@@ -2,7 +2,7 @@
 // it lays: where the bytes do not suffice, that place still says how many it takes.
 ghost use mathlib.Core.Path.{_≡_};
 ghost use mathlib.Core.List.{[], _∷_};
-ghost use Prim.Native.Nat.{_+_, _/_, _≤_, _<_};
+ghost use Prim.Native.Nat.{_+_, _≤_, _<_};
 ghost use lib.ListN.{length};
 ghost use Rattle.plane.specs.Places.{point};
 ghost use Rattle.geojson.specs.Decimals.{lastDigit, digits, places, hundredThousandths, decimal};

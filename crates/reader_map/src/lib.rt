@@ -32,7 +32,7 @@ pub enum Text {
 // Where in the lent numbers the next of k positions stands, of which `left` are left.
 fn spot(back: bool, k: usize, left: usize) -> usize
     requires { ⌜ (0 < left) × (left ≤ k) × (k ≤ 10_000) ⌝ }
-    ensures { λ r. ⌜ r ≡ 2 * spotOf back k left ⌝ }
+    ensures { λ r. ⌜ (r ≡ 2 * spotOf back k left) × (r + 1 < 2 * k) ⌝ }
 {
     if back { 2 * (left - 1) } else { 2 * (k - left) }
 }
@@ -87,7 +87,7 @@ fn draw_rings(
     out: &mut [u8],
     from: usize,
 ) -> Text
-    requires { ⌜ Ready o (now s) × (first + count ≤ o .rings .count) × (length (now held) ≡ 20_000) × (from ≤ 0x1000_0000_0000_0000) ⌝ }
+    requires { ⌜ Ready o (now s) × (first < 0x1_0000_0000) × (first + count ≤ o .rings .count) × (length (now held) ≡ 20_000) × (from ≤ 0x1000_0000_0000_0000) ⌝ }
     ensures { λ r. ⌜ Drawn (every ringFits (run (ringAt (directories o (now (s .entry)))) count first)) (toCome (sideText o (now (s .entry)) first) 91 count first) 18_349_931_071 from (textTold r) (now (out .entry)) (now (out .exit)) ⌝ }
 {
     let mut at = from;
@@ -134,7 +134,7 @@ fn draw_polygons(
     out: &mut [u8],
     from: usize,
 ) -> Text
-    requires { ⌜ Ready o (now s) × (first + count ≤ o .polys .count) × (length (now held) ≡ 20_000) × (from ≤ 0x800_0000_0000_0000) ⌝ }
+    requires { ⌜ Ready o (now s) × (first < 0x1_0000_0000) × (first + count ≤ o .polys .count) × (length (now held) ≡ 20_000) × (from ≤ 0x800_0000_0000_0000) ⌝ }
     ensures { λ r. ⌜ Drawn (every polygonFits (run (polygonAt (directories o (now (s .entry)))) count first)) (toCome (partText o (now (s .entry))) 91 count first) 1_202_562_732_803_521 from (textTold r) (now (out .entry)) (now (out .exit)) ⌝ }
 {
     let mut at = from;

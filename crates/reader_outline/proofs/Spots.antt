@@ -2,10 +2,10 @@
 -- Assumes nothing.
 use Prim.Native.Nat.{ℕ, zero, suc, _+_, _*_, _≤_, _<_}
 use native.Mathlib.Omega.{arith}
-use mathlib.Core.Path.{_≡_, refl, sym, ap, ap₂, _∙_}
+use mathlib.Core.Path.{_≡_, refl, sym, ap, _∙_}
 use mathlib.Core.List.{List, [], _∷_, _++_, append-assoc}
-use lib.ListN.{length, take, drop, set, getD, length-append}
-use lib.Seq.{take-at, length-take-le, drop-nil}
+use lib.ListN.{length, take, set, getD, length-append}
+use lib.Seq.{take-at, length-take-le}
 use lib.IntN.{ℤ, pos}
 use Rattle.plane.specs.declared.I32Point.{I32Point}
 use Rattle.plane.specs.Places.{point}

@@ -2,12 +2,11 @@
 -- Assumes nothing.
 use Prim.Native.Nat.{ℕ, suc, _+_, _-_, _≤_, _<_}
 use native.Mathlib.Omega.{arith}
-use native.Mathlib.Numerals.{add-one}
 use mathlib.Core.Path.{_≡_, refl, sym, ap, ap₂, _∙_}
 use mathlib.Core.Bool.{Bool, true, false}
 use mathlib.Core.List.{List, [], _∷_, _++_, reverse, append-assoc, reverse-append, reverse-cons}
-use lib.ListN.{length, take, drop, set, getD, length-set, length-append, length-drop, length-reverse, take-append-drop, drop-of-length-le}
-use lib.Seq.{take-at, drop-at, set-at, split-at, append-snoc, take-suc, length-take-le, getD-drop}
+use lib.ListN.{length, take, drop, set, getD, length-set, length-append, length-drop, length-reverse, take-append-drop}
+use lib.Seq.{take-at, drop-at, set-at, split-at, append-snoc, length-take-le, getD-drop}
 use lib.Dec.{eqb}
 use borrow.Author.Tests.{eqb-true, eqb-false}
 use mathlib.Core.Logic.{_≢_}

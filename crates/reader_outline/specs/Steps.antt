@@ -3,17 +3,18 @@
 use Prim.Native.Nat.{ℕ, _≤_}
 use mathlib.Core.Path.{_≡_}
 use mathlib.Core.Bool.{Bool, cond}
-use mathlib.Core.List.{List, [], _∷_, _++_, reverse}
-use lib.ListN.{take, drop, length}
+use mathlib.Core.List.{List, [], _∷_, _++_, map, reverse}
+use lib.ListN.{take, drop}
 use lib.IntN.{ℤ}
 use Rattle.plane.specs.declared.I32Point.{I32Point}
 use Rattle.plane.specs.Lines.{lastFrom}
 use Rattle.plane.specs.Runs.{run}
-use Rattle.shapes.specs.Shapes.{points}
+use Rattle.shapes.specs.Shapes.{points, legPoints}
+use Rattle.shapes.specs.Layout.{legAt}
 use Rattle.shapes.specs.Outline.{after}
 use Rattle.opened.specs.declared.Opened.{Opened}
 use Rattle.reader_records.specs.declared.GroupRecord.{GroupRecord}
-use Rattle.reader_exact.specs.Directories.{chunkShape}
+use Rattle.reader_exact.specs.Directories.{chunkShape, directories}
 use Rattle.reader_outline.specs.Held.{pointsIn}
 
 -- the points of n chunks from chunk i on
@@ -23,6 +24,10 @@ rowPoints o s n i = points (run (chunkShape o s) n i)
 -- those of a group, as they are stored or turned round
 unfoldable pub sidePoints : Opened → List ℕ → GroupRecord → Bool → List I32Point
 sidePoints o s g turned = cond turned (reverse (rowPoints o s (g .count) (g .first))) (rowPoints o s (g .count) (g .first))
+
+-- the legs of n ops from op i on
+unfoldable pub legsRow : Opened → List ℕ → ℕ → ℕ → List (List I32Point)
+legsRow o s n i = map legPoints (run (legAt (directories o s)) n i)
 
 -- where a group is entered
 unfoldable pub entryOf : GroupRecord → Bool → I32Point

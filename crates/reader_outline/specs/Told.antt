@@ -47,6 +47,9 @@ Keeps m l = length l ≤ 10_000 → pointsIn m (length l) ≡ l
 abbrev pub positionsAt : Opened → List ℕ → ℕ → List I32Point
 positionsAt o s i = ringPositions (ringAt (directories o s) i)
 
--- "48 for a ring of under four positions, over 10,000, or zero area"
-unfoldable pub outlineAt : Opened → List ℕ → ℕ → Bool → Answer (ℕ × Bool)
-outlineAt o s i hole = need 48 (drawable (positionsAt o s i)) (ok (length (positionsAt o s i), backwards hole (positionsAt o s i)))
+-- "48 for a ring of under four positions, over 10,000, or zero area": of a ring, which may be a hole, with those positions
+unfoldable pub drawnBy : List I32Point → Bool → Answer (ℕ × Bool)
+drawnBy l hole = need 48 (drawable l) (ok (length l, backwards hole l))
+
+abbrev pub outlineAt : Opened → List ℕ → ℕ → Bool → Answer (ℕ × Bool)
+outlineAt o s i hole = drawnBy (positionsAt o s i) hole

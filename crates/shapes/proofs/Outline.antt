@@ -1,20 +1,20 @@
 -- Laws of outlines: the doubled area of positions in the domain fits 64 bits, so far and in all; a closed ring turned round starts where it started; a ring in the domain has its positions there.
 -- Assumes nothing.
-use Prim.Native.Nat.{ℕ, zero, suc, _+_, _*_, _≤_}
+use Prim.Native.Nat.{zero, suc, _+_, _*_, _≤_}
 use native.Mathlib.Omega.{arith}
 use native.Mathlib.Nat.{mul-le-mul}
-use mathlib.Core.Path.{_≡_, refl, sym, ap, _∙_}
+use mathlib.Core.Path.{_≡_, refl, sym, _∙_}
 use mathlib.Core.Bool.{Bool, true, false, _&&_, cond}
 use mathlib.Core.List.{List, [], _∷_, _++_, map, reverse, reverseAux}
 use lib.ListN.{length, length-append}
-use lib.IntN.{ℤ, pos, negsuc, negℤ, natAbs, _+ℤ_, _-ℤ_, _*ℤ_}
+use lib.IntN.{ℤ, pos, negsuc, negℤ, natAbs, _-ℤ_, _*ℤ_}
 use Rattle.basics.specs.Truth.{and-i, and-l, and-r}
 use Rattle.basics.specs.Signed.{sum-abs}
 use Rattle.plane.specs.declared.I32Point.{I32Point}
 use Rattle.plane.specs.Segment.{samePoint}
 use Rattle.plane.specs.Turns.{same-true}
 use Rattle.plane.specs.Domain.{inDomain}
-use Rattle.plane.specs.Lines.{every, every-append, every-prefix, every-last, firstOf, lastFrom, lastOf, last-append, first-reverse}
+use Rattle.plane.specs.Lines.{every, every-append, every-prefix, firstOf, lastFrom, lastOf, last-append, first-reverse}
 use Rattle.plane.proofs.DomainLaws.{domain-x, domain-y}
 use Rattle.boxes.specs.Box.{boxInDomain}
 use Rattle.shapes.specs.Shapes.{Chunk, chunkPoints, points, groupChunks, groupPoints, Leg, legPoints, Ring, chunkInDomain, groupInDomain, legInDomain, ringInDomain}

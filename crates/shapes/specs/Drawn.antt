@@ -2,9 +2,8 @@
 -- Assumes nothing.
 use mathlib.Core.Path.{_≡_, refl}
 use mathlib.Core.Bool.{true}
-use mathlib.Core.List.{List, [], _∷_}
-use lib.IntN.{ℤ, pos}
-use Rattle.plane.specs.declared.I32Point.{I32Point}
+use mathlib.Core.List.{[], _∷_}
+use lib.IntN.{pos}
 use Rattle.plane.specs.Segment.{samePoint}
 use Rattle.shapes.specs.Shapes.{Group, Zone}
 use Rattle.shapes.specs.Outline.{ringPositions, swept, doubledArea, drawable, backwards, outline, outlines, zoneDrawable}

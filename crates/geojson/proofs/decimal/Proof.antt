@@ -37,9 +37,12 @@ same-length c = search needs
 returns : tie.Need-returns
 unfolding decimal
 returns c =
-    let a = c .before .before .before .before .before .before .before .before .before .before in
-    let b = below w32 (a .args .x) (a .fits .x) (c .before .before .before .before .before .before .before .before .if1 .taken) in
-    let w = being (b .told) (wrote (c .before .before .before .before .before .before .put .ensures .0) (c .before .before .before .before .before .before .put .ensures .1)) behind being (ap hundredThousandths (ap (λ (z : ℤ). natAbs z + 1) (b .turned) ∙ b .own)) (wrote (c .before .before .hundred-thousandths .ensures .0) (c .before .before .hundred-thousandths .ensures .1)) in
+    let sign = c .before .before .before .before .before .before in
+    let test = sign .before .before in
+    let a = test .before .before in
+    let b = below w32 (a .args .x) (a .fits .x) (test .if1 .taken) in
+    let w = being (b .told) (wrote (sign .put .ensures .0) (sign .put .ensures .1))
+    behind being (ap hundredThousandths (ap (λ (z : ℤ). natAbs z + 1) (b .turned) ∙ b .own)) (wrote (c .before .before .hundred-thousandths .ensures .0) (c .before .before .hundred-thousandths .ensures .1)) in
     (w .next, near _ _ _ _ (w .next) (decimal-most (a .args .x) (natAbs-le (a .args .x) (a .fits .x .sfits))), w .is)
 
 cast-hundred-thousandths-2 : tie.Need-cast-hundred-thousandths-2
@@ -58,7 +61,8 @@ unfolding decimal
 returns-2 c =
     let a = c .before .before .before .before .before .before in
     let b = above w32 (a .args .x) (a .fits .x) (c .before .before .before .before .if1 .left) in
-    let w = being (b .told) (wrote (sym (add-zero _)) (sym (over-none _ _))) behind being (ap hundredThousandths (ap natAbs (b .is) ∙ b .own)) (wrote (c .before .before .hundred-thousandths2 .ensures .0) (c .before .before .hundred-thousandths2 .ensures .1)) in
+    let w = being (b .told) (wrote (sym (add-zero _)) (sym (over-none _ _)))
+    behind being (ap hundredThousandths (ap natAbs (b .is) ∙ b .own)) (wrote (c .before .before .hundred-thousandths2 .ensures .0) (c .before .before .hundred-thousandths2 .ensures .1)) in
     (w .next, near _ _ _ _ (w .next) (decimal-most (a .args .x) (natAbs-le (a .args .x) (a .fits .x .sfits))), w .is)
 
 pub decimal-spec : {M : Type 1} → statement M

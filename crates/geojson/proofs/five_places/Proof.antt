@@ -28,11 +28,16 @@ same-length c = search needs
 returns : tie.Need-returns
 unfolding places
 returns c =
-    let w = being (five _) (wrote (c .before .before .before .before .before .before .before .before .before .before .before .before .before .before .before .before .before .before .digit .ensures .0) (c .before .before .before .before .before .before .before .before .before .before .before .before .before .before .before .before .before .before .digit .ensures .1)
-    behind wrote (c .before .before .before .before .before .before .before .before .before .before .before .before .before .before .digit2 .ensures .0) (c .before .before .before .before .before .before .before .before .before .before .before .before .before .before .digit2 .ensures .1)
-    behind wrote (c .before .before .before .before .before .before .before .before .before .before .digit3 .ensures .0) (c .before .before .before .before .before .before .before .before .before .before .digit3 .ensures .1)
-    behind wrote (c .before .before .before .before .before .before .digit4 .ensures .0) (c .before .before .before .before .before .before .digit4 .ensures .1)
-    behind wrote (c .before .before .digit5 .ensures .0) (c .before .before .digit5 .ensures .1)) in
+    let fifth = c .before .before in
+    let fourth = fifth .before .before .before .before in
+    let third = fourth .before .before .before .before in
+    let second = third .before .before .before .before in
+    let first = second .before .before .before .before in
+    let w = being (five _) (wrote (first .digit .ensures .0) (first .digit .ensures .1)
+    behind wrote (second .digit2 .ensures .0) (second .digit2 .ensures .1)
+    behind wrote (third .digit3 .ensures .0) (third .digit3 .ensures .1)
+    behind wrote (fourth .digit4 .ensures .0) (fourth .digit4 .ensures .1)
+    behind wrote (fifth .digit5 .ensures .0) (fifth .digit5 .ensures .1)) in
     (w .next, w .is)
 
 pub five-places-spec : {M : Type 1} → statement M

@@ -1,8 +1,8 @@
 -- `geojson::hundred_thousandths` meets its contract: past the end only measured, else the whole part, the point and five places.
 -- Assumes nothing.
-use Prim.Native.Nat.{ℕ, _+_, _/_, _%_}
+use Prim.Native.Nat.{ℕ, _+_, _/_}
 use native.Mathlib.Omega.{arith}
-use mathlib.Core.Path.{sym, ap, _∙_}
+use mathlib.Core.Path.{sym, ap}
 use borrow.Author.Needs.{needs}
 use Rattle.geojson.specs.Decimals.{hundredThousandths}
 use Rattle.geojson.proofs.OverLaws.{over-past, wrote, _behind_}
@@ -34,9 +34,12 @@ same-length c = search needs
 returns-2 : tie.Need-returns-2
 unfolding hundredThousandths
 returns-2 c =
-    let w = wrote (c .before .before .before .before .before .before .before .before .before .before .digits .ensures .0) (c .before .before .before .before .before .before .before .before .before .before .digits .ensures .1)
-    behind wrote (c .before .before .before .before .before .before .put .ensures .0) (c .before .before .before .before .before .before .put .ensures .1)
-    behind wrote (places-placed _ _ _ (c .before .before .five-places .ensures .0)) (c .before .before .five-places .ensures .1) in
+    let last = c .before .before in
+    let point = last .before .before .before .before in
+    let whole = point .before .before .before .before in
+    let w = wrote (whole .digits .ensures .0) (whole .digits .ensures .1)
+    behind wrote (point .put .ensures .0) (point .put .ensures .1)
+    behind wrote (places-placed _ _ _ (last .five-places .ensures .0)) (last .five-places .ensures .1) in
     (w .next, w .is)
 
 pub hundred-thousandths-spec : {M : Type 1} → statement M

@@ -34,15 +34,20 @@ same-length c = search needs
 returns : tie.Need-returns
 unfolding positionText
 returns c =
-    let a = c .before .before .before .before .before .before .before .before .before .before .before .before .before .before .before .before .before .before .before .before .before in
+    let end = c .before .before in
+    let second = end .before .before .before .before in
+    let comma = second .before .before .before .before in
+    let first = comma .before .before .before .before in
+    let begin = first .before .before .before .before in
+    let a = begin .before .before .before in
     let x = toZ-ofZ w32 (a .args .x) (a .fits .x) in
     let y = toZ-ofZ w32 (a .args .y) (a .fits .y) in
     let small = position-most (point (a .args .x) (a .args .y)) (natAbs-le (a .args .x) (a .fits .x .sfits)) (natAbs-le (a .args .y) (a .fits .y .sfits)) in
-    let w = wrote (c .before .before .before .before .before .before .before .before .before .before .before .before .before .before .before .before .before .before .put .ensures .0) (c .before .before .before .before .before .before .before .before .before .before .before .before .before .before .before .before .before .before .put .ensures .1)
-    behind being (ap decimal x) (wrote (c .before .before .before .before .before .before .before .before .before .before .before .before .before .before .decimal .ensures .0) (c .before .before .before .before .before .before .before .before .before .before .before .before .before .before .decimal .ensures .2))
-    behind wrote (c .before .before .before .before .before .before .before .before .before .before .put2 .ensures .0) (c .before .before .before .before .before .before .before .before .before .before .put2 .ensures .1)
-    behind being (ap decimal y) (wrote (c .before .before .before .before .before .before .decimal2 .ensures .0) (c .before .before .before .before .before .before .decimal2 .ensures .2))
-    behind wrote (c .before .before .put3 .ensures .0) (c .before .before .put3 .ensures .1) in
+    let w = wrote (begin .put .ensures .0) (begin .put .ensures .1)
+    behind being (ap decimal x) (wrote (first .decimal .ensures .0) (first .decimal .ensures .2))
+    behind wrote (comma .put2 .ensures .0) (comma .put2 .ensures .1)
+    behind being (ap decimal y) (wrote (second .decimal2 .ensures .0) (second .decimal2 .ensures .2))
+    behind wrote (end .put3 .ensures .0) (end .put3 .ensures .1) in
     (w .next, near _ _ _ _ (w .next) small, w .is)
 
 pub position-spec : {M : Type 1} → statement M
