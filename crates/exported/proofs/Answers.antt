@@ -222,7 +222,7 @@ module _ (held file : List ℕ) (zone : ℕ) (x y r : ℤ) (c : Tzb-contains hel
       walked : length held ≡ 84 → zone < openedIn held .zones .count → inDomain (point x y) ≡ true → Tells yesNo (zoneOf (openedIn held) file (pointOf (point x y)) zone) r
       walked h l d =
           let e = whole-is (openedIn held) file zone (point x y) l d in
-          let t = higher 46 47 (omega arith) _ (contains-q (openedIn held) file zone (point x y)) in
+          let t = higher 46 48 (omega arith) _ (contains-q (openedIn held) file zone (point x y)) in
           let w = inside-tells (containsAt (openedIn held) file zone (point x y)) t in
           record { value = λ b f. contains-at h ∙ w .value b (f ∙ e); refusal = λ n f. contains-at h ∙ w .refusal n (f ∙ e) }
 
@@ -240,13 +240,13 @@ module _ (held file : List ℕ) (lng lat : Float) (r : ℤ) (c : Tzb-ask held fi
     where
       found : length held ≡ 84 → Tells zoneNumber (lookupOf (openedIn held) file lng lat) r
       found h =
-          let w = zone-tells (lookupOf (openedIn held) file lng lat) (higher 46 47 (omega arith) _ (lookup-q (openedIn held) file lng lat)) in
+          let w = zone-tells (lookupOf (openedIn held) file lng lat) (higher 46 48 (omega arith) _ (lookup-q (openedIn held) file lng lat)) in
           record { value = λ z f. ask-at h ∙ w .value z f; refusal = λ n f. ask-at h ∙ w .refusal n f }
 
 -- ---- opening and asking at once
 module _ (file : List ℕ) (lng lat : Float) (r : ℤ) (c : Tzb-lookup file lng lat r) where
   once : Tells zoneNumber (lookupOnce file lng lat) (zoneCode (lookupOnce file lng lat))
-  once = zone-tells (lookupOnce file lng lat) (higher 46 47 (omega arith) _ (once-tabled file lng lat))
+  once = zone-tells (lookupOnce file lng lat) (higher 46 48 (omega arith) _ (once-tabled file lng lat))
 
   pub lookup-answers : LookupAnswers file lng lat r
   lookup-answers = record { refuses = λ n e. lookup-answer c ∙ once .refusal n (once-barred file lng lat (refusal n) e); found = found }

@@ -27,15 +27,17 @@ use Rattle.tzb.specs.FullCheck.{fullCheckOf}
 use Rattle.tzb_codes.specs.Codes.{refusalCode, doneCode, zoneCode, checkCode, ruleOf, numberCode}
 use Rattle.tzb_c.specs.Opens.{openInto, lookupOnce}
 use Rattle.tzb_c.proofs.Kept.{once-small}
-use Rattle.exported.specs.Words.{Refuses}
+use Rattle.exported.specs.Words.{refusing, Refuses}
 use Rattle.exported.specs.Demand1.{NumberOrRefusal, NumberOrAsItWas, DoneOrAsItWas, ZoneNoneOrRefusal, Demand1}
-use Rattle.exported.proofs.Meaning.{open-answer, open-memory, full-check-answer, rule-answer, lookup-answer, contains-answer, ask-answer, choice-answer, all-answer, all-memory, decode-answer, decode-memory, name-answer, name-memory, start-answer, end-answer, candidate-answer, zone-count-answer}
+use Rattle.exported.proofs.Meaning.{open-answer, open-memory, full-check-answer, rule-answer, lookup-answer, contains-answer, ask-answer, choice-answer, all-answer, all-memory, decode-answer, decode-memory, name-answer, name-memory, start-answer, end-answer, candidate-answer, zone-count-answer, map-answer, map-memory, map-length-answer}
 use Rattle.exported.proofs.Tabled.{Tabled, given, need-t, then-t, raised, higher}
 use Rattle.exported.proofs.Opening.{open-tabled}
 use Rattle.exported.proofs.Questions.{record-q, bounds-q, candidates-q, candidate-q, decode-q, contains-q, lookup-q, list-q}
 use Rattle.exported.proofs.Room.{into-tabled}
 use Rattle.exported.proofs.Checks.{Checks, refused-by, accepts, breaks, checks}
 use Rattle.exported.proofs.Codes.{apart, refusal-below, same-number, refuses, number-told, start-told, end-told, kind-told, inside-told, zone-told}
+use Rattle.exported.proofs.Maps.{map-tabled, length-tabled, map-told, length-told}
+use Rattle.tzb_map.specs.Map.{mapOf, mapIn}
 use Rattle.plane.specs.Places.{point}
 use Rattle.replies.specs.Replies.{inZone, Outcome}
 use Rattle.answer.proofs.AnswersLaws.{then-inv, ok-inv}
@@ -46,60 +48,60 @@ unfolding lookupOnce
 once-tabled file lng lat = then-t _ _ (higher 34 46 (omega arith) _ (open-tabled file)) (λ o. lookup-q o file lng lat)
 
 -- of a question with the record as bytes
-asked : {A : Type 0} (held : List ℕ) (f : Opened → Answer A) → ((o : Opened) → Tabled 46 (f o)) → Tabled 47 (recordOf held then f)
-asked held f h = higher 46 47 (omega arith) _ (then-t (recordOf held) f (record-q held) h)
+asked : {A : Type 0} (held : List ℕ) (f : Opened → Answer A) → ((o : Opened) → Tabled 46 (f o)) → Tabled 48 (recordOf held then f)
+asked held f h = higher 46 48 (omega arith) _ (then-t (recordOf held) f (record-q held) h)
 
 module _ (held file : List ℕ) where
-  zones-tabled : Tabled 47 (zonesAsked held)
+  zones-tabled : Tabled 48 (zonesAsked held)
   unfolding zonesAsked
   zones-tabled = asked held (λ o. ok (o .zones .count)) (λ o. given _)
 
-  pub contains-tabled : (zone : ℕ) (q : I32Point) → Tabled 47 (containsAsked held file zone q)
+  pub contains-tabled : (zone : ℕ) (q : I32Point) → Tabled 48 (containsAsked held file zone q)
   unfolding containsAsked
   contains-tabled zone q = asked held _ (λ o. contains-q o file zone q)
 
-  pub ask-tabled : (lng lat : Float) → Tabled 47 (lookupAsked held file lng lat)
+  pub ask-tabled : (lng lat : Float) → Tabled 48 (lookupAsked held file lng lat)
   unfolding lookupAsked
   ask-tabled lng lat = asked held _ (λ o. lookup-q o file lng lat)
 
-  list-tabled : (lng lat : Float) (places : ℕ) → Tabled 47 (listAsked held file lng lat places)
+  list-tabled : (lng lat : Float) (places : ℕ) → Tabled 48 (listAsked held file lng lat places)
   unfolding listAsked
   list-tabled lng lat places = asked held _ (λ o. list-q o file lng lat places)
 
-  decode-tabled : (chunk : ℕ) (out : List ℤ) → Tabled 47 (decodeAsked held file chunk out)
+  decode-tabled : (chunk : ℕ) (out : List ℤ) → Tabled 48 (decodeAsked held file chunk out)
   unfolding decodeAsked
   decode-tabled chunk out = asked held _ (λ o. decode-q o file chunk out)
 
-  name-tabled : (zone : ℕ) → Tabled 47 (nameAsked held file zone)
+  name-tabled : (zone : ℕ) → Tabled 48 (nameAsked held file zone)
   unfolding nameAsked
   name-tabled zone = asked held _ (λ o. bounds-q file _ _ zone)
 
-  ends-tabled : (zone room : ℕ) → Tabled 47 (endsAsked held file zone room)
+  ends-tabled : (zone room : ℕ) → Tabled 48 (endsAsked held file zone room)
   unfolding endsAsked
   ends-tabled zone room = then-t _ _ (name-tabled zone) (λ e. need-t 46 (atMost 2 room) _ refl (given _))
 
-  choice-tabled : (lng lat : Float) → Tabled 47 (choiceAsked held file lng lat)
+  choice-tabled : (lng lat : Float) → Tabled 48 (choiceAsked held file lng lat)
   unfolding choiceAsked
   choice-tabled lng lat = asked held _ (λ o. candidates-q o file lng lat)
 
-  candidate-tabled : (place : ℕ) → Tabled 47 (candidateAsked held file place)
+  candidate-tabled : (place : ℕ) → Tabled 48 (candidateAsked held file place)
   unfolding candidateAsked
   candidate-tabled place = asked held _ (λ o. candidate-q o file place)
 
 -- ---- a refusal leaves lent memory as it was
-kept-told : (memory : List ℕ) (x : Answer (List ℕ)) → Tabled 47 x → DoneOrAsItWas (doneCode x) memory (left memory x)
+kept-told : (memory : List ℕ) (x : Answer (List ℕ)) → Tabled 48 x → DoneOrAsItWas (doneCode x) memory (left memory x)
 kept-told memory (ok l) h = inl refl
 kept-told memory (refused k) h = inr (refuses k (h .by), refl)
 
-ends-told : (ends : List ℕ) (x : Answer (ℕ × ℕ)) → Tabled 47 x → DoneOrAsItWas (doneCode x) ends (endsAfter ends x)
+ends-told : (ends : List ℕ) (x : Answer (ℕ × ℕ)) → Tabled 48 x → DoneOrAsItWas (doneCode x) ends (endsAfter ends x)
 ends-told ends (ok e) h = inl refl
 ends-told ends (refused k) h = inr (refuses k (h .by), refl)
 
-places-told : (places : List ℕ) (x : Answer (List ℕ)) → Tabled 47 x → NumberOrAsItWas (numberCode (howMany x)) places (left places x)
+places-told : (places : List ℕ) (x : Answer (List ℕ)) → Tabled 48 x → NumberOrAsItWas (numberCode (howMany x)) places (left places x)
 places-told places (ok l) h = inl (length l, refl)
 places-told places (refused k) h = inr (refuses k (h .by), refl)
 
-numbers-told : (numbers : List ℤ) (x : Answer (List I32Point)) → Tabled 47 x → NumberOrAsItWas (numberCode (howMany x)) numbers (filled numbers x)
+numbers-told : (numbers : List ℤ) (x : Answer (List I32Point)) → Tabled 48 x → NumberOrAsItWas (numberCode (howMany x)) numbers (filled numbers x)
 numbers-told numbers (ok l) h = inl (length l, refl)
 numbers-told numbers (refused k) h = inr (refuses k (h .by), refl)
 
@@ -135,7 +137,7 @@ module _ (file : List ℕ) where
   Check x = (checkCode x ≡ pos 0) ⊎ Refuses (checkCode x)
 
   check-of : Checks file → Check (fullCheckOf file)
-  check-of (refused-by k h e f) = subst Check f (inr (refuses k (raised 34 47 (omega arith) k h)))
+  check-of (refused-by k h e f) = subst Check f (inr (refuses k (raised 34 48 (omega arith) k h)))
   check-of (accepts e z f) = subst Check f (inl refl)
   check-of (breaks e z f) = subst Check f (inr (refuses (refusal 47) (record { least = omega arith; greatest = omega arith })))
 
@@ -163,7 +165,7 @@ given-number (refused k) n e = absurd (refusal-below n k e)
 barred-told : {A : Type 0} (x : Answer Opened) (f : Opened → Answer A) (code : Answer A → ℤ) → ((k : Refusal) → code (refused k) ≡ refusalCode k) → Tabled 46 x
     → Refuses (numberCode (x then λ o. ok (o .zones .count))) → Refuses (code (x then f))
 barred-told (ok o) f code h t w = absurd (apart (o .zones .count) _ (w .tells))
-barred-told (refused k) f code h t w = subst Refuses (sym (h k)) (refuses k (raised 46 47 (omega arith) k (t .by)))
+barred-told (refused k) f code h t w = subst Refuses (sym (h k)) (refuses k (raised 46 48 (omega arith) k (t .by)))
 
 ask-barred : (held file : List ℕ) (lng lat : Float) → Refuses (numberCode (zonesAsked held)) → Refuses (zoneCode (lookupAsked held file lng lat))
 unfolding zonesAsked lookupAsked
@@ -175,7 +177,7 @@ demand-1 file =
       opening = λ memory r after c. done-as (open-answer c) (open-memory c) (kept-told memory (openInto file memory) (into-tabled file memory));
       full-check = λ r c. subst (λ (z : ℤ). (z ≡ pos 0) ⊎ Refuses z) (sym (full-check-answer c)) (check-of file (checks file));
       rule = λ r c. subst Rule (sym (rule-answer c)) (rule-of file (checks file));
-      lookup = λ lng lat r c. subst (ZoneNoneOrRefusal 65_535) (sym (lookup-answer c)) (zone-told 65_535 (lookupOnce file lng lat) (higher 46 47 (omega arith) _ (once-tabled file lng lat)) (once-small file lng lat));
+      lookup = λ lng lat r c. subst (ZoneNoneOrRefusal 65_535) (sym (lookup-answer c)) (zone-told 65_535 (lookupOnce file lng lat) (higher 46 48 (omega arith) _ (once-tabled file lng lat)) (once-small file lng lat));
       ask = λ held zones n lng lat r c.
           subst (ZoneNoneOrRefusal zones) (sym (ask-answer c)) (zone-told zones (lookupAsked held file lng lat) (ask-tabled held file lng lat) (ask-below held file lng lat zones (given-number (zonesAsked held) zones (zone-count-answer n))));
       ask-barred = λ held q n w lng lat r c. subst Refuses (sym (ask-answer c)) (ask-barred held file lng lat (subst Refuses (zone-count-answer n) w));
@@ -189,4 +191,6 @@ demand-1 file =
       name-end = λ held zone r c. subst NumberOrRefusal (sym (end-answer c)) (end-told (nameAsked held file zone) (name-tabled held file zone));
       choice = λ held lng lat r c. subst NumberOrRefusal (sym (choice-answer c)) (kind-told (choiceAsked held file lng lat) (choice-tabled held file lng lat));
       candidate = λ held place r c. subst NumberOrRefusal (sym (candidate-answer c)) (number-told (candidateAsked held file place) (candidate-tabled held file place));
+      map = λ zone memory r after c. number-as (map-answer c) (map-memory c) (map-told memory (mapIn file zone (length memory)) (map-tabled file zone (length memory)));
+      map-length = λ zone r c. subst (λ (z : ℤ). NumberOrRefusal z × (z ≡ refusing 46 → ⊥)) (sym (map-length-answer c)) (length-told (mapOf file zone) (length-tabled file zone));
     }

@@ -6,6 +6,7 @@ pub mod Questions
 pub mod Room
 pub mod Checks
 pub mod Codes
-pub mod Demand1
 pub mod Demand3
+pub mod Maps
+pub mod Demand1
 pub mod Answers

@@ -9,9 +9,10 @@ use lib.ListN.{length}
 use Rattle.tzb.specs.FullCheck.{fullCheckOf}
 use Rattle.chunks.specs.Decode.{filled}
 use Rattle.tzb_asked.specs.Asked.{zonesAsked, nameAsked, endsAsked, endsAfter, choiceAsked, candidateAsked, containsAsked, decodeAsked, lookupAsked, listAsked}
-use Rattle.tzb_codes.specs.Codes.{doneCode, kindCode, insideCode, zoneCode, checkCode, ruleOf, numberCode, startCode, endCode}
+use Rattle.tzb_codes.specs.Codes.{doneCode, kindCode, insideCode, zoneCode, checkCode, ruleOf, drawnCode, numberCode, startCode, endCode}
+use Rattle.tzb_map.specs.Map.{mapOf, mapIn, howLong, asAnswer}
 use Rattle.tzb_c.specs.Opens.{openInto, lookupOnce}
-use Rattle.exported.specs.Calls.{Call, Tzb-open, Tzb-full-check, Tzb-full-check-rule, Tzb-zone-count, Tzb-contains, Tzb-lookup, Tzb-ask, Tzb-ask-all, Tzb-decode, Tzb-name, Tzb-name-start, Tzb-name-end, Tzb-choice, Tzb-candidate}
+use Rattle.exported.specs.Calls.{Call, Tzb-open, Tzb-full-check, Tzb-full-check-rule, Tzb-zone-count, Tzb-contains, Tzb-lookup, Tzb-ask, Tzb-ask-all, Tzb-decode, Tzb-name, Tzb-name-start, Tzb-name-end, Tzb-choice, Tzb-candidate, Tzb-map, Tzb-map-length}
 use Rattle.plane.specs.Places.{point}
 use Rattle.answer.specs.Answers.{left, howMany}
 
@@ -36,6 +37,17 @@ module _ {file : List ℕ} where
 
   pub lookup-answer : {lng lat : Float} {r : ℤ} → Tzb-lookup file lng lat r → r ≡ zoneCode (lookupOnce file lng lat)
   lookup-answer c = by-contract (λ (v : List ℕ × Float × Float × ℤ). v .3 ≡ zoneCode (lookupOnce (v .0) (v .1) (v .2))) (λ κ a r e p. p) c
+
+  module _ {zone : ℕ} where
+    module _ {memory after : List ℕ} {r : ℤ} where
+      pub map-answer : Tzb-map file zone memory r after → r ≡ drawnCode (howLong (mapIn file zone (length memory)))
+      map-answer c = by-contract (λ (v : List ℕ × ℕ × List ℕ × ℤ × List ℕ). v .3 ≡ drawnCode (howLong (mapIn (v .0) (v .1) (length (v .2))))) (λ κ a r e p. p .0) c
+
+      pub map-memory : Tzb-map file zone memory r after → after ≡ left memory (asAnswer (mapIn file zone (length memory)))
+      map-memory c = by-contract (λ (v : List ℕ × ℕ × List ℕ × ℤ × List ℕ). v .4 ≡ left (v .2) (asAnswer (mapIn (v .0) (v .1) (length (v .2))))) (λ κ a r e p. p .1) c
+
+    pub map-length-answer : {r : ℤ} → Tzb-map-length file zone r → r ≡ drawnCode (howLong (mapOf file zone))
+    map-length-answer c = by-contract (λ (v : List ℕ × ℕ × ℤ). v .2 ≡ drawnCode (howLong (mapOf (v .0) (v .1)))) (λ κ a r e p. p) c
 
   module _ {held : List ℕ} where
     pub contains-answer : {zone : ℕ} {x y r : ℤ} → Tzb-contains held file zone x y r → r ≡ insideCode (containsAsked held file zone (point x y))

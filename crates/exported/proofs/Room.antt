@@ -24,6 +24,6 @@ module _ (file memory : List ℕ) (o : Opened) (e : ok o ≡ openOf file) where
   room-short h = into-none o memory h ∙ open-into file memory o e
 
 -- its refusals are opening's and 46
-pub into-tabled : (file memory : List ℕ) → Tabled 47 (openInto file memory)
+pub into-tabled : (file memory : List ℕ) → Tabled 48 (openInto file memory)
 unfolding openInto recordInto
-into-tabled file memory = then-t _ _ (higher 34 47 (omega arith) _ (open-tabled file)) (λ o. need-t 46 (atMost recordWide (length memory)) _ refl (given _))
+into-tabled file memory = then-t _ _ (higher 34 48 (omega arith) _ (open-tabled file)) (λ o. need-t 46 (atMost recordWide (length memory)) _ refl (given _))

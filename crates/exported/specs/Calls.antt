@@ -22,6 +22,8 @@ use Rattle.tzb_c.proofs.tzb_name_start.Reads as name-start
 use Rattle.tzb_c.proofs.tzb_name_end.Reads as name-end
 use Rattle.tzb_c.proofs.tzb_choice.Reads as choice
 use Rattle.tzb_c.proofs.tzb_candidate.Reads as candidate
+use Rattle.tzb_c.proofs.tzb_map.Reads as map
+use Rattle.tzb_c.proofs.tzb_map_length.Reads as map-length
 
 -- a call that a contract allows: of some lifetimes κ, arguments a, answer r, and what was lent as it is at exit, e. `seen` says which lists and numbers these are
 pub record Call (W : Type 0) {K : Type 0} {A R E : K → Type 0} (promise : (κ : K) → A κ → R κ → E κ → Type 0) (seen : (κ : K) → A κ → R κ → E κ → W) (w : W) : Type 0 where
@@ -100,3 +102,12 @@ Tzb-choice held file lng lat r =
 -- tzb_candidate(held, file, place) answers r
 abbrev pub Tzb-candidate : (held file : List ℕ) (place : ℕ) (r : ℤ) → Type 0
 Tzb-candidate held file place r = Call (List ℕ × List ℕ × ℕ × ℤ) candidate.Learnt (λ κ a r e. (a .0 .now, a .1 .0 .now, a .1 .1 .0, r)) (held, file, place, r)
+
+-- tzb_map(file, zone, memory) answers r, and leaves the memory so
+abbrev pub Tzb-map : (file : List ℕ) (zone : ℕ) (memory : List ℕ) (r : ℤ) (after : List ℕ) → Type 0
+Tzb-map file zone memory r after =
+    Call (List ℕ × ℕ × List ℕ × ℤ × List ℕ) map.Learnt (λ κ a r e. (a .0 .now, a .1 .0, a .1 .1 .0 .now, r, e .1 .1 .0 .now)) (file, zone, memory, r, after)
+
+-- tzb_map_length(file, zone) answers r
+abbrev pub Tzb-map-length : (file : List ℕ) (zone : ℕ) (r : ℤ) → Type 0
+Tzb-map-length file zone r = Call (List ℕ × ℕ × ℤ) map-length.Learnt (λ κ a r e. (a .0 .now, a .1 .0, r)) (file, zone, r)

@@ -3,7 +3,7 @@
 --
 -- `Demand1 file`, below, is this sentence of a file, for each export that answers a question; `demand-1`, in proofs/Demand1, proves it of every file. No export asks anything of its caller: `held`, `memory`, zone numbers and floats are any. Where each word is defined:
 --   a call and its answer     `Tzb-open`, .., specs/Calls: what the export's contract allows
---   a numbered refusal        `Refuses`, specs/Words: -1000 - n with n from 1 to 47
+--   a numbered refusal        `Refuses`, specs/Words: -1000 - n with n from 1 to 48
 --   none                      -1
 -- Assumes nothing.
 use Prim.Native.Nat.{ℕ, _≤_, _<_}
@@ -12,8 +12,8 @@ use mathlib.Core.List.{List}
 use mathlib.Core.Logic.{_⊎_}
 use lib.IntN.{ℤ, pos}
 use lib.Ieee.{Float}
-use Rattle.exported.specs.Calls.{Tzb-open, Tzb-full-check, Tzb-full-check-rule, Tzb-zone-count, Tzb-contains, Tzb-lookup, Tzb-ask, Tzb-ask-all, Tzb-decode, Tzb-name, Tzb-name-start, Tzb-name-end, Tzb-choice, Tzb-candidate}
-use Rattle.exported.specs.Words.{none, Refuses}
+use Rattle.exported.specs.Calls.{Tzb-open, Tzb-full-check, Tzb-full-check-rule, Tzb-zone-count, Tzb-contains, Tzb-lookup, Tzb-ask, Tzb-ask-all, Tzb-decode, Tzb-name, Tzb-name-start, Tzb-name-end, Tzb-choice, Tzb-candidate, Tzb-map, Tzb-map-length}
+use Rattle.exported.specs.Words.{none, refusing, Refuses}
 
 -- a zone that is below a bound, none, or a refusal
 abbrev pub ZoneNoneOrRefusal : ℕ → ℤ → Type 0
@@ -57,3 +57,6 @@ pub record Demand1 (file : List ℕ) : Type 0 where
   -- which candidates a position has, and which zone stands at a place of the candidate list
   pub choice : (held : List ℕ) (lng lat : Float) (r : ℤ) → Tzb-choice held file lng lat r → NumberOrRefusal r
   pub candidate : (held : List ℕ) (place : ℕ) (r : ℤ) → Tzb-candidate held file place r → NumberOrRefusal r
+  -- a zone as a map, into lent memory; and how long it is, which no room can bar: never 46
+  pub map : (zone : ℕ) (memory : List ℕ) (r : ℤ) (after : List ℕ) → Tzb-map file zone memory r after → NumberOrAsItWas r memory after
+  pub map-length : (zone : ℕ) (r : ℤ) → Tzb-map-length file zone r → NumberOrRefusal r × (r ≡ refusing 46 → ⊥)

@@ -4,3 +4,4 @@ pub mod Words
 pub mod Demand1
 pub mod Demand3
 pub mod Answers
+pub mod Maps

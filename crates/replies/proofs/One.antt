@@ -7,7 +7,7 @@ use Rattle.basics.specs.Told.{one-told}
 use Rattle.answer.specs.Answers.{Answer, ok, refused}
 use Rattle.answer.proofs.AnswersLaws.{readBack, one-answer}
 use Rattle.opened.specs.declared.Opened.{Opened}
-use Rattle.replies.specs.Replies.{boundsTold, Chosen, none, all, listed, choiceTold, candidateTold, verdictTold, Sought, nowhere, inZone, foundTold, listingTold, countTold, openingTold, Outcome, accepted, refusedBy, brokenAt, checkTold}
+use Rattle.replies.specs.Replies.{boundsTold, Chosen, none, all, listed, choiceTold, candidateTold, verdictTold, Sought, nowhere, inZone, foundTold, listingTold, countTold, openingTold, Outcome, accepted, refusedBy, brokenAt, checkTold, Drawn, drawn, undrawn, unsound, drawingTold}
 use Rattle.replies.specs.declared.Bounds.{Bounds}
 use Rattle.replies.specs.declared.Bounds.the-variants as B
 use Rattle.replies.specs.declared.Choice.{Choice}
@@ -26,6 +26,8 @@ use Rattle.replies.specs.declared.Opening.{Opening}
 use Rattle.replies.specs.declared.Opening.the-variants as O
 use Rattle.replies.specs.declared.FullCheck.{FullCheck}
 use Rattle.replies.specs.declared.FullCheck.the-variants as K
+use Rattle.replies.specs.declared.Drawing.{Drawing}
+use Rattle.replies.specs.declared.Drawing.the-variants as W
 
 pub one-bounds : (a b : Bounds) (x : Answer (ℕ × ℕ)) → boundsTold a ≡ x → boundsTold b ≡ x → a ≡ b
 one-bounds = one-answer boundsTold bounds B.Refused back
@@ -112,3 +114,16 @@ one-check = one-told checkTold again back
     back K.Accepted = refl
     back (K.Refused k) = refl
     back (K.Broken k n) = refl
+
+pub one-drawing : (a b : Drawing) (x : Drawn ℕ) → drawingTold a ≡ x → drawingTold b ≡ x → a ≡ b
+one-drawing = one-told drawingTold again back
+  where
+    again : Drawn ℕ → Drawing
+    again (drawn n) = W.Drawn n
+    again (undrawn k) = W.Refused k
+    again (unsound k rule) = W.Broken k rule
+
+    back : (a : Drawing) → again (drawingTold a) ≡ a
+    back (W.Drawn n) = refl
+    back (W.Refused k) = refl
+    back (W.Broken k rule) = refl

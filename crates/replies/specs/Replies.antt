@@ -23,6 +23,8 @@ use Rattle.replies.specs.declared.Opening.{Opening}
 use Rattle.replies.specs.declared.Opening.the-variants as O
 use Rattle.replies.specs.declared.FullCheck.{FullCheck}
 use Rattle.replies.specs.declared.FullCheck.the-variants as K
+use Rattle.replies.specs.declared.Drawing.{Drawing}
+use Rattle.replies.specs.declared.Drawing.the-variants as W
 
 -- where a name stands: from, and up to
 abbrev pub boundsTold : Bounds → Answer (ℕ × ℕ)
@@ -83,3 +85,14 @@ abbrev pub checkTold : FullCheck → Outcome
 checkTold K.Accepted = accepted
 checkTold (K.Refused k) = refusedBy k
 checkTold (K.Broken k rule) = brokenAt k rule
+
+-- what is drawn of a file: a map, or its length; else a refusal; or 47 with the lowest broken rule, where the full check does not accept the file
+pub data Drawn (A : Type 0) : Type 0 where
+  drawn : A → Drawn A
+  undrawn : Refusal → Drawn A
+  unsound : Refusal → ℕ → Drawn A
+
+abbrev pub drawingTold : Drawing → Drawn ℕ
+drawingTold (W.Drawn n) = drawn n
+drawingTold (W.Refused k) = undrawn k
+drawingTold (W.Broken k rule) = unsound k rule

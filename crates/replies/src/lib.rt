@@ -61,3 +61,10 @@ pub enum FullCheck {
     Refused(Refusal),
     Broken(Refusal, u32),
 }
+
+// A zone's map as text: how many bytes it has; a refusal; or 47 with the lowest broken rule, where the full check does not accept the file.
+pub enum Drawing {
+    Drawn(usize),
+    Refused(Refusal),
+    Broken(Refusal, u32),
+}

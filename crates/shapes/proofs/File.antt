@@ -39,7 +39,7 @@ module _ (d : Directories) (n : Named d) (c : Covered d) where
         and4-i (boxInDomain (d .groupSpan i .box)) (inDomain (d .entryAt i)) (inDomain (d .exitAt i)) (every chunkInDomain (groupChunks (groupAt d i)))
         (m .group-in i o) (m .entry-in i o) (m .exit-in i o) (chunks-in i o)
 
-    ring-in : (i : ℕ) → i < d .rings → ringInDomain (ringAt d i) ≡ true
+    pub ring-in : (i : ℕ) → i < d .rings → ringInDomain (ringAt d i) ≡ true
     unfolding ringInDomain ringAt
     ring-in i h =
         and-i (boxInDomain (d .ringSpan i .box)) (every legInDomain (run (legAt d) (d .ringSpan i .count) (d .ringSpan i .first)))

@@ -55,7 +55,7 @@ module _ (f : ℕ → Chunk) where
 module _ (d : Directories) (n : Named d) (c : Covered d) where
   -- ---- groups
   module _ (i : ℕ) (h : i < d .groups) where
-    chunks-fit : chunksFit (groupChunks (groupAt d i)) ≡ true
+    pub chunks-fit : chunksFit (groupChunks (groupAt d i)) ≡ true
     unfolding groupAt
     chunks-fit =
         let t = n .group-names i h in
@@ -63,7 +63,7 @@ module _ (d : Directories) (n : Named d) (c : Covered d) where
         (λ j l m. c .chunk-covers j (omega (arith, t .some, t .fits)))
         (λ j l m. c .joint-covers i j h (record { from = l; before = omega (arith, t .some) }) (record { from = omega arith; before = omega (arith, t .some) }))
 
-    group-fits : groupFits (groupAt d i) ≡ true
+    pub group-fits : groupFits (groupAt d i) ≡ true
     unfolding groupFits groupAt
     group-fits =
         let g = groupAt d i in

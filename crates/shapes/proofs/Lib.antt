@@ -1,4 +1,4 @@
--- What is proved of the shapes: the walk that skips is exact.
+-- What is proved of the shapes: the walk that skips is exact; what outlines keep.
 pub mod Words
 pub mod Sound
 pub mod Whole
@@ -7,3 +7,4 @@ pub mod Agree
 pub mod Floats
 pub mod Fits
 pub mod File
+pub mod Outline

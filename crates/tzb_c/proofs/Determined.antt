@@ -26,6 +26,8 @@ use Rattle.tzb_c.proofs.tzb_ask.Reads as ask-reads
 use Rattle.tzb_c.proofs.tzb_ask_all.Reads as ask-all-reads
 use Rattle.tzb_c.proofs.tzb_full_check.Reads as full-check-reads
 use Rattle.tzb_c.proofs.tzb_full_check_rule.Reads as full-check-rule-reads
+use Rattle.tzb_c.proofs.tzb_map.Reads as map-reads
+use Rattle.tzb_c.proofs.tzb_map_length.Reads as map-length-reads
 
 pub opens : Determined open-reads.Learnt
 opens κ a r r' e e' p q = p .0 ∙ sym (q .0)
@@ -87,6 +89,16 @@ full-check κ a r r' e e' p q = p ∙ sym q
 
 pub full-check-rule : Determined full-check-rule-reads.Learnt
 full-check-rule κ a r r' e e' p q = p ∙ sym q
+
+pub map : Determined map-reads.Learnt
+map κ a r r' e e' p q = p .0 ∙ sym (q .0)
+
+-- the lent bytes at exit
+pub map-memory : DeterminedMemory map-reads.Learnt (λ κ e. e .1 .1 .0 .now)
+map-memory κ a r r' e e' p q = p .1 ∙ sym (q .1)
+
+pub map-length : Determined map-length-reads.Learnt
+map-length κ a r r' e e' p q = p ∙ sym q
 
 pub number : Determined number-reads.Learnt
 number κ a r r' e e' p q = p ∙ sym q

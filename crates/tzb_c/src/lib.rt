@@ -11,7 +11,8 @@ ghost use Rattle.varints.specs.Varint.{numberAt};
 ghost use Rattle.chunks.specs.Decode.{filled};
 ghost use Rattle.tzb.specs.FullCheck.{fullCheckOf};
 ghost use Rattle.tzb_asked.specs.Asked.{zonesAsked, nameAsked, endsAsked, endsAfter, choiceAsked, candidateAsked, containsAsked, decodeAsked, lookupAsked, listAsked};
-ghost use Rattle.tzb_codes.specs.Codes.{bitOf, doneCode, kindCode, listedOf, insideCode, zoneCode, checkCode, ruleOf, seenCode, numberCode, startCode, endCode};
+ghost use Rattle.tzb_codes.specs.Codes.{bitOf, doneCode, kindCode, listedOf, insideCode, zoneCode, checkCode, ruleOf, drawnCode, seenCode, numberCode, startCode, endCode};
+ghost use Rattle.tzb_map.specs.Map.{mapOf, mapIn, howLong, asAnswer};
 ghost use Rattle.tzb_c.specs.Opens.{openInto, lookupOnce};
 ghost use Rattle.tzb_c.specs.Exports.{numberOf, lengthFrom, boxOf};
 ghost use Rattle.plane.specs.Places.{point, position};
@@ -208,6 +209,25 @@ pub extern "C" fn tzb_full_check_rule(file: &[u8]) -> u32
     ensures { λ r. ⌜ r ≡ ruleOf (fullCheckOf (now (file .entry))) ⌝ }
 {
     tzb_codes::rule_of(tzb::full_check(file))
+}
+
+// ---- a zone as a map
+
+// A zone of the file as GeoJSON text (RFC 7946), into the first lent bytes: how many they are, or -1000 - n for refusal n, and then nothing is written. The full check's refusals come first; then 45, 48 where a ring cannot be drawn, 46 where there is no room. Beside -1047, tzb_full_check_rule says the rule.
+#[no_mangle]
+pub extern "C" fn tzb_map(file: &[u8], zone: u32, out: &mut [u8]) -> i64
+    ensures { λ r. ⌜ r ≡ drawnCode (howLong (mapIn (now (file .entry)) zone (length (now (out .entry))))) ⌝ }
+    ensures memory { λ r. ⌜ now (out .exit) ≡ left (now (out .entry)) (asAnswer (mapIn (now (file .entry)) zone (length (now (out .entry))))) ⌝ }
+{
+    tzb_codes::drawing_code(tzb_map::map(file, zone, out))
+}
+
+// How many bytes that text takes, or -1000 - n for refusal n: the same refusals but for 46.
+#[no_mangle]
+pub extern "C" fn tzb_map_length(file: &[u8], zone: u32) -> i64
+    ensures { λ r. ⌜ r ≡ drawnCode (howLong (mapOf (now (file .entry)) zone)) ⌝ }
+{
+    tzb_codes::drawing_code(tzb_map::map_length(file, zone))
 }
 
 // ---- for comparison runs

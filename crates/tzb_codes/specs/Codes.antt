@@ -6,7 +6,7 @@ use lib.IntN.{ℤ, pos, negsuc}
 use Rattle.answer.specs.declared.Refusal.{Refusal}
 use Rattle.answer.specs.Answers.{Answer, ok, refused}
 use Rattle.plane.specs.Sight.{Sight, On, Off}
-use Rattle.replies.specs.Replies.{Chosen, none, all, listed, Sought, nowhere, inZone, Outcome, accepted, refusedBy, brokenAt}
+use Rattle.replies.specs.Replies.{Chosen, none, all, listed, Sought, nowhere, inZone, Outcome, accepted, refusedBy, brokenAt, Drawn, drawn, undrawn, unsound}
 
 -- yes is 1, no is 0
 abbrev pub bitOf : Bool → ℕ
@@ -74,6 +74,12 @@ abbrev pub ruleOf : Outcome → ℕ
 ruleOf accepted = 0
 ruleOf (refusedBy k) = 0
 ruleOf (brokenAt k rule) = rule
+
+-- a map: how many bytes it has; a refusal; 47, whose rule is told apart. A length of 2 ^ 63 or more, which no text in memory has, would be told as 2 ^ 63 - 1.
+abbrev pub drawnCode : Drawn ℕ → ℤ
+drawnCode (drawn n) = pos (min n 0x7fff_ffff_ffff_ffff)
+drawnCode (undrawn k) = refusalCode k
+drawnCode (unsound k rule) = refusalCode k
 
 -- 2 for on, 1 for counts, 0 for neither
 abbrev pub seenCode : Sight → ℤ

@@ -2,12 +2,13 @@
 ghost use mathlib.Core.Path.{_≡_};
 ghost use Rattle.answer.specs.Answers.{checkedTold};
 ghost use Rattle.plane.specs.Sight.{seenTold};
-ghost use Rattle.tzb_codes.specs.Codes.{bitOf, refusalCode, doneCode, kindCode, listedOf, insideCode, zoneCode, checkCode, ruleOf, seenCode};
-ghost use Rattle.replies.specs.Replies.{checkTold, choiceTold, verdictTold, foundTold};
+ghost use Rattle.tzb_codes.specs.Codes.{bitOf, refusalCode, doneCode, kindCode, listedOf, insideCode, zoneCode, checkCode, ruleOf, drawnCode, seenCode};
+ghost use Rattle.replies.specs.Replies.{checkTold, choiceTold, verdictTold, foundTold, drawingTold};
 use answer::Checked;
 use answer::Refusal;
 use plane::Seen;
 use replies::Choice;
+use replies::Drawing;
 use replies::Found;
 use replies::FullCheck;
 use replies::Verdict;
@@ -114,6 +115,19 @@ pub fn rule_of(c: FullCheck) -> u32
         FullCheck::Accepted => 0,
         FullCheck::Refused(_) => 0,
         FullCheck::Broken(_, rule) => rule,
+    }
+}
+
+// A map: how many bytes it has, a refusal, or -1047. A length of 2 ^ 63 or more, which no text in memory has, is told as 2 ^ 63 - 1.
+pub fn drawing_code(d: Drawing) -> i64
+    ensures { λ r. ⌜ r ≡ drawnCode (drawingTold d) ⌝ }
+{
+    match d {
+        Drawing::Drawn(n) => {
+            if n < 0x8000_0000_0000_0000 { n as i64 } else { 0x7fff_ffff_ffff_ffff }
+        }
+        Drawing::Refused(k) => refusal_code64(k),
+        Drawing::Broken(k, _) => refusal_code64(k),
     }
 }
 

@@ -1,0 +1,3 @@
+-- What follows from the promises.
+pub mod MapLaws
+pub mod Determined
