@@ -101,8 +101,7 @@ module _ (o : Opened) (s : List ℕ) (zone : ℕ) where
         let m = many-of (zoneText o s zone) n e in
         let fits = room-fits (zoneText o s zone) (length out) n e h in
         let text : mapText (outlines (zoneAt (directories o s) z)) ≡ m .0 = ap (λ (i : ℕ). mapText (outlines (zoneAt (directories o s) i))) f ∙ sym (text-is (m .0) (m .1)) in
-        let can : zoneDrawable (zoneAt (directories o s) z) ≡ true = ap (λ (i : ℕ). zoneDrawable (zoneAt (directories o s) i)) f ∙ text-fits (m .0) (m .1) in
-        (
+        let can : zoneDrawable (zoneAt (directories o s) z) ≡ true = ap (λ (i : ℕ). zoneDrawable (zoneAt (directories o s) i)) f ∙ text-fits (m .0) (m .1) in (
           ap ok (m .2) ∙ ap howMany fits,
           d .laid can ∙ ap (over out 0) text ∙ over-all out (m .0) (omega (arith, m .2)) ∙ ap (left out) fits,
         )

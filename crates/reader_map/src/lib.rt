@@ -112,7 +112,14 @@ fn draw_rings(
     Text::Long(geojson::put(out, at, b']'))
 }
 
-fn draw_polygon(o: Opened, s: &[u8], index: usize, held: &mut [i32], out: &mut [u8], at: usize) -> Text
+fn draw_polygon(
+    o: Opened,
+    s: &[u8],
+    index: usize,
+    held: &mut [i32],
+    out: &mut [u8],
+    at: usize,
+) -> Text
     requires { ⌜ Ready o (now s) × (index < o .polys .count) × (length (now held) ≡ 20_000) × (at ≤ 0x1000_0000_0000_0000) ⌝ }
     ensures { λ r. ⌜ Drawn (polygonFits (polygonAt (directories o (now (s .entry))) index)) (partText o (now (s .entry)) index) 18_349_931_071 at (textTold r) (now (out .entry)) (now (out .exit)) ⌝ }
 {

@@ -72,11 +72,10 @@ loop-again c =
     let p = w .before .before .before .before .before .before in
     let spot = p .before .before in
     let l = spot .before .before in
-    let start = l .before .before in
-    (
+    let start = l .before .before in (
       ring-step _ _ _ (start .pre .2) _ _ _ _ _ _ (l .loop .inv .0) (spot .before .loop-test .taken) (l .loop .inv .1)
-      _ _ (spot .spot .ensures .0) refl _ _ (back w32 _ (w .before .before .position-arg2 .given)) (back w32 _ (w .before .position-arg3 .given))
-      _ _ (p .put .ensures .0) (p .put .ensures .1) _ _ (w .position .ensures .0) (w .position .ensures .1) (w .position .ensures .2),
+          _ _ (spot .spot .ensures .0) refl _ _ (back w32 _ (w .before .before .position-arg2 .given)) (back w32 _ (w .before .position-arg3 .given))
+          _ _ (p .put .ensures .0) (p .put .ensures .1) _ _ (w .position .ensures .0) (w .position .ensures .1) (w .position .ensures .2),
       omega arith,
     )
 
