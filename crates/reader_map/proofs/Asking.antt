@@ -4,8 +4,8 @@ use Prim.Native.Nat.{ℕ, _+_, _≤_, _<_}
 use native.Mathlib.Omega.{arith}
 use mathlib.Core.Path.{_≡_, refl, sym, ap, _∙_}
 use mathlib.Core.Bool.{Bool, true, false}
-use mathlib.Core.List.{List, _++_}
-use lib.ListN.{length, drop}
+use mathlib.Core.List.{List}
+use lib.ListN.{length}
 use lib.Dec.{leb, ltb}
 use borrow.Author.Tests.{ltb-true, lt-ltb, le-ltb, le-leb, lt-leb}
 use Rattle.answer.specs.declared.Refusal.{Refusal}
@@ -101,8 +101,7 @@ module _ (o : Opened) (s : List ℕ) (zone : ℕ) where
         let m = many-of (zoneText o s zone) n e in
         let fits = room-fits (zoneText o s zone) (length out) n e h in
         let text : mapText (outlines (zoneAt (directories o s) z)) ≡ m .0 = ap (λ (i : ℕ). mapText (outlines (zoneAt (directories o s) i))) f ∙ sym (text-is (m .0) (m .1)) in
-        let can : zoneDrawable (zoneAt (directories o s) z) ≡ true = ap (λ (i : ℕ). zoneDrawable (zoneAt (directories o s) i)) f ∙ text-fits (m .0) (m .1) in
-        (
+        let can : zoneDrawable (zoneAt (directories o s) z) ≡ true = ap (λ (i : ℕ). zoneDrawable (zoneAt (directories o s) i)) f ∙ text-fits (m .0) (m .1) in (
           ap ok (m .2) ∙ ap howMany fits,
           d .laid can ∙ ap (over out 0) text ∙ over-all out (m .0) (omega (arith, m .2)) ∙ ap (left out) fits,
         )

@@ -4,9 +4,9 @@ use Prim.Native.Nat.{ℕ, _+_, _-_, _≤_, _<_}
 use native.Mathlib.Omega.{arith}
 use mathlib.Core.Path.{_≡_, refl, sym, ap, ap₂, _∙_}
 use mathlib.Core.Bool.{Bool, true, false, not, _&&_, cond}
-use mathlib.Core.List.{List, [], _∷_, _++_, map, reverse}
+use mathlib.Core.List.{List, _∷_, _++_, map, reverse}
 use lib.ListN.{length}
-use lib.Dec.{leb, ltb}
+use lib.Dec.{leb}
 use lib.IntN.{ℤ}
 use borrow.Author.Tests.{leb-true, lt-ltb, le-ltb}
 use Rattle.basics.specs.Truth.{and-l, and-r}
@@ -18,9 +18,8 @@ use Rattle.answer.specs.declared.Refusal.{Refusal}
 use Rattle.answer.specs.Refusals.{refusal}
 use Rattle.answer.specs.Answers.{ok, refused}
 use Rattle.answer.proofs.AnswersLaws.{need-inv, ok-inv, zero-one}
-use Rattle.shapes.specs.Shapes.{Polygon}
 use Rattle.shapes.specs.Layout.{ringAt, polygonAt, zoneAt}
-use Rattle.shapes.specs.Outline.{ringPositions, doubledArea, drawable, backwards, outline, outlines, zoneDrawable}
+use Rattle.shapes.specs.Outline.{doubledArea, drawable, backwards, outline, outlines, zoneDrawable}
 use Rattle.geojson.specs.Text.{listed, ringText, polygonText, headText, tailText, mapText}
 use Rattle.opened.specs.declared.Opened.{Opened}
 use Rattle.reader_records.specs.declared.ListRecord.{ListRecord}

@@ -4,7 +4,7 @@ use Prim.Native.Nat.{ℕ, zero, suc, _+_, _-_, _*_, _≤_, _<_}
 use native.Mathlib.Omega.{arith}
 use mathlib.Core.Path.{_≡_, refl, sym, ap, ap₂, _∙_}
 use mathlib.Core.Bool.{Bool, true, false}
-use mathlib.Core.List.{List, [], _∷_, _++_, reverse, reverse-cons}
+use mathlib.Core.List.{List, [], _∷_, reverse, reverse-cons}
 use lib.ListN.{length, getD, length-reverse, List·getD-append}
 use lib.Seq.{getD-at, getD-take}
 use lib.IntN.{ℤ, pos}

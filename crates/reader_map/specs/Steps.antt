@@ -3,7 +3,7 @@
 use Prim.Native.Nat.{ℕ, zero, suc, _+_, _-_, _≤_}
 use mathlib.Core.Path.{_≡_}
 use mathlib.Core.Bool.{Bool, true, false, cond}
-use mathlib.Core.List.{List, [], _∷_, _++_, map, reverse}
+use mathlib.Core.List.{List, _∷_, _++_, map, reverse}
 use lib.ListN.{length, getD}
 use lib.Dec.{ltb}
 use Rattle.plane.specs.declared.I32Point.{I32Point}

@@ -1,7 +1,7 @@
 // A zone as GeoJSON text in lent memory. Asked only of a file that the full check accepts.
 // One walk measures and writes: what finds no room is counted all the same.
+// A position takes at most 27 bytes and a mark, so a ring of 10,000 takes at most 280,001, a polygon of 65,535 rings at most 18,349,931,071, and a zone of 65,535 polygons at most 1,202,562,732,803,559: no place wraps.
 ghost use mathlib.Core.Path.{_≡_};
-ghost use mathlib.Core.List.{_++_};
 ghost use Prim.Native.Nat.{_+_, _*_, _≤_, _<_};
 ghost use lib.ListN.{length};
 ghost use Rattle.plane.specs.Lines.{every};
@@ -56,6 +56,7 @@ fn write_ring(held: &[i32], k: usize, back: bool, out: &mut [u8], from: usize) -
     geojson::put(out, at, b']')
 }
 
+// A ring of the file, by its number: 48 if it cannot be drawn.
 fn draw_ring(
     o: Opened,
     s: &[u8],
@@ -112,7 +113,15 @@ fn draw_rings(
     Text::Long(geojson::put(out, at, b']'))
 }
 
-fn draw_polygon(o: Opened, s: &[u8], index: usize, held: &mut [i32], out: &mut [u8], at: usize) -> Text
+// A polygon of the file, by its number.
+fn draw_polygon(
+    o: Opened,
+    s: &[u8],
+    index: usize,
+    held: &mut [i32],
+    out: &mut [u8],
+    at: usize,
+) -> Text
     requires { ⌜ Ready o (now s) × (index < o .polys .count) × (length (now held) ≡ 20_000) × (at ≤ 0x1000_0000_0000_0000) ⌝ }
     ensures { λ r. ⌜ Drawn (polygonFits (polygonAt (directories o (now (s .entry))) index)) (partText o (now (s .entry)) index) 18_349_931_071 at (textTold r) (now (out .entry)) (now (out .exit)) ⌝ }
 {
@@ -125,6 +134,7 @@ fn draw_polygon(o: Opened, s: &[u8], index: usize, held: &mut [i32], out: &mut [
 
 // ---- a zone
 
+// Its polygons.
 fn draw_polygons(
     o: Opened,
     s: &[u8],
@@ -159,6 +169,7 @@ fn draw_polygons(
     Text::Long(geojson::put(out, at, b']'))
 }
 
+// A zone of the file, by its number: the whole text.
 fn draw_zone(o: Opened, s: &[u8], zone: usize, held: &mut [i32], out: &mut [u8]) -> Text
     requires { ⌜ Ready o (now s) × (zone < o .zones .count) × (length (now held) ≡ 20_000) ⌝ }
     ensures { λ r. ⌜ Drawn (zoneDrawable (zoneAt (directories o (now (s .entry))) zone)) (mapText (outlines (zoneAt (directories o (now (s .entry))) zone))) 1_202_562_732_803_559 0 (textTold r) (now (out .entry)) (now (out .exit)) ⌝ }

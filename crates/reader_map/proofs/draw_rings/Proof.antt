@@ -75,8 +75,7 @@ unfolding sideText
 loop-again c =
     let d = c .before .before .before .before .before .before in
     let p = d .before .before .before .before .before in
-    let l = p .before .before .before in
-    (
+    let l = p .before .before .before in (
       row-on (l .loop .inv .0) (p .before .before .loop-test .taken) (d .draw-ring .ensures) (p .put .ensures .0) (p .put .ensures .1) (omega arith) _ (ap textTold (c .before .t2 .given .1)),
       d .draw-ring .kept .1 .1 .1 .1 .0 ∙ l .loop .inv .1,
     )

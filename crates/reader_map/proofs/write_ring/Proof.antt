@@ -9,11 +9,6 @@ use Rattle.reader_map.proofs.Spots.{RingRow, ring-start, ring-step, rin
 use borrow.Author.Needs.{needs}
 use Rattle.reader_map.proofs.write_ring.Statement.{statement}
 use Rattle.reader_map.proofs.write_ring.Tie as tie
-use Rattle.reader_map.proofs.write_ring.Reads as reads
-use Rattle.reader_map.proofs.write_ring.Lts as lts
-use Rattle.geojson.proofs.position.Reads as position-reads
-use Rattle.geojson.proofs.put.Reads as put-reads
-use Rattle.reader_map.proofs.spot.Reads as spot-reads
 
 abbrev Inv-loop : tie.InvT-loop
 Inv-loop held k back out₀ from at₀ mark₀ left₀ out at mark left = RingRow held k back from out₀ mark left at out × (left ≤ k)
@@ -21,74 +16,58 @@ Inv-loop held k back out₀ from at₀ mark₀ left₀ out at mark left = RingRo
 abbrev μ-loop : tie.MeasureT-loop
 μ-loop held k back out₀ from at₀ mark₀ left₀ out at mark left = left
 
--- src/lib.rt:48:5
 loop-holds : tie.Need-loop-holds Inv-loop μ-loop
 loop-holds c = (ring-start _ _ _ _ _, omega arith)
 
--- src/lib.rt:49:13
 spot-requires : tie.Need-spot-requires Inv-loop μ-loop
 spot-requires c κs = search needs
 
--- src/lib.rt:50:17
 add-y : tie.Need-add-y Inv-loop μ-loop
 add-y c = search needs
 
--- src/lib.rt:51:13
 put-requires : tie.Need-put-requires Inv-loop μ-loop
 put-requires c κs = search needs
 
--- src/lib.rt:52:43
 mul-position : tie.Need-mul-position Inv-loop μ-loop
 mul-position c = search needs
 
--- src/lib.rt:52:43
 shared-slice-copy-out-position : tie.Need-shared-slice-copy-out-position Inv-loop μ-loop
 shared-slice-copy-out-position c = search needs
 
--- src/lib.rt:52:52
 mul-position-2 : tie.Need-mul-position-2 Inv-loop μ-loop
 mul-position-2 c = search needs
 
--- src/lib.rt:52:52
 shared-slice-copy-out-position-2 : tie.Need-shared-slice-copy-out-position-2 Inv-loop μ-loop
 shared-slice-copy-out-position-2 c = search needs
 
--- src/lib.rt:52:9
 position-requires : tie.Need-position-requires Inv-loop μ-loop
 position-requires c κs = search needs
 
--- src/lib.rt:54:9
 sub-left : tie.Need-sub-left Inv-loop μ-loop
 sub-left c = search needs
 
--- src/lib.rt:48:5
 loop-less : tie.Need-loop-less Inv-loop μ-loop
 loop-less c = search needs
 
--- src/lib.rt:48:5
 loop-again : tie.Need-loop-again Inv-loop μ-loop
 loop-again c =
     let w = c .before .before in
     let p = w .before .before .before .before .before .before in
     let spot = p .before .before in
     let l = spot .before .before in
-    let start = l .before .before in
-    (
+    let start = l .before .before in (
       ring-step _ _ _ (start .pre .2) _ _ _ _ _ _ (l .loop .inv .0) (spot .before .loop-test .taken) (l .loop .inv .1)
-      _ _ (spot .spot .ensures .0) refl _ _ (back w32 _ (w .before .before .position-arg2 .given)) (back w32 _ (w .before .position-arg3 .given))
-      _ _ (p .put .ensures .0) (p .put .ensures .1) _ _ (w .position .ensures .0) (w .position .ensures .1) (w .position .ensures .2),
+          _ _ (spot .spot .ensures .0) refl _ _ (back w32 _ (w .before .before .position-arg2 .given)) (back w32 _ (w .before .position-arg3 .given))
+          _ _ (p .put .ensures .0) (p .put .ensures .1) _ _ (w .position .ensures .0) (w .position .ensures .1) (w .position .ensures .2),
       omega arith,
     )
 
--- src/lib.rt:56:5
 put-requires-2 : tie.Need-put-requires-2 Inv-loop μ-loop
 put-requires-2 c κs = search needs
 
--- src/lib.rt:41:1
 same-length : tie.Need-same-length Inv-loop μ-loop
 same-length c = search needs
 
--- src/lib.rt:41:1
 returns : tie.Need-returns Inv-loop μ-loop
 returns c =
     let w = c .before .before in
