@@ -1,6 +1,6 @@
 -- Answers whose refusals have numbers up to 48, as numbers: which number tells what.
 -- Assumes nothing.
-use Prim.Native.Nat.{ℕ, _+_, _<_, min}
+use Prim.Native.Nat.{ℕ, _+_, _<_}
 use native.Mathlib.Omega.{arith}
 use mathlib.Core.Path.{_≡_, refl, sym, ap, _∙_}
 use mathlib.Core.Bool.{Bool, true, false}
@@ -9,7 +9,7 @@ use lib.IntN.{pos, negsuc}
 use Rattle.answer.specs.declared.Refusal.{Refusal}
 use Rattle.answer.specs.Refusals.{refusal}
 use Rattle.answer.specs.Answers.{Answer, ok, refused, no}
-use Rattle.tzb_codes.specs.Codes.{refusalCode, doneCode, kindCode, insideCode, zoneCode, numberCode, startCode, endCode, drawnCode}
+use Rattle.tzb_codes.specs.Codes.{refusalCode, doneCode, kindCode, insideCode, zoneCode, numberCode, startCode, endCode}
 use Rattle.exported.specs.Words.{refusing, Refuses}
 use Rattle.exported.specs.Words as W
 use Rattle.exported.specs.Demand1.{NumberOrRefusal}

@@ -7,6 +7,7 @@ pub mod Room
 pub mod Checks
 pub mod Codes
 pub mod Demand3
+pub mod Lengths
 pub mod Maps
 pub mod Demand1
 pub mod Answers

@@ -31,17 +31,19 @@ use Rattle.tzb.specs.FullCheck.{fullCheckOf}
 use Rattle.tzb.proofs.Given.{opened-is}
 use Rattle.tzb_map.specs.Map.{upheld, mapOf, mapIn, howLong, asAnswer}
 use Rattle.tzb_map.proofs.MapLaws.{map-is, map-inv, in-is, in-inv}
-use Rattle.tzb_codes.specs.Codes.{refusalCode, checkCode, drawnCode}
+use Rattle.tzb_codes.specs.Codes.{checkCode, drawnCode}
 use Rattle.tzb_codes.proofs.CodesLaws.{code-small, drawn-short}
 use Rattle.exported.specs.Calls.{Tzb-full-check, Tzb-map, Tzb-map-length}
-use Rattle.exported.specs.Words.{refusing, Refuses, shapeOf}
+use Rattle.exported.specs.Words.{refusing, Bytes, shapeOf}
 use Rattle.exported.specs.Demand1.{NumberOrRefusal, NumberOrAsItWas}
-use Rattle.exported.specs.Maps.{textOf, Lendable, Asked, MapAnswers, MapLengthAnswers}
+use Rattle.exported.specs.Maps.{textOf, Asked, MapAnswers, MapLengthAnswers}
 use Rattle.exported.proofs.Meaning.{full-check-answer, map-answer, map-memory, map-length-answer}
 use Rattle.exported.proofs.Tabled.{Numbered, raised}
 use Rattle.exported.proofs.Checks.{Checks, refused-by, accepts, breaks, checks}
 use Rattle.exported.proofs.Codes.{apart, refusal-below, same-number, same-refusing, code-is, refuses}
 use Rattle.exported.proofs.Demand3 as Three
+use Rattle.exported.proofs.Lengths.{text-most}
+use Rattle.demands.proofs.Accepted.{accepted-with}
 
 -- ---- every refusal has a property
 abbrev RefusedBy : (Refusal → Type 0) → {A : Type 0} → Answer A → Type 0
@@ -138,12 +140,12 @@ module _ (o : Opened) (s : List ℕ) (zone : ℕ) where
   unfolding zoneText
   text-is h f = need-met 48 (zoneDrawable shape) _ f ∙ need-met 45 (ltb zone (o .zones .count)) _ (lt-ltb zone (o .zones .count) h)
 
-  text-inv : (t : List ℕ) → ok t ≡ zoneText o s zone → t ≡ mapText (outlines shape)
+  text-inv : (t : List ℕ) → ok t ≡ zoneText o s zone → (zone < o .zones .count) × (zoneDrawable shape ≡ true) × (t ≡ mapText (outlines shape))
   unfolding zoneText
   text-inv t e =
       let a = need-inv 45 (ltb zone (o .zones .count)) _ t e in
       let b = need-inv 48 (zoneDrawable shape) _ t (a .1) in
-      ok-inv t _ (b .1)
+      (ltb-true zone (o .zones .count) (a .0), b .0, ok-inv t _ (b .1))
 
 module _ (room : ℕ) (x : Answer (List ℕ)) where
   abbrev fit : List ℕ → Answer (List ℕ)
@@ -178,8 +180,8 @@ told-refused (brokenAt k rule) y h = refl
 abbrev code : Drawn (List ℕ) → ℤ
 code d = drawnCode (howLong d)
 
--- a length that a number tells, where it is below the top
-told-length : (n : ℕ) (t : List ℕ) → pos n ≡ code (drawn t) → n < 0x7fff_ffff_ffff_ffff → n ≡ length t
+-- a length below 2 ^ 63 is told as it is
+told-length : (n : ℕ) (t : List ℕ) → pos n ≡ code (drawn t) → length t < 0x8000_0000_0000_0000 → n ≡ length t
 told-length n t e h = let z = same-number n (min (length t) 0x7fff_ffff_ffff_ffff) e in omega arith
 
 module _ (file : List ℕ) (zone : ℕ) where
@@ -188,7 +190,13 @@ module _ (file : List ℕ) (zone : ℕ) where
 
   -- a text that was drawn is the zone's
   text-of : (p : Opened) → ok p ≡ openOf file → (t : List ℕ) → ok t ≡ zoneText p file zone → t ≡ textOf file zone
-  text-of p e t f = text-inv p file zone t f ∙ ap (λ (q : Opened). mapText (outlines (zoneAt (directories q file) zone))) (opened-is file p e)
+  text-of p e t f = text-inv p file zone t f .2 ∙ ap (λ (q : Opened). mapText (outlines (zoneAt (directories q file) zone))) (opened-is file p e)
+
+  -- and is short enough that its length is told
+  text-short : Bytes file → (p : Opened) → ok p ≡ openOf file → fullCheckOf file ≡ accepted → (t : List ℕ) → ok t ≡ zoneText p file zone → length t < 0x8000_0000_0000_0000
+  text-short byte p e c t f =
+      let i = text-inv p file zone t f in
+      omega (arith, ap length (i .2), text-most file byte p (accepted-with file c p e) zone (i .0) (i .1))
 
   checked-in : (room : ℕ) (q : ℤ) → Tzb-full-check file q → (q ≡ pos 0 → ⊥) → code (mapIn file zone room) ≡ q
   unfolding mapIn
@@ -218,11 +226,14 @@ module _ (file : List ℕ) (zone : ℕ) where
     of-none : (n : ℕ) → n < 1000 → no n ≡ zoneText o file zone → code (mapOf file zone) ≡ refusing n
     of-none n l e = sym (ap (λ (x : Answer (List ℕ)). code (upheld accepted x)) e ∙ ap code of-text) ∙ sym (code-small (refusal n) l)
 
+    drawn-small : Bytes file → zone < o .zones .count → zoneDrawable (shapeOf file zone) ≡ true → length (textOf file zone) < 0x8000_0000_0000_0000
+    drawn-small byte h d = text-short byte o opens-it (sym accepts-it) (textOf file zone) (text-is o file zone h d)
+
     in-drawn : (room : ℕ) (t : List ℕ) → ok t ≡ inRoom room (zoneText o file zone) → drawn t ≡ mapIn file zone room
     in-drawn room t e = ap (upheld accepted) e ∙ in-text room
 
   -- ---- tzb_map
-  module _ (memory : List ℕ) (lendable : Lendable memory) (r : ℤ) (after : List ℕ) (c : Tzb-map file zone memory r after) where
+  module _ (byte : Bytes file) (memory : List ℕ) (r : ℤ) (after : List ℕ) (c : Tzb-map file zone memory r after) where
     abbrev text : List ℕ
     text = textOf file zone
 
@@ -232,14 +243,14 @@ module _ (file : List ℕ) (zone : ℕ) where
     barred : (k : Tzb-full-check file (pos 0)) (n : ℕ) → n < 1000 → no n ≡ zoneText o file zone → r ≡ refusing n
     barred k n l e = map-answer c ∙ in-none k (length memory) n l (room-barred (length memory) (zoneText o file zone) (refusal n) e)
 
-    stands : drawn text ≡ map → length text ≤ length memory → (r ≡ pos (length text)) × (after ≡ text ++ drop (length text) memory)
+    stands : drawn text ≡ map → length text < 0x8000_0000_0000_0000 → (r ≡ pos (length text)) × (after ≡ text ++ drop (length text) memory)
     stands e h = (
-      map-answer c ∙ ap code (sym e) ∙ sym (drawn-short (length text) (omega (arith, lendable, h))),
+      map-answer c ∙ ap code (sym e) ∙ sym (drawn-short (length text) h),
       map-memory c ∙ ap (λ (d : Drawn (List ℕ)). left memory (asAnswer d)) (sym e),
     )
 
     draws : Asked file zone → zoneDrawable (shapeOf file zone) ≡ true → length text ≤ length memory → (r ≡ pos (length text)) × (after ≡ text ++ drop (length text) memory)
-    draws a d h = stands (in-drawn (a .accepted) (length memory) text (room-is (length memory) (zoneText o file zone) text (text-is o file zone (a .its-own) d) h)) h
+    draws a d h = stands (in-drawn (a .accepted) (length memory) text (room-is (length memory) (zoneText o file zone) text (text-is o file zone (a .its-own) d) h)) (drawn-small (a .accepted) byte (a .its-own) d)
 
     reads : (n : ℕ) → r ≡ pos n → readMap (take n after) ≡ some (outlines (shapeOf file zone))
     reads n e = go map refl
@@ -252,8 +263,8 @@ module _ (file : List ℕ) (zone : ℕ) where
             let i = in-inv file zone (length memory) t f in
             let q = room-inv (length memory) (zoneText (i .0) file zone) t (i .3) in
             let same : t ≡ text = text-of (i .0) (i .1) t (q .0) in
-            let fits : length text ≤ length memory = subst (λ (u : List ℕ). length u ≤ length memory) same (q .1) in
-            let all = stands (ap drawn (sym same) ∙ f) fits in
+            let small : length text < 0x8000_0000_0000_0000 = subst (λ (u : List ℕ). length u < 0x8000_0000_0000_0000) same (text-short byte (i .0) (i .1) (i .2) t (q .0)) in
+            let all = stands (ap drawn (sym same) ∙ f) small in
             read-first n (same-number n (length text) (sym e ∙ all .0)) (all .1)
         go (undrawn k) f = absurd (refusal-below n k (sym e ∙ map-answer c ∙ ap code (sym f)))
         go (unsound k rule) f = absurd (refusal-below n k (sym e ∙ map-answer c ∙ ap code (sym f)))
@@ -272,7 +283,7 @@ module _ (file : List ℕ) (zone : ℕ) where
         go : (d : Drawn (List ℕ)) → d ≡ mapOf file zone → r ≡ pos n
         go (drawn t) f =
             let i = map-inv file zone t f in
-            let m : n ≡ length t = told-length n t (map-length-answer l ∙ ap code (sym f)) (omega (arith, lendable, h)) in
+            let m : n ≡ length t = told-length n t (map-length-answer l ∙ ap code (sym f)) (text-short byte (i .0) (i .1) (i .2) t (i .3)) in
             let fits : length t ≤ length memory = omega (arith, m, h) in
             let there : drawn t ≡ map = ap (upheld accepted) (room-is (length memory) (zoneText (i .0) file zone) t (i .3) fits) ∙ in-is file zone (length memory) (i .0) (i .1) (sym (i .2)) in
             map-answer c ∙ ap code (sym there) ∙ ap code f ∙ sym (map-length-answer l)
@@ -301,7 +312,7 @@ module _ (file : List ℕ) (zone : ℕ) where
         either a h false d = inl (no-outline a d)
 
   -- ---- tzb_map_length
-  module _ (r : ℤ) (c : Tzb-map-length file zone r) where
+  module _ (byte : Bytes file) (r : ℤ) (c : Tzb-map-length file zone r) where
     pub map-length-answers : MapLengthAnswers file zone r
     map-length-answers =
         record {
@@ -311,8 +322,8 @@ module _ (file : List ℕ) (zone : ℕ) where
           tells = tells;
         }
       where
-        tells : Asked file zone → zoneDrawable (shapeOf file zone) ≡ true → length (textOf file zone) < 0x7fff_ffff_ffff_ffff → r ≡ pos (length (textOf file zone))
-        tells a d h =
+        tells : Asked file zone → zoneDrawable (shapeOf file zone) ≡ true → r ≡ pos (length (textOf file zone))
+        tells a d =
             map-length-answer c
             ∙ sym (ap (λ (x : Answer (List ℕ)). code (upheld accepted x)) (text-is o file zone (a .its-own) d) ∙ ap code (of-text (a .accepted)))
-            ∙ sym (drawn-short (length (textOf file zone)) (omega (arith, h)))
+            ∙ sym (drawn-short (length (textOf file zone)) (drawn-small (a .accepted) byte (a .its-own) d))

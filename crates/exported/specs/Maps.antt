@@ -1,6 +1,6 @@
 -- MAPS: for every file, zone and lent memory, what `tzb_map` and `tzb_map_length` answer.
 -- "Curators want a zone as GeoJSON (RFC 7946) in a lent buffer." "Read by a definition of decimals, the text gives the same whole numbers." "Refusals: the full check's first, 45, then 48 .., then 46." (document 02, request 2026-01)
--- One record for each, of which the theorem with its name in proofs/Maps holds of every call (specs/Calls). The cases of a record leave none out. Where each word is defined:
+-- One record for each, of which the theorem with its name in proofs/Maps holds of every call (specs/Calls) on bytes (`Bytes`, specs/Words). The cases of a record leave none out. Where each word is defined:
 --   accepted          `tzb_full_check` answers 0; `openedIs file` is the record that opening makes of the file
 --   a zone's shape    `shapeOf`, specs/Words
 --   its outlines      `outlines`, shapes/specs/Outline: polygon by polygon the outer ring and the holes, each as the positions that are drawn. `zoneDrawable`: each ring has four positions or more, 10,000 at most, and an area
@@ -25,10 +25,6 @@ use Rattle.exported.specs.Words.{refusing, shapeOf}
 -- the text of a zone
 abbrev pub textOf : List ℕ → ℕ → List ℕ
 textOf file zone = mapText (outlines (shapeOf file zone))
-
--- memory that a machine can lend: fewer than 2 ^ 63 - 1 bytes
-abbrev pub Lendable : List ℕ → Type 0
-Lendable memory = length memory < 0x7fff_ffff_ffff_ffff
 
 -- the file is accepted, and the zone is one of its own
 pub record Asked (file : List ℕ) (zone : ℕ) : Type 0 where
@@ -61,4 +57,4 @@ pub record MapLengthAnswers (file : List ℕ) (zone : ℕ) (r : ℤ) : Type 0 wh
   pub refused : (q : ℤ) → Tzb-full-check file q → (q ≡ pos 0 → ⊥) → r ≡ q
   pub no-zone : Tzb-full-check file (pos 0) → openedIs file .zones .count ≤ zone → r ≡ refusing 45
   pub no-outline : Asked file zone → zoneDrawable (shapeOf file zone) ≡ false → r ≡ refusing 48
-  pub tells : Asked file zone → zoneDrawable (shapeOf file zone) ≡ true → length (textOf file zone) < 0x7fff_ffff_ffff_ffff → r ≡ pos (length (textOf file zone))
+  pub tells : Asked file zone → zoneDrawable (shapeOf file zone) ≡ true → r ≡ pos (length (textOf file zone))

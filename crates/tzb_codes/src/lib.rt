@@ -124,7 +124,11 @@ pub fn drawing_code(d: Drawing) -> i64
 {
     match d {
         Drawing::Drawn(n) => {
-            if n < 0x8000_0000_0000_0000 { n as i64 } else { 0x7fff_ffff_ffff_ffff }
+            if n < 0x8000_0000_0000_0000 {
+                n as i64
+            } else {
+                0x7fff_ffff_ffff_ffff
+            }
         }
         Drawing::Refused(k) => refusal_code64(k),
         Drawing::Broken(k, _) => refusal_code64(k),
