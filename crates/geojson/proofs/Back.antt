@@ -16,11 +16,11 @@ use Rattle.plane.specs.declared.I32Point.{I32Point}
 use Rattle.plane.specs.Places.{point}
 use Rattle.geojson.specs.Ascii.{ascii}
 use Rattle.geojson.specs.Decimals.{lastDigit, digitsBy, digits, places, hundredThousandths, decimal}
-use Rattle.geojson.specs.Text.{others, listed, positionText, ringText, polygonText, headText, tailText, mapText}
+use Rattle.geojson.specs.Text.{others, array, positionText, ringText, polygonText, headText, tailText, mapText}
 use Rattle.geojson.specs.Reading.{
   Reader,
   _onto_,
-  past,
+  passed,
   isDigit,
   beginsWithDigit,
   allDigits,
@@ -34,16 +34,16 @@ use Rattle.geojson.specs.Reading.{
   inFront,
   readElements,
   closedOr,
-  readListed,
-  atEnd,
+  readArray,
+  nothingBehind,
   readMap,
 }
 
 -- ---- bytes that are there
-pub past-back : (t s : List ℕ) → past t (t ++ s) ≡ some s
-unfolding past
-past-back [] s = refl
-past-back (b ∷ t) s = rw (eq-eqb b b refl) (past-back t s)
+pub passed-back : (t s : List ℕ) → passed t (t ++ s) ≡ some s
+unfolding passed
+passed-back [] s = refl
+passed-back (b ∷ t) s = rw (eq-eqb b b refl) (passed-back t s)
 
 -- ---- digits
 digit-is : (n : ℕ) → isDigit (48 + n % 10) ≡ true
@@ -140,12 +140,12 @@ size-back : (n : ℕ) (s : List ℕ) → readSize (hundredThousandths n ++ s) �
 unfolding readSize readPoint
 size-back n s =
     ap₂ (λ (t : Bool) (w : ℕ × List ℕ). cond t (readPoint w) none) (begins-size n s) (whole-back n s)
-    ∙ ap (λ o. o onto λ t. kDigits 5 (n / 100_000) t) (past-back (ascii ".") (places 5 (n % 100_000) ++ s))
+    ∙ ap (λ o. o onto λ t. kDigits 5 (n / 100_000) t) (passed-back (ascii ".") (places 5 (n % 100_000) ++ s))
     ∙ joined n s
 
 -- ---- a signed one
-no-minus : (s : List ℕ) → beginsWithDigit s ≡ true → past (ascii "-") s ≡ none
-unfolding past
+no-minus : (s : List ℕ) → beginsWithDigit s ≡ true → passed (ascii "-") s ≡ none
+unfolding passed
 no-minus [] h = absurd (false≢true h)
 no-minus (b ∷ s) h =
     let low = leb-true 48 b (and-l (leb 48 b) (leb b 57) h) in
@@ -157,15 +157,15 @@ decimal-back (pos n) rest =
     ap (λ o. readSigned o (hundredThousandths n ++ rest)) (no-minus (hundredThousandths n ++ rest) (begins-size n rest))
     ∙ ap (λ o. o onto λ k. some (pos (k .0), k .1)) (size-back n rest)
 decimal-back (negsuc n) rest =
-    ap (λ o. readSigned o (ascii "-" ++ (hundredThousandths (suc n) ++ rest))) (past-back (ascii "-") (hundredThousandths (suc n) ++ rest))
+    ap (λ o. readSigned o (ascii "-" ++ (hundredThousandths (suc n) ++ rest))) (passed-back (ascii "-") (hundredThousandths (suc n) ++ rest))
     ∙ ap (λ o. o onto λ k. some (negℤ (pos (k .0)), k .1)) (size-back (suc n) rest)
 
 -- ---- a position
 abbrev afterY : ℤ → Option (ℤ × List ℕ) → Option (I32Point × List ℕ)
-afterY x o = o onto λ y. past (ascii "]") (y .1) onto λ v. some (point x (y .0), v)
+afterY x o = o onto λ y. passed (ascii "]") (y .1) onto λ v. some (point x (y .0), v)
 
 abbrev afterX : Option (ℤ × List ℕ) → Option (I32Point × List ℕ)
-afterX o = o onto λ x. past (ascii ",") (x .1) onto λ u. afterY (x .0) (readDecimal u)
+afterX o = o onto λ x. passed (ascii ",") (x .1) onto λ u. afterY (x .0) (readDecimal u)
 
 opened-position : (q : I32Point) (s : List ℕ)
     → positionText q ++ s ≡ ascii "[" ++ (decimal (q .x) ++ (ascii "," ++ (decimal (q .y) ++ (ascii "]" ++ s))))
@@ -173,7 +173,7 @@ unfolding positionText
 opened-position q s = simp append-assoc
 
 pub position-back : (q : I32Point) (rest : List ℕ) → readPosition (positionText q ++ rest) ≡ some (q, rest)
-unfolding readPosition past
+unfolding readPosition passed
 position-back q rest =
     let last = ascii "]" ++ rest in
     let second = ascii "," ++ (decimal (q .y) ++ last) in
@@ -195,7 +195,7 @@ module _ {A : Type 0} (f : A → List ℕ) (read : Reader A) (back : ReadsBack f
       ∙ ap (inFront a) h
 
   others-back : (l : List A) (n : ℕ) (s : List ℕ) → length l < n → readOthers read n (others f l ++ s) ≡ some (l, s)
-  unfolding others readOthers past
+  unfolding others readOthers passed
   others-back l zero s h = absurd (not-suc-le-zero h)
   others-back [] (suc n) s h = refl
   others-back (a ∷ l) (suc n) s h =
@@ -215,45 +215,45 @@ module _ {A : Type 0} (f : A → List ℕ) (read : Reader A) (back : ReadsBack f
       ∙ ap (inFront a) (others-back l (length (others f l ++ s)) s (enough l s))
 
   -- no bracket closes at once
-  not-closed : (a : A) (s : List ℕ) → past (ascii "]") (f a ++ s) ≡ none
-  unfolding past
-  not-closed a s = ap (λ t. past (ascii "]") (t ++ s)) (opens a .1)
+  not-closed : (a : A) (s : List ℕ) → passed (ascii "]") (f a ++ s) ≡ none
+  unfolding passed
+  not-closed a s = ap (λ t. passed (ascii "]") (t ++ s)) (opens a .1)
 
-  pub listed-back : ReadsBack (listed f) (readListed read)
-  unfolding listed readListed past
-  listed-back [] rest = refl
-  listed-back (a ∷ l) rest =
+  pub array-back : ReadsBack (array f) (readArray read)
+  unfolding array readArray passed
+  array-back [] rest = refl
+  array-back (a ∷ l) rest =
       let split = append-assoc (f a) (others f l) rest in
-      ap (λ t. closedOr (past (ascii "]") t) (readElements read t)) split
+      ap (λ t. closedOr (passed (ascii "]") t) (readElements read t)) split
       ∙ ap (λ o. closedOr o (readElements read (f a ++ (others f l ++ rest)))) (not-closed a (others f l ++ rest))
       ∙ elements-back a l rest
 
-  pub listed-opens : Bracketed (listed f)
-  unfolding listed
-  listed-opens [] = (ascii "]", refl)
-  listed-opens (a ∷ l) = (f a ++ others f l, refl)
+  pub array-opens : Bracketed (array f)
+  unfolding array
+  array-opens [] = (ascii "]", refl)
+  array-opens (a ∷ l) = (f a ++ others f l, refl)
 
 position-opens : Bracketed positionText
 unfolding positionText
 position-opens q = (decimal (q .x) ++ ascii "," ++ decimal (q .y) ++ ascii "]", refl)
 
-pub ring-back : ReadsBack ringText (readListed readPosition)
-ring-back = listed-back positionText readPosition position-back position-opens
+pub ring-back : ReadsBack ringText (readArray readPosition)
+ring-back = array-back positionText readPosition position-back position-opens
 
-pub polygon-back : ReadsBack polygonText (readListed (readListed readPosition))
-polygon-back = listed-back ringText (readListed readPosition) ring-back (listed-opens positionText readPosition position-back position-opens)
+pub polygon-back : ReadsBack polygonText (readArray (readArray readPosition))
+polygon-back = array-back ringText (readArray readPosition) ring-back (array-opens positionText readPosition position-back position-opens)
 
 -- ---- the map: every one
 pub map-back : (z : List (List (List I32Point))) → readMap (mapText z) ≡ some z
 unfolding readMap mapText
 map-back z =
-    let polygons = readListed (readListed (readListed readPosition)) in
-    let opens = listed-opens ringText (readListed readPosition) ring-back (listed-opens positionText readPosition position-back position-opens) in
-    ap (λ o. o onto λ t. polygons t onto λ m. past tailText (m .1) onto λ u. atEnd (m .0, u))
-    (ap (past headText) (append-assoc headText (listed polygonText z) tailText) ∙ past-back headText (listed polygonText z ++ tailText))
-    ∙ ap (λ o. o onto λ m. past tailText (m .1) onto λ u. atEnd (m .0, u))
-    (listed-back polygonText (readListed (readListed readPosition)) polygon-back opens z tailText)
-    ∙ ap (λ o. o onto λ u. atEnd (z, u)) (past-back tailText [])
+    let polygons = readArray (readArray (readArray readPosition)) in
+    let opens = array-opens ringText (readArray readPosition) ring-back (array-opens positionText readPosition position-back position-opens) in
+    ap (λ o. o onto λ t. polygons t onto λ m. passed tailText (m .1) onto λ u. nothingBehind (m .0, u))
+    (ap (passed headText) (append-assoc headText (array polygonText z) tailText) ∙ passed-back headText (array polygonText z ++ tailText))
+    ∙ ap (λ o. o onto λ m. passed tailText (m .1) onto λ u. nothingBehind (m .0, u))
+    (array-back polygonText (readArray (readArray readPosition)) polygon-back opens z tailText)
+    ∙ ap (λ o. o onto λ u. nothingBehind (z, u)) (passed-back tailText [])
 
 -- so two maps with the same text are one
 pub one-map : (z z' : List (List (List I32Point))) → mapText z ≡ mapText z' → z ≡ z'

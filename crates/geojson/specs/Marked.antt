@@ -8,8 +8,8 @@ use Rattle.plane.specs.declared.I32Point.{I32Point}
 use Rattle.plane.specs.Places.{point}
 use Rattle.geojson.specs.Ascii.{ascii}
 use Rattle.geojson.specs.Decimals.{decimal, digits, digitsBy, places, hundredThousandths}
-use Rattle.geojson.specs.Text.{others, listed, positionText, mapText}
-use Rattle.geojson.specs.Reading.{past, allDigits, kDigits, readPoint, readSize, readSigned, readDecimal, readPosition}
+use Rattle.geojson.specs.Text.{others, array, positionText, mapText}
+use Rattle.geojson.specs.Reading.{passed, allDigits, kDigits, readPoint, readSize, readSigned, readDecimal, readPosition}
 
 -- a ring of GeoJSON ends where it begins
 abbrev pub triangle : List (List (List I32Point))
@@ -19,7 +19,7 @@ triangle = ((point (pos 0) (pos 0) ∷ point (pos 100) (pos 0) ∷ point (pos 0)
 -- `{"type":"MultiPolygon","coordinates":[[[[0.00000,0.00000],[0.00100,0.00000],[0.00000,0.00100],[0.00000,0.00000]]]]}`."
 pub triangle-text : mapText triangle
     ≡ ascii "{\"type\":\"MultiPolygon\",\"coordinates\":[[[[0.00000,0.00000],[0.00100,0.00000],[0.00000,0.00100],[0.00000,0.00000]]]]}"
-unfolding mapText listed others positionText decimal hundredThousandths digits digitsBy places
+unfolding mapText array others positionText decimal hundredThousandths digits digitsBy places
 triangle-text = refl
 
 pub zero : decimal (pos 0) ≡ ascii "0.00000"
@@ -47,17 +47,17 @@ unfolding decimal hundredThousandths digits digitsBy places
 south-pole = refl
 
 pub four-decimals : readDecimal (ascii "0.0000") ≡ none
-unfolding past allDigits kDigits readPoint readSize readSigned readDecimal
+unfolding passed allDigits kDigits readPoint readSize readSigned readDecimal
 four-decimals = refl
 
 pub no-whole-part : readDecimal (ascii ".00000") ≡ none
-unfolding past allDigits kDigits readPoint readSize readSigned readDecimal
+unfolding passed allDigits kDigits readPoint readSize readSigned readDecimal
 no-whole-part = refl
 
 pub no-point : readDecimal (ascii "000000") ≡ none
-unfolding past allDigits kDigits readPoint readSize readSigned readDecimal
+unfolding passed allDigits kDigits readPoint readSize readSigned readDecimal
 no-point = refl
 
 pub six-decimals : readPosition (ascii "[0.000000,0.000000]") ≡ none
-unfolding past allDigits kDigits readPoint readSize readSigned readDecimal readPosition
+unfolding passed allDigits kDigits readPoint readSize readSigned readDecimal readPosition
 six-decimals = refl

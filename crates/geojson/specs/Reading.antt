@@ -23,10 +23,10 @@ none onto f = none
 (some a) onto f = f a
 
 -- what stands behind these bytes
-unfoldable pub past : List ℕ → List ℕ → Option (List ℕ)
-past [] s = some s
-past (b ∷ t) [] = none
-past (b ∷ t) (x ∷ s) = cond (eqb x b) (past t s) none
+unfoldable pub passed : List ℕ → List ℕ → Option (List ℕ)
+passed [] s = some s
+passed (b ∷ t) [] = none
+passed (b ∷ t) (x ∷ s) = cond (eqb x b) (passed t s) none
 
 -- ---- decimals
 -- "0" is 48, "9" is 57
@@ -54,7 +54,7 @@ kDigits (suc k) n (b ∷ s) = cond (isDigit b) (kDigits k (withDigit n b) s) non
 
 -- behind the digits of the whole part w: the point and five digits. Without the point they say how many hundred-thousandths it is
 unfoldable pub readPoint : ℕ × List ℕ → Option (ℕ × List ℕ)
-readPoint w = past (ascii ".") (w .1) onto λ s. kDigits 5 (w .0) s
+readPoint w = passed (ascii ".") (w .1) onto λ s. kDigits 5 (w .0) s
 
 -- no sign, and at least one digit
 unfoldable pub readSize : Reader ℕ
@@ -66,16 +66,16 @@ readSigned (some t) s = readSize t onto λ n. some (negℤ (pos (n .0)), n .1)
 readSigned none s = readSize s onto λ n. some (pos (n .0), n .1)
 
 unfoldable pub readDecimal : Reader ℤ
-readDecimal s = readSigned (past (ascii "-") s) s
+readDecimal s = readSigned (passed (ascii "-") s) s
 
 -- ---- positions
 unfoldable pub readPosition : Reader I32Point
 readPosition s =
-    past (ascii "[") s
+    passed (ascii "[") s
     onto (λ t. readDecimal t
-    onto (λ x. past (ascii ",") (x .1)
+    onto (λ x. passed (ascii ",") (x .1)
     onto (λ u. readDecimal u
-    onto (λ y. past (ascii "]") (y .1)
+    onto (λ y. passed (ascii "]") (y .1)
     onto (λ v. some (point (x .0) (y .0), v))))))
 
 -- ---- arrays of what a reader reads
@@ -94,24 +94,24 @@ module _ {A : Type 0} (read : Reader A) where
   unfoldable pub readOthers : ℕ → Reader (List A)
   readOthers zero s = none
   readOthers (suc n) s =
-      closedOr (past (ascii "]") s)
-      (past (ascii ",") s onto λ t. read t onto λ a. inFront (a .0) (readOthers n (a .1)))
+      closedOr (passed (ascii "]") s)
+      (passed (ascii ",") s onto λ t. read t onto λ a. inFront (a .0) (readOthers n (a .1)))
 
   -- there are fewer elements than bytes
   unfoldable pub readElements : Reader (List A)
   readElements s = read s onto λ a. inFront (a .0) (readOthers (length (a .1)) (a .1))
 
-  unfoldable pub readListed : Reader (List A)
-  readListed s = past (ascii "[") s onto λ t. closedOr (past (ascii "]") t) (readElements t)
+  unfoldable pub readArray : Reader (List A)
+  readArray s = passed (ascii "[") s onto λ t. closedOr (passed (ascii "]") t) (readElements t)
 
 -- ---- the whole text, and nothing behind it
-abbrev pub atEnd : {A : Type 0} → A × List ℕ → Option A
-atEnd (a, []) = some a
-atEnd (a, b ∷ s) = none
+abbrev pub nothingBehind : {A : Type 0} → A × List ℕ → Option A
+nothingBehind (a, []) = some a
+nothingBehind (a, b ∷ s) = none
 
 unfoldable pub readMap : List ℕ → Option (List (List (List I32Point)))
 readMap s =
-    past headText s
-    onto (λ t. readListed (readListed (readListed readPosition)) t
-    onto (λ z. past tailText (z .1)
-    onto (λ u. atEnd (z .0, u))))
+    passed headText s
+    onto (λ t. readArray (readArray (readArray readPosition)) t
+    onto (λ z. passed tailText (z .1)
+    onto (λ u. nothingBehind (z .0, u))))

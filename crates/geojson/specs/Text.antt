@@ -14,19 +14,19 @@ module _ {A : Type 0} (f : A → List ℕ) where
   others [] = ascii "]"
   others (a ∷ more) = ascii "," ++ f a ++ others more
 
-  unfoldable pub listed : List A → List ℕ
-  listed [] = ascii "[]"
-  listed (a ∷ more) = ascii "[" ++ f a ++ others more
+  unfoldable pub array : List A → List ℕ
+  array [] = ascii "[]"
+  array (a ∷ more) = ascii "[" ++ f a ++ others more
 
 -- a position is a place in hundred-thousandths of a degree
 unfoldable pub positionText : I32Point → List ℕ
 positionText q = ascii "[" ++ decimal (q .x) ++ ascii "," ++ decimal (q .y) ++ ascii "]"
 
 abbrev pub ringText : List I32Point → List ℕ
-ringText = listed positionText
+ringText = array positionText
 
 abbrev pub polygonText : List (List I32Point) → List ℕ
-polygonText = listed ringText
+polygonText = array ringText
 
 abbrev pub headText : List ℕ
 headText = ascii "{\"type\":\"MultiPolygon\",\"coordinates\":"
@@ -35,4 +35,4 @@ abbrev pub tailText : List ℕ
 tailText = ascii "}"
 
 unfoldable pub mapText : List (List (List I32Point)) → List ℕ
-mapText z = headText ++ listed polygonText z ++ tailText
+mapText z = headText ++ array polygonText z ++ tailText

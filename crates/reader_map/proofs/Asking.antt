@@ -19,7 +19,7 @@ use Rattle.geojson.proofs.OverLaws.{over-all}
 use Rattle.opened.specs.declared.Opened.{Opened}
 use Rattle.reader_exact.specs.Directories.{directories}
 use Rattle.reader_map.specs.Map.{zoneText, inRoom}
-use Rattle.reader_map.specs.Steps.{Drawn}
+use Rattle.reader_map.specs.Steps.{DrawnAs}
 
 -- ---- a count, and the list that was counted
 many-of : (x : Answer (List ℕ)) (n : ℕ) → ok n ≡ howMany x → (t : List ℕ) × (ok t ≡ x) × (n ≡ length t)
@@ -63,7 +63,7 @@ module _ (o : Opened) (s : List ℕ) (zone : ℕ) where
 
   -- what is drawn is counted
   pub size-is : zone < o .zones .count → (z : ℕ) → z ≡ zone → (most : ℕ) (r : Answer ℕ) (before after : List ℕ)
-      → Drawn (zoneDrawable (zoneAt (directories o s) z)) (mapText (outlines (zoneAt (directories o s) z))) most 0 r before after → r ≡ howMany (zoneText o s zone)
+      → DrawnAs (zoneDrawable (zoneAt (directories o s) z)) (mapText (outlines (zoneAt (directories o s) z))) most 0 r before after → r ≡ howMany (zoneText o s zone)
   unfolding zoneText
   size-is h z e most r before after d =
       d .told
@@ -95,7 +95,7 @@ module _ (o : Opened) (s : List ℕ) (zone : ℕ) where
     size-zone = let m = many-of (zoneText o s zone) n e in text-zone (m .0) (m .1)
 
     pub into-done : (out : List ℕ) → n ≤ length out → (z : ℕ) → z ≡ zone → (most : ℕ) (r : Answer ℕ) (after : List ℕ)
-        → Drawn (zoneDrawable (zoneAt (directories o s) z)) (mapText (outlines (zoneAt (directories o s) z))) most 0 r out after
+        → DrawnAs (zoneDrawable (zoneAt (directories o s) z)) (mapText (outlines (zoneAt (directories o s) z))) most 0 r out after
         → (ok n ≡ howMany (inRoom (length out) (zoneText o s zone))) × (after ≡ left out (inRoom (length out) (zoneText o s zone)))
     into-done out h z f most r after d =
         let m = many-of (zoneText o s zone) n e in

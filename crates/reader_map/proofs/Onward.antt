@@ -15,7 +15,7 @@ use Rattle.answer.specs.Answers.{Answer, ok, refused, need}
 use Rattle.answer.proofs.AnswersLaws.{need-met, need-not, need-inv, ok-inv, zero-one}
 use Rattle.geojson.specs.Over.{over}
 use Rattle.geojson.proofs.OverLaws.{Written, wrote, _behind_, length-over}
-use Rattle.reader_map.specs.Steps.{toCome, Drawn}
+use Rattle.reader_map.specs.Steps.{toCome, DrawnAs}
 use Rattle.reader_map.proofs.Rows.{run-first}
 
 pub record Onward (out : List ℕ) (at : ℕ) (rest : List ℕ) (before : List ℕ) (from : ℕ) (whole : List ℕ) : Type 0 where
@@ -44,15 +44,15 @@ refused-need true a k e = let z : _≡_ {A = ℕ} 0 1 = cc in absurd (zero-one z
 refused-need false a k e = let z : k ≡ refusal 48 = cc in (refl, z)
 
 module _ {fits : Bool} {text : List ℕ} {most at : ℕ} {before after : List ℕ} where
-  pub drawn-so : {q : ℕ} → fits ≡ true → Written before at text q after → q ≤ at + most → Drawn fits text most at (ok q) before after
+  pub drawn-so : {q : ℕ} → fits ≡ true → Written before at text q after → q ≤ at + most → DrawnAs fits text most at (ok q) before after
   drawn-so {q} e w h =
       record { told = ap ok (w .next) ∙ need-met 48 fits (ok (at + length text)) e; laid = λ k. w .is; short = λ k. omega (arith, w .next) }
 
-  pub drawn-no : (k : Refusal) → k ≡ refusal 48 → fits ≡ false → Drawn fits text most at (refused k) before after
+  pub drawn-no : (k : Refusal) → k ≡ refusal 48 → fits ≡ false → DrawnAs fits text most at (refused k) before after
   drawn-no k e f =
       record { told = ap refused e ∙ need-not 48 fits (ok (at + length text)) f; laid = λ g. absurd (false≢true (sym f ∙ g)); short = λ g. absurd (false≢true (sym f ∙ g)) }
 
-  module _ {r : Answer ℕ} (d : Drawn fits text most at r before after) where
+  module _ {r : Answer ℕ} (d : DrawnAs fits text most at r before after) where
     -- a place is answered: all of it stands there
     pub drawn-was : (e : ℕ) → r ≡ ok e → (fits ≡ true) × Written before at text e after × (length text ≤ most)
     drawn-was e h =
@@ -63,7 +63,7 @@ module _ {fits : Bool} {text : List ℕ} {most at : ℕ} {before after : List �
     drawn-not k h = refused-need fits (at + length text) k (sym h ∙ d .told)
 
     -- the same of what is equal
-    pub drawn-as : (more : ℕ) (fits' : Bool) (text' : List ℕ) → fits ≡ fits' → text ≡ text' → most ≤ more → Drawn fits' text' more at r before after
+    pub drawn-as : (more : ℕ) (fits' : Bool) (text' : List ℕ) → fits ≡ fits' → text ≡ text' → most ≤ more → DrawnAs fits' text' more at r before after
     drawn-as more fits' text' f e l =
         record {
           told = d .told ∙ ap₂ (λ (b : Bool) (t : List ℕ). need 48 b (ok (at + length t))) f e;
@@ -121,11 +121,11 @@ module _ {A : Type 0} {P : A → Bool} {g : ℕ → A} {text : ℕ → List ℕ}
           }
 
       -- the same by what a step answers
-      module _ {most p : ℕ} {mid after : List ℕ} {r : Answer ℕ} (d : Drawn (P (g i)) (text i) most p r mid after) where
+      module _ {most p : ℕ} {mid after : List ℕ} {r : Answer ℕ} (d : DrawnAs (P (g i)) (text i) most p r mid after) where
         pub row-on : p ≡ at + 1 → mid ≡ over out at (m ∷ []) → most + 1 ≤ each → (e : ℕ) → r ≡ ok e → Row P g text each count first from before 44 (n - 1) (i + 1) e after
         row-on a b l e f = let w = drawn-was d e f in row-step (w .0) (wrote a b) (w .1) (omega (arith, w .2))
 
-        pub row-off : (k : Refusal) → r ≡ refused k → (whole : List ℕ) (all : ℕ) (last : List ℕ) → Drawn (every P (run g count first)) whole all from (refused k) before last
+        pub row-off : (k : Refusal) → r ≡ refused k → (whole : List ℕ) (all : ℕ) (last : List ℕ) → DrawnAs (every P (run g count first)) whole all from (refused k) before last
         row-off k f whole all last =
             let w = drawn-not d k f in
             drawn-no k (w .1) (sym fits-one ∙ ap (λ (t : Bool). t && every P (run g (n - 1) (i + 1))) (w .0))
@@ -141,5 +141,5 @@ module _ {A : Type 0} {P : A → Bool} {g : ℕ → A} {text : ℕ → List ℕ}
       pub row-most : q ≤ from + (count * each + 1)
       row-most = omega (arith, row .room, f)
 
-      pub row-drawn : (all : ℕ) → count * each + 1 ≤ all → Drawn (every P (run g count first)) (toCome text 91 count first) all from (ok q) before after
+      pub row-drawn : (all : ℕ) → count * each + 1 ≤ all → DrawnAs (every P (run g count first)) (toCome text 91 count first) all from (ok q) before after
       row-drawn all l = drawn-so (sym (row .fits) ∙ ap (every P) (run-none g n i h)) row-done (omega (arith, row-most))

@@ -20,7 +20,7 @@ use Rattle.answer.specs.Answers.{ok, refused}
 use Rattle.answer.proofs.AnswersLaws.{need-inv, ok-inv, zero-one}
 use Rattle.shapes.specs.Layout.{ringAt, polygonAt, zoneAt}
 use Rattle.shapes.specs.Outline.{doubledArea, drawable, backwards, outline, outlines, zoneDrawable}
-use Rattle.geojson.specs.Text.{listed, ringText, polygonText, headText, tailText, mapText}
+use Rattle.geojson.specs.Text.{array, ringText, polygonText, headText, tailText, mapText}
 use Rattle.opened.specs.declared.Opened.{Opened}
 use Rattle.reader_records.specs.declared.ListRecord.{ListRecord}
 use Rattle.reader_records.specs.Records.{polyAt, tzAt}
@@ -87,10 +87,10 @@ sides-row o s first count h =
     (ap (λ (b : Bool). ringText (outline b (ringAt (directories o s) first))) (sym (le-ltb first first (omega arith))))
     (λ j l. ap (λ (b : Bool). ringText (outline b (ringAt (directories o s) j))) (sym (lt-ltb first j l)))
 
-parts-row : (o : Opened) (s : List ℕ) (first count : ℕ) → 0 < count → listed polygonText (map sides (run (polygonAt (directories o s)) count first)) ≡ toCome (partText o s) 91 count first
+parts-row : (o : Opened) (s : List ℕ) (first count : ℕ) → 0 < count → array polygonText (map sides (run (polygonAt (directories o s)) count first)) ≡ toCome (partText o s) 91 count first
 unfolding partText
 parts-row o s first count h =
-    ap (listed polygonText) (map-run sides (polygonAt (directories o s)) count first)
+    ap (array polygonText) (map-run sides (polygonAt (directories o s)) count first)
     ∙ listed-row polygonText (λ (j : ℕ). sides (polygonAt (directories o s) j)) (partText o s) count first h (λ j. refl)
 
 -- ---- a polygon: the rings that its record names

@@ -8,7 +8,7 @@ use mathlib.Core.List.{List, _∷_, _++_, map}
 use lib.ListN.{length, drop, getD}
 use lib.Seq.{drop-cons, drop-length}
 use Rattle.plane.specs.Runs.{run}
-use Rattle.geojson.specs.Text.{others, listed}
+use Rattle.geojson.specs.Text.{others, array}
 use Rattle.reader_map.specs.Steps.{toCome}
 
 module _ {A : Type 0} where
@@ -19,20 +19,20 @@ module _ {A : Type 0} where
       ap₂ (λ (a b : List ℕ). 44 ∷ (a ++ b)) (h i (omega arith)) (others-row f g text n (i + 1) (λ j l. h j (omega arith)))
 
   -- the first element apart
-  pub listed-first : (f : A → List ℕ) (a : A) (g : ℕ → A) (text : ℕ → List ℕ) (n i : ℕ) → 0 < n → f a ≡ text i → ((j : ℕ) → i < j → f (g j) ≡ text j) → listed f (a ∷ run g (n - 1) (i + 1)) ≡ toCome text 91 n i
-  unfolding listed toCome
+  pub listed-first : (f : A → List ℕ) (a : A) (g : ℕ → A) (text : ℕ → List ℕ) (n i : ℕ) → 0 < n → f a ≡ text i → ((j : ℕ) → i < j → f (g j) ≡ text j) → array f (a ∷ run g (n - 1) (i + 1)) ≡ toCome text 91 n i
+  unfolding array toCome
   listed-first f a g text zero i h e k = absurd (omega arith)
   listed-first f a g text (suc n) i h e k =
       let d : suc n - 1 ≡ n = omega arith in
-      ap (λ (j : ℕ). listed f (a ∷ run g j (i + 1))) d
+      ap (λ (j : ℕ). array f (a ∷ run g j (i + 1))) d
       ∙ ap₂ (λ (a b : List ℕ). 91 ∷ (a ++ b)) e (others-row f g text n (i + 1) (λ j l. k j (omega arith)))
 
-  pub listed-row : (f : A → List ℕ) (g : ℕ → A) (text : ℕ → List ℕ) (n i : ℕ) → 0 < n → ((j : ℕ) → f (g j) ≡ text j) → listed f (run g n i) ≡ toCome text 91 n i
+  pub listed-row : (f : A → List ℕ) (g : ℕ → A) (text : ℕ → List ℕ) (n i : ℕ) → 0 < n → ((j : ℕ) → f (g j) ≡ text j) → array f (run g n i) ≡ toCome text 91 n i
   unfolding run
   listed-row f g text zero i h k = absurd (omega arith)
   listed-row f g text (suc n) i h k =
       let d : n ≡ suc n - 1 = omega arith in
-      ap (λ (j : ℕ). listed f (g i ∷ run g j (i + 1))) d ∙ listed-first f (g i) g text (suc n) i h (k i) (λ j l. k j)
+      ap (λ (j : ℕ). array f (g i ∷ run g j (i + 1))) d ∙ listed-first f (g i) g text (suc n) i h (k i) (λ j l. k j)
 
   -- a list by its places
   run-drop : (l : List A) (d : A) (n i : ℕ) → i + n ≡ length l → run (λ (j : ℕ). getD l j d) n i ≡ drop i l

@@ -24,7 +24,7 @@ toCome text m zero i = ascii "]"
 toCome text m (suc n) i = m ∷ (text i ++ toCome text 44 n (i + 1))
 
 -- ---- what a step that draws has done: it answers the place behind the text, or 48
-pub record Drawn (fits : Bool) (text : List ℕ) (most : ℕ) (at : ℕ) (r : Answer ℕ) (before after : List ℕ) : Type 0 where
+pub record DrawnAs (fits : Bool) (text : List ℕ) (most : ℕ) (at : ℕ) (r : Answer ℕ) (before after : List ℕ) : Type 0 where
   pub told : r ≡ need 48 fits (ok (at + length text))
   pub laid : fits ≡ true → after ≡ over before at text
   pub short : fits ≡ true → length text ≤ most

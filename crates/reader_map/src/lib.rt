@@ -15,7 +15,7 @@ ghost use Rattle.reader_exact.specs.Directories.{directories};
 ghost use Rattle.reader_outline.specs.Held.{pointsIn};
 ghost use Rattle.reader_outline.specs.Told.{Ready};
 ghost use Rattle.reader_map.specs.Map.{textTold, zoneText, inRoom};
-ghost use Rattle.reader_map.specs.Steps.{toCome, Drawn, way, spotOf, ringFits, polygonFits, sideText, partText};
+ghost use Rattle.reader_map.specs.Steps.{toCome, DrawnAs, way, spotOf, ringFits, polygonFits, sideText, partText};
 use answer::Refusal;
 use opened::Opened;
 use reader_outline::Outlined;
@@ -48,12 +48,12 @@ fn write_ring(held: &[i32], k: usize, back: bool, out: &mut [u8], from: usize) -
     while 0 < left {
         let x = spot(back, k, left);
         let y = x + 1;
-        let next = geojson::put(out, at, mark);
-        at = geojson::position(out, next, held[x], held[y]);
+        let next = lettering::put(out, at, mark);
+        at = lettering::position(out, next, held[x], held[y]);
         mark = b',';
         left -= 1;
     }
-    geojson::put(out, at, b']')
+    lettering::put(out, at, b']')
 }
 
 // A ring of the file, by its number: 48 if it cannot be drawn.
@@ -67,7 +67,7 @@ fn draw_ring(
     at: usize,
 ) -> Text
     requires { ⌜ Ready o (now s) × (ring < o .rings .count) × (length (now held) ≡ 20_000) × (at ≤ 0x2000_0000_0000_0000) ⌝ }
-    ensures { λ r. ⌜ Drawn (ringFits (ringAt (directories o (now (s .entry))) ring)) (ringText (outline hole (ringAt (directories o (now (s .entry))) ring))) 280_001 at (textTold r) (now (out .entry)) (now (out .exit)) ⌝ }
+    ensures { λ r. ⌜ DrawnAs (ringFits (ringAt (directories o (now (s .entry))) ring)) (ringText (outline hole (ringAt (directories o (now (s .entry))) ring))) 280_001 at (textTold r) (now (out .entry)) (now (out .exit)) ⌝ }
 {
     let t = reader_outline::outline_of(o, s, ring, hole, held);
     match t {
@@ -89,14 +89,14 @@ fn draw_rings(
     from: usize,
 ) -> Text
     requires { ⌜ Ready o (now s) × (first < 0x1_0000_0000) × (first + count ≤ o .rings .count) × (length (now held) ≡ 20_000) × (from ≤ 0x1000_0000_0000_0000) ⌝ }
-    ensures { λ r. ⌜ Drawn (every ringFits (run (ringAt (directories o (now (s .entry)))) count first)) (toCome (sideText o (now (s .entry)) first) 91 count first) 18_349_931_071 from (textTold r) (now (out .entry)) (now (out .exit)) ⌝ }
+    ensures { λ r. ⌜ DrawnAs (every ringFits (run (ringAt (directories o (now (s .entry)))) count first)) (toCome (sideText o (now (s .entry)) first) 91 count first) 18_349_931_071 from (textTold r) (now (out .entry)) (now (out .exit)) ⌝ }
 {
     let mut at = from;
     let mut mark = b'[';
     let mut i = first;
     let mut left = count;
     while 0 < left {
-        let next = geojson::put(out, at, mark);
+        let next = lettering::put(out, at, mark);
         let t = draw_ring(o, s, i, first < i, held, out, next);
         match t {
             Text::Refused(k) => {
@@ -110,7 +110,7 @@ fn draw_rings(
         i += 1;
         left -= 1;
     }
-    Text::Long(geojson::put(out, at, b']'))
+    Text::Long(lettering::put(out, at, b']'))
 }
 
 // A polygon of the file, by its number.
@@ -123,7 +123,7 @@ fn draw_polygon(
     at: usize,
 ) -> Text
     requires { ⌜ Ready o (now s) × (index < o .polys .count) × (length (now held) ≡ 20_000) × (at ≤ 0x1000_0000_0000_0000) ⌝ }
-    ensures { λ r. ⌜ Drawn (polygonFits (polygonAt (directories o (now (s .entry))) index)) (partText o (now (s .entry)) index) 18_349_931_071 at (textTold r) (now (out .entry)) (now (out .exit)) ⌝ }
+    ensures { λ r. ⌜ DrawnAs (polygonFits (polygonAt (directories o (now (s .entry))) index)) (partText o (now (s .entry)) index) 18_349_931_071 at (textTold r) (now (out .entry)) (now (out .exit)) ⌝ }
 {
     let t = reader_records::poly_at(o, s, index);
     match t {
@@ -145,14 +145,14 @@ fn draw_polygons(
     from: usize,
 ) -> Text
     requires { ⌜ Ready o (now s) × (first < 0x1_0000_0000) × (first + count ≤ o .polys .count) × (length (now held) ≡ 20_000) × (from ≤ 0x800_0000_0000_0000) ⌝ }
-    ensures { λ r. ⌜ Drawn (every polygonFits (run (polygonAt (directories o (now (s .entry)))) count first)) (toCome (partText o (now (s .entry))) 91 count first) 1_202_562_732_803_521 from (textTold r) (now (out .entry)) (now (out .exit)) ⌝ }
+    ensures { λ r. ⌜ DrawnAs (every polygonFits (run (polygonAt (directories o (now (s .entry)))) count first)) (toCome (partText o (now (s .entry))) 91 count first) 1_202_562_732_803_521 from (textTold r) (now (out .entry)) (now (out .exit)) ⌝ }
 {
     let mut at = from;
     let mut mark = b'[';
     let mut i = first;
     let mut left = count;
     while 0 < left {
-        let next = geojson::put(out, at, mark);
+        let next = lettering::put(out, at, mark);
         let t = draw_polygon(o, s, i, held, out, next);
         match t {
             Text::Refused(k) => {
@@ -166,23 +166,23 @@ fn draw_polygons(
         i += 1;
         left -= 1;
     }
-    Text::Long(geojson::put(out, at, b']'))
+    Text::Long(lettering::put(out, at, b']'))
 }
 
 // A zone of the file, by its number: the whole text.
 fn draw_zone(o: Opened, s: &[u8], zone: usize, held: &mut [i32], out: &mut [u8]) -> Text
     requires { ⌜ Ready o (now s) × (zone < o .zones .count) × (length (now held) ≡ 20_000) ⌝ }
-    ensures { λ r. ⌜ Drawn (zoneDrawable (zoneAt (directories o (now (s .entry))) zone)) (mapText (outlines (zoneAt (directories o (now (s .entry))) zone))) 1_202_562_732_803_559 0 (textTold r) (now (out .entry)) (now (out .exit)) ⌝ }
+    ensures { λ r. ⌜ DrawnAs (zoneDrawable (zoneAt (directories o (now (s .entry))) zone)) (mapText (outlines (zoneAt (directories o (now (s .entry))) zone))) 1_202_562_732_803_559 0 (textTold r) (now (out .entry)) (now (out .exit)) ⌝ }
 {
     let t = reader_records::tz_at(o, s, zone);
     match t {
         ListAt::Refused(k) => Text::Refused(k),
         ListAt::At(v) => {
-            let from = geojson::head(out, 0);
+            let from = lettering::head(out, 0);
             let u = draw_polygons(o, s, fields::wide(v.first), v.count, held, out, from);
             match u {
                 Text::Refused(k) => Text::Refused(k),
-                Text::Long(e) => Text::Long(geojson::tail(out, e)),
+                Text::Long(e) => Text::Long(lettering::tail(out, e)),
             }
         }
     }
@@ -191,7 +191,7 @@ fn draw_zone(o: Opened, s: &[u8], zone: usize, held: &mut [i32], out: &mut [u8])
 // With memory of its own for the positions of one ring.
 fn draw(o: Opened, s: &[u8], zone: usize, out: &mut [u8]) -> Text
     requires { ⌜ Ready o (now s) × (zone < o .zones .count) ⌝ }
-    ensures { λ r. ⌜ Drawn (zoneDrawable (zoneAt (directories o (now (s .entry))) zone)) (mapText (outlines (zoneAt (directories o (now (s .entry))) zone))) 1_202_562_732_803_559 0 (textTold r) (now (out .entry)) (now (out .exit)) ⌝ }
+    ensures { λ r. ⌜ DrawnAs (zoneDrawable (zoneAt (directories o (now (s .entry))) zone)) (mapText (outlines (zoneAt (directories o (now (s .entry))) zone))) 1_202_562_732_803_559 0 (textTold r) (now (out .entry)) (now (out .exit)) ⌝ }
 {
     let mut held = [0i32; 20000];
     draw_zone(o, s, zone, &mut held, out)

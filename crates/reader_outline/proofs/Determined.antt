@@ -10,7 +10,7 @@ use Rattle.answer.specs.Answers.{Answer, ok}
 use Rattle.answer.proofs.AnswersLaws.{readBack, one-answer}
 use Rattle.plane.specs.declared.I32Point.{I32Point}
 use Rattle.reader_outline.specs.Held.{pointsIn}
-use Rattle.reader_outline.specs.Told.{filledTold, outlinedTold, counted, Keeps}
+use Rattle.reader_outline.specs.Told.{filledTold, outlinedTold, fewEnough, Keeps}
 use Rattle.reader_outline.specs.declared.Filled.{Filled}
 use Rattle.reader_outline.specs.declared.Filled.the-variants as F
 use Rattle.reader_outline.specs.declared.Outlined.{Outlined}
@@ -44,5 +44,5 @@ pub outline-of : Determined outline-of-reads.Learnt
 outline-of κ a r r' e e' p q = one-outlined r r' _ (p .0) (q .0)
 
 -- the positions in any two lent numbers that keep the same ones
-pub one-kept : (m m' : List ℤ) (l : List I32Point) (n : ℕ) → ok n ≡ counted l → Keeps m l → Keeps m' l → pointsIn m n ≡ pointsIn m' n
+pub one-kept : (m m' : List ℤ) (l : List I32Point) (n : ℕ) → ok n ≡ fewEnough l → Keeps m l → Keeps m' l → pointsIn m n ≡ pointsIn m' n
 one-kept m m' l n e p q = stands-there m l n e p .0 ∙ sym (stands-there m' l n e q .0)

@@ -30,7 +30,7 @@ use Rattle.opened.specs.declared.Opened.{Opened}
 use Rattle.reader_exact.specs.Directories.{directories}
 use Rattle.reader_exact.proofs.Exact.{sound-named, sound-domain}
 use Rattle.reader_outline.specs.Held.{pointsIn}
-use Rattle.reader_outline.specs.Told.{Ready, counted, Keeps, positionsAt, drawnBy}
+use Rattle.reader_outline.specs.Told.{Ready, fewEnough, Keeps, positionsAt, drawnBy}
 use Rattle.reader_outline.proofs.Spots.{points-length}
 use Rattle.reader_outline.proofs.Filling.{over, kept, stands-there}
 
@@ -70,7 +70,7 @@ module _ (m : List ℤ) (n : ℕ) (hole : Bool) (small : n ≤ 10_000) (room : 2
       drawn-outer t = drawn-by g (ltZ y (pos 0)) (ap (λ (x : ℤ). ltZ x (pos 0)) q ∙ sym (ap (λ (b : Bool). cond b (ltZ (pos 0) z) (ltZ z (pos 0))) t))
 
 -- over 10,000
-pub drawn-over : (l : List I32Point) (hole : Bool) (r : Refusal) → refused r ≡ counted l → refused r ≡ drawnBy l hole
+pub drawn-over : (l : List I32Point) (hole : Bool) (r : Refusal) → refused r ≡ fewEnough l → refused r ≡ drawnBy l hole
 unfolding drawnBy drawable
 drawn-over l hole r e =
     let f = over l r e in
@@ -115,7 +115,7 @@ module _ (o : Opened) (s : List ℕ) (k : Ready o s) (i : ℕ) (h : i < o .rings
       let d = directories o s in
       positions-in (ringAt d i) (ring-in d (sound-named o s (k .sound)) (k .covered) (sound-domain o s (k .sound)) i h)
 
-  module _ (m : List ℤ) (n : ℕ) (e : ok n ≡ counted (positionsAt o s i)) (g : Keeps m (positionsAt o s i)) where
+  module _ (m : List ℤ) (n : ℕ) (e : ok n ≡ fewEnough (positionsAt o s i)) (g : Keeps m (positionsAt o s i)) where
     stand : pointsIn m n ≡ positionsAt o s i
     stand = stands-there m (positionsAt o s i) n e g .0
 

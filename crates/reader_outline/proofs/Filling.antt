@@ -25,7 +25,7 @@ use Rattle.reader_exact.specs.Directories.{chunkShape}
 use Rattle.reader_exact.specs.Sound.{Sound}
 use Rattle.reader_exact.proofs.Chunks.{holds}
 use Rattle.reader_outline.specs.Held.{pointsIn}
-use Rattle.reader_outline.specs.Told.{counted, Keeps}
+use Rattle.reader_outline.specs.Told.{fewEnough, Keeps}
 use Rattle.reader_outline.proofs.Spots.{points-length, points-anew}
 
 -- a refusal is no answer
@@ -34,20 +34,20 @@ never a r x e f = let z : _≡_ {A = ℕ} 0 1 = cc in zero-one z
 
 -- ---- how many
 module _ (l : List I32Point) where
-  pub counted-is : (n : ℕ) → n ≡ length l → n ≤ 10_000 → ok n ≡ counted l
-  unfolding counted
+  pub counted-is : (n : ℕ) → n ≡ length l → n ≤ 10_000 → ok n ≡ fewEnough l
+  unfolding fewEnough
   counted-is n e h = rw (le-leb (length l) 10_000 (omega arith)) (ap ok e)
 
-  pub counted-over : 10_000 < length l → no 48 ≡ counted l
-  unfolding counted
+  pub counted-over : 10_000 < length l → no 48 ≡ fewEnough l
+  unfolding fewEnough
   counted-over h = rw (lt-leb (length l) 10_000 h)
 
-  pub upto : (n : ℕ) → ok n ≡ counted l → (n ≡ length l) × (length l ≤ 10_000)
-  unfolding counted
+  pub upto : (n : ℕ) → ok n ≡ fewEnough l → (n ≡ length l) × (length l ≤ 10_000)
+  unfolding fewEnough
   upto n e = let f = need-inv 48 (leb (length l) 10_000) (ok (length l)) n e in (ok-inv n (length l) (f .1), leb-true (length l) 10_000 (f .0))
 
-  pub over : (r : Refusal) → refused r ≡ counted l → (r ≡ refusal 48) × (10_000 < length l)
-  unfolding counted
+  pub over : (r : Refusal) → refused r ≡ fewEnough l → (r ≡ refusal 48) × (10_000 < length l)
+  unfolding fewEnough
   over r e = go (leb (length l) 10_000) refl e
     where
       go : (t : Bool) → leb (length l) 10_000 ≡ t → refused r ≡ need 48 t (ok (length l)) → (r ≡ refusal 48) × (10_000 < length l)
@@ -64,21 +64,21 @@ module _ (m : List ℤ) (l : List I32Point) where
   unfolding Keeps
   keeps-none h k = absurd (omega arith)
 
-  pub fills : (n : ℕ) → n ≤ 10_000 → length m ≡ 20_000 → pointsIn m n ≡ l → (ok n ≡ counted l) × Keeps m l
+  pub fills : (n : ℕ) → n ≤ 10_000 → length m ≡ 20_000 → pointsIn m n ≡ l → (ok n ≡ fewEnough l) × Keeps m l
   unfolding Keeps
   fills n h k e =
       let f : n ≡ length l = sym (points-length n m (omega arith)) ∙ ap length e in
       (counted-is l n f h, λ g. ap (pointsIn m) (sym f) ∙ e)
 
   -- over the number already, with fewer
-  pub fills-no : (a : List I32Point) (r : Refusal) → refused r ≡ counted a → length a ≤ length l → (refused r ≡ counted l) × Keeps m l
+  pub fills-no : (a : List I32Point) (r : Refusal) → refused r ≡ fewEnough a → length a ≤ length l → (refused r ≡ fewEnough l) × Keeps m l
   fills-no a r e h =
       let f = over a r e in
       let g : 10_000 < length l = omega (arith, f .1) in
       (ap refused (f .0) ∙ counted-over l g, keeps-none g)
 
 -- the positions that the numbers hold after an answer
-pub stands-there : (m : List ℤ) (l : List I32Point) (n : ℕ) → ok n ≡ counted l → Keeps m l → (pointsIn m n ≡ l) × (n ≤ 10_000)
+pub stands-there : (m : List ℤ) (l : List I32Point) (n : ℕ) → ok n ≡ fewEnough l → Keeps m l → (pointsIn m n ≡ l) × (n ≤ 10_000)
 stands-there m l n e k =
     let f = upto l n e in
     (ap (pointsIn m) (f .0) ∙ kept l m k (f .1), omega (arith, f .0, f .1))
@@ -109,7 +109,7 @@ module _ (o : Opened) (s : List ℕ) (i : ℕ) (l : List I32Point) (p : ok l ≡
     lent : take (length m - 2 * k) (drop (2 * k) m) ≡ drop (2 * k) m
     lent = take-all (length m - 2 * k) (drop (2 * k) m) (omega (arith, length-drop (2 * k) m))
 
-    pub chunk-over : (r : Refusal) → refused r ≡ decodeAt o s i (take (length m - 2 * k) (drop (2 * k) m)) → (w : List ℤ) → (no 48 ≡ counted (pointsIn m k ++ l)) × Keeps w (pointsIn m k ++ l)
+    pub chunk-over : (r : Refusal) → refused r ≡ decodeAt o s i (take (length m - 2 * k) (drop (2 * k) m)) → (w : List ℤ) → (no 48 ≡ fewEnough (pointsIn m k ++ l)) × Keeps w (pointsIn m k ++ l)
     chunk-over r e w =
         let f = no-room (drop (2 * k) m) r (e ∙ ap (decodeAt o s i) lent) in
         let g : 10_000 < length (pointsIn m k ++ l) = omega (arith, n, h, f, length-drop (2 * k) m, length-append (pointsIn m k) l, points-length k m (omega arith)) in
@@ -117,7 +117,7 @@ module _ (o : Opened) (s : List ℕ) (i : ℕ) (l : List I32Point) (p : ok l ≡
 
     pub chunk-in : fine ≡ decodeAt o s i (take (length m - 2 * k) (drop (2 * k) m)) → (v : ChunkRecord) → ok v ≡ chunkAt o s i → (c : ℕ) → c ≡ v .count
         → (part : List ℤ) → part ≡ decodedAt o s i (take (length m - 2 * k) (drop (2 * k) m)) → (w : List ℤ) → length w ≡ length m → w ≡ take (2 * k) m ++ (part ++ drop (length m - 2 * k) (drop (2 * k) m))
-        → (ok (k + c) ≡ counted (pointsIn m k ++ l)) × Keeps w (pointsIn m k ++ l)
+        → (ok (k + c) ≡ fewEnough (pointsIn m k ++ l)) × Keeps w (pointsIn m k ++ l)
     chunk-in e v f c g part y w q d =
         let b : fine ≡ decodeAt o s i (drop (2 * k) m) = e ∙ ap (decodeAt o s i) lent in
         let a = accepted o s i (drop (2 * k) m) b in

@@ -26,7 +26,7 @@ use Rattle.reader_exact.specs.Directories.{directories, chunkShape, opWord, opG
 use Rattle.reader_exact.proofs.Given.{op-is, op-named, group-is, group-ruled, ring-is, ring-ruled}
 use Rattle.reader_exact.proofs.Exact.{sound-named}
 use Rattle.reader_outline.specs.Held.{pointsIn}
-use Rattle.reader_outline.specs.Told.{Ready, counted, Keeps, positionsAt}
+use Rattle.reader_outline.specs.Told.{Ready, fewEnough, Keeps, positionsAt}
 use Rattle.reader_outline.specs.Steps.{rowPoints, sidePoints, legsRow, entryOf, joinedOn, legsOn, Starts}
 use Rattle.reader_outline.proofs.Filling.{never, upto, fills, fills-no, stands-there}
 use Rattle.reader_outline.proofs.Rows.{row-one}
@@ -133,11 +133,11 @@ module _ (o : Opened) (s : List ℕ) (k : Ready o s) where
               ∙ a .goes-on (drop 1 (sidePoints o s g t))
               ∙ ap (joinedOn (pointsIn m n)) (sym leg-starts)
 
-          pub leg-filled : (m : List ℤ) (n : ℕ) (x : P) → x ≡ entryOf g t → (j : ℕ) → Starts m n x j → (a : Answer ℕ) (w : List ℤ) → a ≡ counted (pointsIn m j ++ sidePoints o s g t) → Keeps w (pointsIn m j ++ sidePoints o s g t)
-              → (a ≡ counted (joinedOn (pointsIn m n) (legPoints (Layout.legAt (directories o s) i)))) × Keeps w (joinedOn (pointsIn m n) (legPoints (Layout.legAt (directories o s) i)))
+          pub leg-filled : (m : List ℤ) (n : ℕ) (x : P) → x ≡ entryOf g t → (j : ℕ) → Starts m n x j → (a : Answer ℕ) (w : List ℤ) → a ≡ fewEnough (pointsIn m j ++ sidePoints o s g t) → Keeps w (pointsIn m j ++ sidePoints o s g t)
+              → (a ≡ fewEnough (joinedOn (pointsIn m n) (legPoints (Layout.legAt (directories o s) i)))) × Keeps w (joinedOn (pointsIn m n) (legPoints (Layout.legAt (directories o s) i)))
           leg-filled m n x e j b a w c d =
               let q = leg-goes-on m n j (subst (λ (y : P). Starts m n y j) e b) in
-              (c ∙ ap counted q, subst (Keeps w) q d)
+              (c ∙ ap fewEnough q, subst (Keeps w) q d)
 
     pub leg-some : 0 < length (legPoints (Layout.legAt (directories o s) i))
     leg-some =
@@ -177,12 +177,12 @@ module _ (o : Opened) (s : List ℕ) where
       unfolding legsOn
       joined = ap (legsOn (pointsIn m n)) (sym (legs-one left i h)) ∙ w .all
 
-      pub legs-no : (r : Refusal) → refused r ≡ counted (joinedOn (pointsIn m n) (leg i)) → (m' : List ℤ) → (refused r ≡ counted (legsOn [] (legsRow o s count first))) × Keeps m' (legsOn [] (legsRow o s count first))
+      pub legs-no : (r : Refusal) → refused r ≡ fewEnough (joinedOn (pointsIn m n) (leg i)) → (m' : List ℤ) → (refused r ≡ fewEnough (legsOn [] (legsRow o s count first))) × Keeps m' (legsOn [] (legsRow o s count first))
       legs-no r e m' =
           fills-no m' (legsOn [] (legsRow o s count first)) (joinedOn (pointsIn m n) (leg i)) r e
           (omega (arith, ap length joined, legs-longer (joinedOn (pointsIn m n) (leg i)) (legsRow o s (left - 1) (i + 1))))
 
-      pub legs-on : (m' : List ℤ) (n' : ℕ) → length m' ≡ length m → ok n' ≡ counted (joinedOn (pointsIn m n) (leg i)) → Keeps m' (joinedOn (pointsIn m n) (leg i)) → Legging m₀ m' first count n' (i + 1) (left - 1)
+      pub legs-on : (m' : List ℤ) (n' : ℕ) → length m' ≡ length m → ok n' ≡ fewEnough (joinedOn (pointsIn m n) (leg i)) → Keeps m' (joinedOn (pointsIn m n) (leg i)) → Legging m₀ m' first count n' (i + 1) (left - 1)
       legs-on m' n' l e g =
           let f = stands-there m' (joinedOn (pointsIn m n) (leg i)) n' e g in
           record {
@@ -192,7 +192,7 @@ module _ (o : Opened) (s : List ℕ) where
             all = ap (λ (x : List P). legsOn x (legsRow o s (left - 1) (i + 1))) (f .0) ∙ joined;
           }
 
-    pub legs-end : left ≤ 0 → length m₀ ≡ 20_000 → (ok n ≡ counted (legsOn [] (legsRow o s count first))) × Keeps m (legsOn [] (legsRow o s count first))
+    pub legs-end : left ≤ 0 → length m₀ ≡ 20_000 → (ok n ≡ fewEnough (legsOn [] (legsRow o s count first))) × Keeps m (legsOn [] (legsRow o s count first))
     unfolding legsOn
     legs-end h l =
         fills m (legsOn [] (legsRow o s count first)) n (w .room) (w .same ∙ l)
@@ -243,16 +243,16 @@ module _ (o : Opened) (s : List ℕ) (k : Ready o s) (i : ℕ) (h : i < o .rings
       whole : closed filled ≡ positionsAt o s i
       whole = ap (λ (x : ℕ). closed (legsOn [] (legsRow o s (v .count) x))) f ∙ positions-are
 
-      pub ring-no : (r : Refusal) → refused r ≡ counted filled → (m : List ℤ) → (refused r ≡ counted (positionsAt o s i)) × Keeps m (positionsAt o s i)
+      pub ring-no : (r : Refusal) → refused r ≡ fewEnough filled → (m : List ℤ) → (refused r ≡ fewEnough (positionsAt o s i)) × Keeps m (positionsAt o s i)
       ring-no r g m = fills-no m (positionsAt o s i) filled r g (omega (arith, closed-longer filled, ap length whole))
 
-      module _ (n : ℕ) (g : ok n ≡ counted filled) where
+      module _ (n : ℕ) (g : ok n ≡ fewEnough filled) where
         pub ring-room : (0 < n) × (n ≤ 10_000)
         ring-room =
             let u = upto filled n g in
             (omega (arith, u .0, strung-some, ap (λ (x : ℕ). length (legsOn [] (legsRow o s (v .count) x))) f), omega (arith, u))
 
-        pub ring-closed : (m : List ℤ) → Keeps m filled → (x : Answer ℕ) (w : List ℤ) → x ≡ counted (closed (pointsIn m n)) → Keeps w (closed (pointsIn m n)) → (x ≡ counted (positionsAt o s i)) × Keeps w (positionsAt o s i)
+        pub ring-closed : (m : List ℤ) → Keeps m filled → (x : Answer ℕ) (w : List ℤ) → x ≡ fewEnough (closed (pointsIn m n)) → Keeps w (closed (pointsIn m n)) → (x ≡ fewEnough (positionsAt o s i)) × Keeps w (positionsAt o s i)
         ring-closed m q x w b d =
             let y : closed (pointsIn m n) ≡ positionsAt o s i = ap closed (stands-there m filled n g q .0) ∙ whole in
-            (b ∙ ap counted y, subst (Keeps w) y d)
+            (b ∙ ap fewEnough y, subst (Keeps w) y d)

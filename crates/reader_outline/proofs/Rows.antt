@@ -14,7 +14,7 @@ use Rattle.shapes.specs.Shapes.{chunkPoints}
 use Rattle.opened.specs.declared.Opened.{Opened}
 use Rattle.reader_exact.specs.Directories.{chunkShape}
 use Rattle.reader_outline.specs.Held.{pointsIn}
-use Rattle.reader_outline.specs.Told.{counted, Keeps}
+use Rattle.reader_outline.specs.Told.{fewEnough, Keeps}
 use Rattle.reader_outline.specs.Steps.{rowPoints}
 use Rattle.reader_outline.proofs.Filling.{fills, fills-no, stands-there}
 
@@ -48,12 +48,12 @@ module _ (o : Opened) (s : List ℕ) where
           ∙ ap (λ (x : List I32Point). pointsIn m n ++ x) (sym (row-one left i h))
           ∙ w .all
 
-      pub row-no : (r : Refusal) → refused r ≡ counted (pointsIn m n ++ chunkPoints (chunkShape o s i)) → (m' : List ℤ) → (refused r ≡ counted (pointsIn m₀ k ++ rowPoints o s count first)) × Keeps m' (pointsIn m₀ k ++ rowPoints o s count first)
+      pub row-no : (r : Refusal) → refused r ≡ fewEnough (pointsIn m n ++ chunkPoints (chunkShape o s i)) → (m' : List ℤ) → (refused r ≡ fewEnough (pointsIn m₀ k ++ rowPoints o s count first)) × Keeps m' (pointsIn m₀ k ++ rowPoints o s count first)
       row-no r e m' =
           fills-no m' (pointsIn m₀ k ++ rowPoints o s count first) (pointsIn m n ++ chunkPoints (chunkShape o s i)) r e
           (omega (arith, ap length joined, length-append (pointsIn m n ++ chunkPoints (chunkShape o s i)) (rowPoints o s (left - 1) (i + 1))))
 
-      pub row-on : (m' : List ℤ) (n' : ℕ) → length m' ≡ length m → ok n' ≡ counted (pointsIn m n ++ chunkPoints (chunkShape o s i)) → Keeps m' (pointsIn m n ++ chunkPoints (chunkShape o s i)) → Rowing m₀ m' k first count n' (i + 1) (left - 1)
+      pub row-on : (m' : List ℤ) (n' : ℕ) → length m' ≡ length m → ok n' ≡ fewEnough (pointsIn m n ++ chunkPoints (chunkShape o s i)) → Keeps m' (pointsIn m n ++ chunkPoints (chunkShape o s i)) → Rowing m₀ m' k first count n' (i + 1) (left - 1)
       row-on m' n' l e g =
           let f = stands-there m' (pointsIn m n ++ chunkPoints (chunkShape o s i)) n' e g in
           record {
@@ -63,7 +63,7 @@ module _ (o : Opened) (s : List ℕ) where
             all = ap (λ (x : List I32Point). x ++ rowPoints o s (left - 1) (i + 1)) (f .0) ∙ joined;
           }
 
-    pub row-end : left ≤ 0 → length m₀ ≡ 20_000 → (ok n ≡ counted (pointsIn m₀ k ++ rowPoints o s count first)) × Keeps m (pointsIn m₀ k ++ rowPoints o s count first)
+    pub row-end : left ≤ 0 → length m₀ ≡ 20_000 → (ok n ≡ fewEnough (pointsIn m₀ k ++ rowPoints o s count first)) × Keeps m (pointsIn m₀ k ++ rowPoints o s count first)
     row-end h l =
         fills m (pointsIn m₀ k ++ rowPoints o s count first) n (w .room) (w .same ∙ l)
         (sym (append-nil (pointsIn m n)) ∙ ap (λ (x : List I32Point). pointsIn m n ++ x) (sym (row-none left i (omega arith))) ∙ w .all)

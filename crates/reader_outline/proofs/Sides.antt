@@ -13,7 +13,7 @@ use Rattle.answer.specs.Answers.{ok, refused}
 use Rattle.opened.specs.declared.Opened.{Opened}
 use Rattle.reader_records.specs.declared.GroupRecord.{GroupRecord}
 use Rattle.reader_outline.specs.Held.{spots, pointsIn}
-use Rattle.reader_outline.specs.Told.{counted, Keeps}
+use Rattle.reader_outline.specs.Told.{fewEnough, Keeps}
 use Rattle.reader_outline.specs.Steps.{rowPoints, sidePoints, entryOf, turnedIn}
 use Rattle.reader_outline.proofs.Spots.{spots-room, points-length}
 use Rattle.reader_outline.proofs.Turning.{turned-behind}
@@ -46,25 +46,25 @@ module _ (o : Opened) (s : List ℕ) (g : GroupRecord) (t : Bool) (m : List ℤ)
   many : length (pointsIn m k ++ row) ≡ k + length row
   many = length-append (pointsIn m k) row ∙ ap (λ (n : ℕ). n + length row) (points-length k m (omega (arith, size, small)))
 
-  pub side-no : (r : Refusal) → refused r ≡ counted (pointsIn m k ++ row) → (w : List ℤ) → (refused r ≡ counted (pointsIn m k ++ sidePoints o s g t)) × Keeps w (pointsIn m k ++ sidePoints o s g t)
+  pub side-no : (r : Refusal) → refused r ≡ fewEnough (pointsIn m k ++ row) → (w : List ℤ) → (refused r ≡ fewEnough (pointsIn m k ++ sidePoints o s g t)) × Keeps w (pointsIn m k ++ sidePoints o s g t)
   side-no r f w =
       fills-no w (pointsIn m k ++ sidePoints o s g t) (pointsIn m k ++ row) r f
       (omega (arith, side-length, length-append (pointsIn m k) (sidePoints o s g t), length-append (pointsIn m k) row))
 
   -- n positions stand in the numbers m' now
-  module _ (n : ℕ) (f : ok n ≡ counted (pointsIn m k ++ row)) (m' : List ℤ) (size' : length m' ≡ length m) (h : Keeps m' (pointsIn m k ++ row)) where
+  module _ (n : ℕ) (f : ok n ≡ fewEnough (pointsIn m k ++ row)) (m' : List ℤ) (size' : length m' ≡ length m) (h : Keeps m' (pointsIn m k ++ row)) where
     so : (pointsIn m' n ≡ pointsIn m k ++ row) × (n ≤ 10_000)
     so = stands-there m' (pointsIn m k ++ row) n f h
 
     pub turn-room : (k ≤ n) × (2 * n ≤ length m')
     turn-room = (omega (arith, upto (pointsIn m k ++ row) n f .0, many), omega (arith, so .1, size', size))
 
-    pub side-stored : t ≡ false → (ok n ≡ counted (pointsIn m k ++ sidePoints o s g t)) × Keeps m' (pointsIn m k ++ sidePoints o s g t)
+    pub side-stored : t ≡ false → (ok n ≡ fewEnough (pointsIn m k ++ sidePoints o s g t)) × Keeps m' (pointsIn m k ++ sidePoints o s g t)
     side-stored b =
         fills m' (pointsIn m k ++ sidePoints o s g t) n (so .1) (size' ∙ size)
         (so .0 ∙ ap (λ (l : List I32Point). pointsIn m k ++ l) (sym (side ∙ ap (λ (u : Bool). cond u (reverse row) row) b)))
 
-    pub side-turned : t ≡ true → (w : List ℤ) → length w ≡ length m' → spots w ≡ turnedIn (spots m') k n → (ok n ≡ counted (pointsIn m k ++ sidePoints o s g t)) × Keeps w (pointsIn m k ++ sidePoints o s g t)
+    pub side-turned : t ≡ true → (w : List ℤ) → length w ≡ length m' → spots w ≡ turnedIn (spots m') k n → (ok n ≡ fewEnough (pointsIn m k ++ sidePoints o s g t)) × Keeps w (pointsIn m k ++ sidePoints o s g t)
     unfolding pointsIn
     side-turned b w z q =
         fills w (pointsIn m k ++ sidePoints o s g t) n (so .1) (z ∙ size' ∙ size)

@@ -15,7 +15,7 @@ use Rattle.plane.specs.Lines.{origin, firstOf, lastFrom, lastOf, last-append}
 use Rattle.answer.specs.Answers.{ok, no}
 use Rattle.shapes.specs.Outline.{after, legsAfter, strung, closed}
 use Rattle.reader_outline.specs.Held.{spots, pointsIn}
-use Rattle.reader_outline.specs.Told.{counted, Keeps}
+use Rattle.reader_outline.specs.Told.{fewEnough, Keeps}
 use Rattle.reader_outline.specs.Steps.{joinedOn, legsOn, Starts}
 use Rattle.reader_outline.proofs.Spots.{spots-room, points-length}
 use Rattle.reader_outline.proofs.Filling.{fills, counted-over, keeps-none}
@@ -139,19 +139,19 @@ module _ (m : List ℤ) (k : ℕ) (h : 0 < k) (small : k ≤ 10_000) (size : len
       closed-by l (omega (arith, h, points-length k m room))
       ∙ ap₂ (λ (x y : P). cond (samePoint x y) l (l ++ (y ∷ []))) d e
 
-  pub closed-already : samePoint z a ≡ true → (ok k ≡ counted (closed (pointsIn m k))) × Keeps m (closed (pointsIn m k))
+  pub closed-already : samePoint z a ≡ true → (ok k ≡ fewEnough (closed (pointsIn m k))) × Keeps m (closed (pointsIn m k))
   closed-already s = fills m (closed (pointsIn m k)) k small size (sym (closing ∙ ap (λ (t : Bool). cond t (pointsIn m k) (pointsIn m k ++ (a ∷ []))) s))
 
   module _ (s : samePoint z a ≡ false) where
     unclosed : closed (pointsIn m k) ≡ pointsIn m k ++ (a ∷ [])
     unclosed = closing ∙ ap (λ (t : Bool). cond t (pointsIn m k) (pointsIn m k ++ (a ∷ []))) s
 
-    pub closed-over : k ≡ 10_000 → (w : List ℤ) → (no 48 ≡ counted (closed (pointsIn m k))) × Keeps w (closed (pointsIn m k))
+    pub closed-over : k ≡ 10_000 → (w : List ℤ) → (no 48 ≡ fewEnough (closed (pointsIn m k))) × Keeps w (closed (pointsIn m k))
     closed-over e w =
         let n : 10_000 < length (closed (pointsIn m k)) = omega (arith, e, ap length unclosed, length-append (pointsIn m k) (a ∷ []), points-length k m room) in
         (counted-over (closed (pointsIn m k)) n, keeps-none w (closed (pointsIn m k)) n)
 
-    pub closed-now : k < 10_000 → (w : List ℤ) → length w ≡ length m → spots w ≡ set (spots m) k a → (ok (k + 1) ≡ counted (closed (pointsIn m k))) × Keeps w (closed (pointsIn m k))
+    pub closed-now : k < 10_000 → (w : List ℤ) → length w ≡ length m → spots w ≡ set (spots m) k a → (ok (k + 1) ≡ fewEnough (closed (pointsIn m k))) × Keeps w (closed (pointsIn m k))
     unfolding pointsIn
     closed-now l w n e =
         let p : k + 1 ≡ suc k = omega arith in

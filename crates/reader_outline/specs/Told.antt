@@ -36,8 +36,8 @@ outlinedTold (O.Drawn n back) = ok (n, back)
 outlinedTold (O.Refused k) = refused k
 
 -- ---- positions in lent numbers: 48 for "over 10,000"
-unfoldable pub counted : List I32Point → Answer ℕ
-counted l = need 48 (leb (length l) 10_000) (ok (length l))
+unfoldable pub fewEnough : List I32Point → Answer ℕ
+fewEnough l = need 48 (leb (length l) 10_000) (ok (length l))
 
 -- where there is room for them, they stand there from the first number on
 unfoldable pub Keeps : List ℤ → List I32Point → Type 0

@@ -12,7 +12,7 @@ ghost use Rattle.shapes.specs.Layout.{legAt};
 ghost use Rattle.shapes.specs.Outline.{closed, swept, doubledArea};
 ghost use Rattle.reader_exact.specs.Directories.{chunkShape, directories};
 ghost use Rattle.reader_outline.specs.Held.{spots, pointsIn};
-ghost use Rattle.reader_outline.specs.Told.{Ready, filledTold, outlinedTold, counted, Keeps, positionsAt, drawnBy, outlineAt};
+ghost use Rattle.reader_outline.specs.Told.{Ready, filledTold, outlinedTold, fewEnough, Keeps, positionsAt, drawnBy, outlineAt};
 ghost use Rattle.reader_outline.specs.Steps.{rowPoints, sidePoints, legsRow, entryOf, joinedOn, legsOn, Starts, turnedIn};
 use answer::Checked;
 use answer::Refusal;
@@ -84,7 +84,7 @@ fn fill_chunk(o: Opened, s: &[u8], index: usize, held: &mut [i32], k: usize) -> 
     requires { ⌜ Ready o (now s) ⌝ }
     requires { ⌜ index < o .chunks .count ⌝ }
     requires { ⌜ (length (now held) ≡ 20_000) × (k ≤ 10_000) ⌝ }
-    ensures { λ r. ⌜ (filledTold r ≡ counted (pointsIn (now (held .entry)) k ++ chunkPoints (chunkShape o (now (s .entry)) index))) × Keeps (now (held .exit)) (pointsIn (now (held .entry)) k ++ chunkPoints (chunkShape o (now (s .entry)) index)) ⌝ }
+    ensures { λ r. ⌜ (filledTold r ≡ fewEnough (pointsIn (now (held .entry)) k ++ chunkPoints (chunkShape o (now (s .entry)) index))) × Keeps (now (held .exit)) (pointsIn (now (held .entry)) k ++ chunkPoints (chunkShape o (now (s .entry)) index)) ⌝ }
 {
     let t = reader_records::chunk_at(o, s, index);
     match t {
@@ -111,7 +111,7 @@ fn fill_chunks(o: Opened, s: &[u8], first: usize, count: u16, held: &mut [i32], 
     requires { ⌜ Ready o (now s) ⌝ }
     requires { ⌜ first + count ≤ o .chunks .count ⌝ }
     requires { ⌜ (length (now held) ≡ 20_000) × (k ≤ 10_000) ⌝ }
-    ensures { λ r. ⌜ (filledTold r ≡ counted (pointsIn (now (held .entry)) k ++ rowPoints o (now (s .entry)) count first)) × Keeps (now (held .exit)) (pointsIn (now (held .entry)) k ++ rowPoints o (now (s .entry)) count first) ⌝ }
+    ensures { λ r. ⌜ (filledTold r ≡ fewEnough (pointsIn (now (held .entry)) k ++ rowPoints o (now (s .entry)) count first)) × Keeps (now (held .exit)) (pointsIn (now (held .entry)) k ++ rowPoints o (now (s .entry)) count first) ⌝ }
 {
     let mut i = first;
     let mut left = count;
@@ -144,7 +144,7 @@ fn fill_group(
     requires { ⌜ Ready o (now s) ⌝ }
     requires { ⌜ g .first + g .count ≤ o .chunks .count ⌝ }
     requires { ⌜ (length (now held) ≡ 20_000) × (k ≤ 10_000) ⌝ }
-    ensures { λ r. ⌜ (filledTold r ≡ counted (pointsIn (now (held .entry)) k ++ sidePoints o (now (s .entry)) g turned)) × Keeps (now (held .exit)) (pointsIn (now (held .entry)) k ++ sidePoints o (now (s .entry)) g turned) ⌝ }
+    ensures { λ r. ⌜ (filledTold r ≡ fewEnough (pointsIn (now (held .entry)) k ++ sidePoints o (now (s .entry)) g turned)) × Keeps (now (held .exit)) (pointsIn (now (held .entry)) k ++ sidePoints o (now (s .entry)) g turned) ⌝ }
 {
     let t = fill_chunks(o, s, fields::wide(g.first), g.count, held, k);
     match t {
@@ -191,7 +191,7 @@ fn fill_leg(o: Opened, s: &[u8], op: usize, held: &mut [i32], k: usize) -> Fille
     requires { ⌜ Ready o (now s) ⌝ }
     requires { ⌜ op < o .ops .count ⌝ }
     requires { ⌜ (length (now held) ≡ 20_000) × (k ≤ 10_000) ⌝ }
-    ensures { λ r. ⌜ (filledTold r ≡ counted (joinedOn (pointsIn (now (held .entry)) k) (legPoints (legAt (directories o (now (s .entry))) op)))) × Keeps (now (held .exit)) (joinedOn (pointsIn (now (held .entry)) k) (legPoints (legAt (directories o (now (s .entry))) op))) ⌝ }
+    ensures { λ r. ⌜ (filledTold r ≡ fewEnough (joinedOn (pointsIn (now (held .entry)) k) (legPoints (legAt (directories o (now (s .entry))) op)))) × Keeps (now (held .exit)) (joinedOn (pointsIn (now (held .entry)) k) (legPoints (legAt (directories o (now (s .entry))) op))) ⌝ }
 {
     let t = reader_records::op_at(o, s, op);
     match t {
@@ -219,7 +219,7 @@ fn fill_legs(o: Opened, s: &[u8], first: usize, count: u16, held: &mut [i32]) ->
     requires { ⌜ Ready o (now s) ⌝ }
     requires { ⌜ first + count ≤ o .ops .count ⌝ }
     requires { ⌜ length (now held) ≡ 20_000 ⌝ }
-    ensures { λ r. ⌜ (filledTold r ≡ counted (legsOn [] (legsRow o (now (s .entry)) count first))) × Keeps (now (held .exit)) (legsOn [] (legsRow o (now (s .entry)) count first)) ⌝ }
+    ensures { λ r. ⌜ (filledTold r ≡ fewEnough (legsOn [] (legsRow o (now (s .entry)) count first))) × Keeps (now (held .exit)) (legsOn [] (legsRow o (now (s .entry)) count first)) ⌝ }
 {
     let mut i = first;
     let mut left = count;
@@ -244,7 +244,7 @@ fn fill_legs(o: Opened, s: &[u8], first: usize, count: u16, held: &mut [i32]) ->
 fn close_ring(held: &mut [i32], k: usize) -> Filled
     requires { ⌜ 0 < k ⌝ }
     requires { ⌜ (length (now held) ≡ 20_000) × (k ≤ 10_000) ⌝ }
-    ensures { λ r. ⌜ (filledTold r ≡ counted (closed (pointsIn (now (held .entry)) k))) × Keeps (now (held .exit)) (closed (pointsIn (now (held .entry)) k)) ⌝ }
+    ensures { λ r. ⌜ (filledTold r ≡ fewEnough (closed (pointsIn (now (held .entry)) k))) × Keeps (now (held .exit)) (closed (pointsIn (now (held .entry)) k)) ⌝ }
 {
     let a = point_at(held, 0);
     let z = point_at(held, k - 1);
@@ -263,7 +263,7 @@ pub fn ring_positions(o: Opened, s: &[u8], ring: usize, held: &mut [i32]) -> Fil
     requires { ⌜ Ready o (now s) ⌝ }
     requires { ⌜ ring < o .rings .count ⌝ }
     requires { ⌜ length (now held) ≡ 20_000 ⌝ }
-    ensures { λ r. ⌜ (filledTold r ≡ counted (positionsAt o (now (s .entry)) ring)) × Keeps (now (held .exit)) (positionsAt o (now (s .entry)) ring) ⌝ }
+    ensures { λ r. ⌜ (filledTold r ≡ fewEnough (positionsAt o (now (s .entry)) ring)) × Keeps (now (held .exit)) (positionsAt o (now (s .entry)) ring) ⌝ }
 {
     let t = reader_records::ring_at(o, s, ring);
     match t {

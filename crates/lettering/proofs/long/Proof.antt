@@ -1,9 +1,9 @@
--- `geojson::long` meets its contract: one digit before the point, two, .., five.
+-- `lettering::long` meets its contract: one digit before the point, two, .., five.
 -- Assumes nothing.
 use native.Mathlib.Omega.{arith}
 use Rattle.geojson.proofs.Lengths.{long-is}
-use Rattle.geojson.proofs.long.Statement.{statement}
-use Rattle.geojson.proofs.long.Tie as tie
+use Rattle.lettering.proofs.long.Statement.{statement}
+use Rattle.lettering.proofs.long.Tie as tie
 
 returns : tie.Need-returns
 returns c = (long-is 0 _ (omega arith) (omega arith), omega arith)

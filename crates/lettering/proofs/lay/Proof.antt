@@ -1,14 +1,14 @@
--- `geojson::lay` meets its contract: the first i bytes stand.
+-- `lettering::lay` meets its contract: the first i bytes stand.
 -- Assumes nothing.
 use native.Mathlib.Omega.{arith}
 use Prim.Native.Nat.{_-_, _≤_}
 use mathlib.Core.Path.{_≡_, refl, sym, _∙_}
 use lib.ListN.{length, take}
 use borrow.Author.Needs.{needs}
 use Rattle.geojson.specs.Over.{over}
 use Rattle.geojson.proofs.OverLaws.{over-none, next-laid, all-laid}
-use Rattle.geojson.proofs.lay.Statement.{statement}
-use Rattle.geojson.proofs.lay.Tie as tie
+use Rattle.lettering.proofs.lay.Statement.{statement}
+use Rattle.lettering.proofs.lay.Tie as tie
 
 abbrev Inv-loop : tie.InvT-loop
 Inv-loop out₀ at text i₀ out i = (i ≤ length text) × (length out ≡ length out₀) × (out ≡ over out₀ at (take i text))

@@ -2,11 +2,11 @@
 -- Assumes nothing.
 use mathlib.Core.Path.{sym, _∙_}
 use Rattle.basics.specs.Determined.{Determined, DeterminedMemory}
-use Rattle.geojson.proofs.put.Reads as put-reads
-use Rattle.geojson.proofs.decimal.Reads as decimal-reads
-use Rattle.geojson.proofs.position.Reads as position-reads
-use Rattle.geojson.proofs.head.Reads as head-reads
-use Rattle.geojson.proofs.tail.Reads as tail-reads
+use Rattle.lettering.proofs.put.Reads as put-reads
+use Rattle.lettering.proofs.decimal.Reads as decimal-reads
+use Rattle.lettering.proofs.position.Reads as position-reads
+use Rattle.lettering.proofs.head.Reads as head-reads
+use Rattle.lettering.proofs.tail.Reads as tail-reads
 
 pub put : Determined put-reads.Learnt
 put κ a r r' e e' p q = p .0 ∙ sym (q .0)

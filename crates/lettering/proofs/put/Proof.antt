@@ -1,10 +1,10 @@
--- `geojson::put` meets its contract.
+-- `lettering::put` meets its contract.
 -- Assumes nothing.
 use mathlib.Core.Path.{refl, sym}
 use borrow.Author.Needs.{needs}
 use Rattle.geojson.proofs.OverLaws.{over-one, over-past}
-use Rattle.geojson.proofs.put.Statement.{statement}
-use Rattle.geojson.proofs.put.Tie as tie
+use Rattle.lettering.proofs.put.Statement.{statement}
+use Rattle.lettering.proofs.put.Tie as tie
 
 add-next : tie.Need-add-next
 add-next c = search needs

@@ -1,14 +1,14 @@
--- `geojson::hundred_thousandths` meets its contract: past the end only measured, else the whole part, the point and five places.
+-- `lettering::hundred_thousandths` meets its contract: passed the end only measured, else the whole part, the point and five places.
 -- Assumes nothing.
 use Prim.Native.Nat.{ℕ, _+_, _/_}
 use native.Mathlib.Omega.{arith}
 use mathlib.Core.Path.{sym, ap}
 use borrow.Author.Needs.{needs}
 use Rattle.geojson.specs.Decimals.{hundredThousandths}
 use Rattle.geojson.proofs.OverLaws.{over-past, wrote, _behind_}
 use Rattle.geojson.proofs.Lengths.{digits-most, places-placed}
-use Rattle.geojson.proofs.hundred_thousandths.Statement.{statement}
-use Rattle.geojson.proofs.hundred_thousandths.Tie as tie
+use Rattle.lettering.proofs.hundred_thousandths.Statement.{statement}
+use Rattle.lettering.proofs.hundred_thousandths.Tie as tie
 
 long-requires : tie.Need-long-requires
 long-requires c κs = search needs

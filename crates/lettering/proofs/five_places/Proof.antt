@@ -1,11 +1,11 @@
--- `geojson::five_places` meets its contract: five digits, each behind the one before it.
+-- `lettering::five_places` meets its contract: five digits, each behind the one before it.
 -- Assumes nothing.
 use borrow.Author.Needs.{needs}
 use Rattle.geojson.specs.Decimals.{places}
 use Rattle.geojson.proofs.OverLaws.{wrote, being, _behind_}
 use Rattle.geojson.proofs.Lengths.{five}
-use Rattle.geojson.proofs.five_places.Statement.{statement}
-use Rattle.geojson.proofs.five_places.Tie as tie
+use Rattle.lettering.proofs.five_places.Statement.{statement}
+use Rattle.lettering.proofs.five_places.Tie as tie
 
 digit-requires : tie.Need-digit-requires
 digit-requires c κs = search needs

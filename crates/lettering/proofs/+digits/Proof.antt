@@ -1,18 +1,18 @@
--- `geojson::digits` meets its contract: the digits of a tenth, and the last one behind them. The measure is the number.
+-- `lettering::digits` meets its contract: the digits of a tenth, and the last one behind them. The measure is the number.
 -- Assumes nothing.
 use native.Mathlib.Omega.{arith}
 use borrow.Author.Needs.{needs}
 use Prim.Native.Nat.{ℕ, _/_, _<_}
 use Rattle.geojson.proofs.OverLaws.{wrote, being, _behind_}
 use Rattle.geojson.proofs.Lengths.{digits-one, digits-more, digits-most}
 use borrow.Fn.Kinds.{In}
 use borrow.Fn.PlainCycle.{Measures, is, falls, and}
-use Rattle.geojson.proofs.digits.Reads as digits
-use Rattle.geojson.proofs.digits.Kinds as digits-kinds
-use Rattle.geojson.proofs.+digits.Lts-digits as digits-lts
-use Rattle.geojson.proofs.digit.Reads as digit-reads
-use Rattle.geojson.proofs.+digits.{statement}
-use Rattle.geojson.proofs.+digits.Tie.{close}
+use Rattle.lettering.proofs.digits.Reads as digits
+use Rattle.lettering.proofs.digits.Kinds as digits-kinds
+use Rattle.lettering.proofs.+digits.Lts-digits as digits-lts
+use Rattle.lettering.proofs.digit.Reads as digit-reads
+use Rattle.lettering.proofs.+digits.{statement}
+use Rattle.lettering.proofs.+digits.Tie.{close}
 
 abbrev μ-digits : Measures 1 digits-kinds.ps ℕ
 μ-digits κs a = a .1 .1 .0

@@ -1,4 +1,4 @@
--- `geojson::decimal` meets its contract: the minus where the number is below 0, and the number without its sign behind it.
+-- `lettering::decimal` meets its contract: the minus where the number is below 0, and the number without its sign behind it.
 -- Assumes nothing.
 use Prim.Native.Nat.{ℕ, suc, _+_}
 use native.Mathlib.Omega.{arith}
@@ -8,12 +8,12 @@ use lib.IntN.{ℤ, negsuc, natAbs}
 use lib.Signed.{natAbs-le}
 use mir.Syntax.{w32}
 use borrow.Author.Needs.{needs}
 use Rattle.geojson.specs.Decimals.{hundredThousandths, minus, decimal}
 use Rattle.geojson.proofs.OverLaws.{over-none, near, wrote, being, _behind_}
 use Rattle.geojson.proofs.Lengths.{decimal-most}
 use Rattle.fields.proofs.Signs.{below, above}
-use Rattle.geojson.proofs.decimal.Statement.{statement}
-use Rattle.geojson.proofs.decimal.Tie as tie
+use Rattle.lettering.proofs.decimal.Statement.{statement}
+use Rattle.lettering.proofs.decimal.Tie as tie
 
 -- the size of a number below 0
 size-below : (n : ℕ) (z : ℤ) → z ≡ negsuc n → n + 1 ≡ natAbs z

@@ -1,4 +1,4 @@
--- `geojson::position` meets its contract: two decimals between brackets, a comma between them.
+-- `lettering::position` meets its contract: two decimals between brackets, a comma between them.
 -- Assumes nothing.
 use mathlib.Core.Path.{ap}
 use lib.Signed.{natAbs-le}
@@ -6,12 +6,12 @@ use mir.Syntax.{w32}
 use mir.ValLaws.{toZ-ofZ}
 use borrow.Author.Needs.{needs}
 use Rattle.plane.specs.Places.{point}
 use Rattle.geojson.specs.Decimals.{decimal}
 use Rattle.geojson.specs.Text.{positionText}
 use Rattle.geojson.proofs.OverLaws.{near, wrote, being, _behind_}
 use Rattle.geojson.proofs.Lengths.{position-most}
-use Rattle.geojson.proofs.position.Statement.{statement}
-use Rattle.geojson.proofs.position.Tie as tie
+use Rattle.lettering.proofs.position.Statement.{statement}
+use Rattle.lettering.proofs.position.Tie as tie
 
 put-requires : tie.Need-put-requires
 put-requires c κs = search needs
