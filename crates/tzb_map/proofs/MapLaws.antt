@@ -29,13 +29,6 @@ answer-is : {A : Type 0} (x : Answer A) → asAnswer (upheld accepted x) ≡ x
 answer-is (ok a) = refl
 answer-is (refused k) = refl
 
--- what was drawn is an answer on such a file
-upheld-inv : {A : Type 0} (x : Outcome) (y : Answer A) (a : A) → drawn a ≡ upheld x y → (x ≡ accepted) × (ok a ≡ y)
-upheld-inv accepted (ok b) a e = let z : a ≡ b = cc in (refl, ap ok z)
-upheld-inv accepted (refused k) a e = let z : _≡_ {A = ℕ} 0 1 = cc in absurd (zero-one z)
-upheld-inv (refusedBy k) y a e = let z : _≡_ {A = ℕ} 0 1 = cc in absurd (zero-one z)
-upheld-inv (brokenAt k rule) y a e = let z : _≡_ {A = ℕ} 0 1 = cc in absurd (zero-one z)
-
 -- ---- what is asked of a file once the full check has accepted it
 abbrev asked : {A : Type 0} → List ℕ → (Opened → Answer A) → Drawn A
 asked file ask = upheld (fullCheckOf file) (openOf file then ask)
@@ -51,11 +44,18 @@ module _ (file : List ℕ) {A : Type 0} (ask : Opened → Answer A) where
     asked-is : accepted ≡ fullCheckOf file → upheld accepted (ask o) ≡ asked file ask
     asked-is f = ap (upheld accepted) (then-ok (openOf file) ask o e) ∙ ap (λ (x : Outcome). upheld x (openOf file then ask)) f
 
-  asked-inv : (a : A) → drawn a ≡ asked file ask → (o : Opened) × (ok o ≡ openOf file) × (fullCheckOf file ≡ accepted) × (ok a ≡ ask o)
-  asked-inv a e =
-      let u = upheld-inv (fullCheckOf file) (openOf file then ask) a e in
-      let t = then-inv (openOf file) ask a (u .1) in
-      (t .0, t .1, u .0, t .2)
+-- what was drawn is an answer on such a file
+upheld-inv : {A : Type 0} (x : Outcome) (y : Answer A) (a : A) → drawn a ≡ upheld x y → (x ≡ accepted) × (ok a ≡ y)
+upheld-inv accepted (ok b) a e = let z : a ≡ b = cc in (refl, ap ok z)
+upheld-inv accepted (refused k) a e = let z : _≡_ {A = ℕ} 0 1 = cc in absurd (zero-one z)
+upheld-inv (refusedBy k) y a e = let z : _≡_ {A = ℕ} 0 1 = cc in absurd (zero-one z)
+upheld-inv (brokenAt k rule) y a e = let z : _≡_ {A = ℕ} 0 1 = cc in absurd (zero-one z)
+
+asked-inv : (file : List ℕ) {A : Type 0} (ask : Opened → Answer A) (a : A) → drawn a ≡ asked file ask → (o : Opened) × (ok o ≡ openOf file) × (fullCheckOf file ≡ accepted) × (ok a ≡ ask o)
+asked-inv file ask a e =
+    let u = upheld-inv (fullCheckOf file) (openOf file then ask) a e in
+    let t = then-inv (openOf file) ask a (u .1) in
+    (t .0, t .1, u .0, t .2)
 
 -- ---- what is drawn of, the full check has accepted
 pub is-ready : (file : List ℕ) (o : Opened) → ok o ≡ openOf file → (n : ℕ) → n ≡ lowestBroken o file → n ≡ 0 → Ready o file
