@@ -18,7 +18,7 @@ use Rattle.plane.proofs.DomainLaws.{domain-x, domain-y}
 use Rattle.fields.proofs.Join.{fits}
 use Rattle.answer.specs.Answers.{ok}
 use Rattle.answer.proofs.AnswersLaws.{then-inv, need-inv, ok-inv}
-use Rattle.geojson.specs.Text.{others, listed, positionText, ringText, polygonText, headText, tailText, mapText}
+use Rattle.geojson.specs.Text.{others, array, positionText, ringText, polygonText, headText, tailText, mapText}
 use Rattle.geojson.proofs.Lengths.{position-most}
 use Rattle.shapes.specs.Shapes.{Ring, Polygon}
 use Rattle.shapes.specs.Layout.{ringAt, polygonAt, zoneAt}
@@ -49,10 +49,10 @@ module _ {A : Type 0} (f : A → List ℕ) (most : ℕ) where
   others-most (a ∷ l) h =
       omega (arith, length-append (f a) (others f l), leb-true (length (f a)) most (and-l (short a) (every short l) h), others-most l (and-r (short a) (every short l) h))
 
-  listed-most : (l : List A) → every short l ≡ true → length (listed f l) ≤ length l * (most + 1) + 2
-  unfolding listed
-  listed-most [] h = omega arith
-  listed-most (a ∷ l) h =
+  array-most : (l : List A) → every short l ≡ true → length (array f l) ≤ length l * (most + 1) + 2
+  unfolding array
+  array-most [] h = omega arith
+  array-most (a ∷ l) h =
       omega (arith, length-append (f a) (others f l), leb-true (length (f a)) most (and-l (short a) (every short l) h), others-most l (and-r (short a) (every short l) h))
 
 run-length : {A : Type 0} (g : ℕ → A) (n b : ℕ) → length (run g n b) ≡ n
@@ -80,7 +80,7 @@ drawn-few l h =
     leb-true (length l) 10_000 (and-r (leb 4 (length l)) (leb (length l) 10_000) c)
 
 ring-most : (l : List I32Point) → every inDomain l ≡ true → length l ≤ 10_000 → length (ringText l) ≤ 280_002
-ring-most l d h = omega (arith, listed-most positionText 27 l (positions-short l d))
+ring-most l d h = omega (arith, array-most positionText 27 l (positions-short l d))
 
 turned-most : (back : Bool) (l : List I32Point) → every inDomain l ≡ true → length l ≤ 10_000 → length (ringText (cond back (reverse l) l)) ≤ 280_002
 turned-most true l d h = ring-most (reverse l) (every-reverse inDomain l d) (omega (arith, length-reverse l))
@@ -133,7 +133,7 @@ module _ (s : List ℕ) (byte : Bytes s) (o : Opened) (a : Accepted s o) where
       (map-every ring (outline true) holes (run-every (λ r. ring (outline true r)) g (v .count - 1) (v .first + 1) hole)) in
       omega (
         arith,
-        listed-most ringText 280_002 (outline false (g (v .first)) ∷ map (outline true) holes) all,
+        array-most ringText 280_002 (outline false (g (v .first)) ∷ map (outline true) holes) all,
         length-map holes (outline true),
         run-length g (v .count - 1) (v .first + 1),
         few,
@@ -154,9 +154,9 @@ module _ (s : List ℕ) (byte : Bytes s) (o : Opened) (a : Accepted s o) where
       let all = map-every polygon sides polygons (run-every (λ p. polygon (sides p)) g (v .count) (v .first) each) in
       omega (
         arith,
-        length-append headText (listed polygonText (map sides polygons) ++ tailText),
-        length-append (listed polygonText (map sides polygons)) tailText,
-        listed-most polygonText 18_349_996_607 (map sides polygons) all,
+        length-append headText (array polygonText (map sides polygons) ++ tailText),
+        length-append (array polygonText (map sides polygons)) tailText,
+        array-most polygonText 18_349_996_607 (map sides polygons) all,
         length-map polygons sides,
         run-length g (v .count) (v .first),
         few,

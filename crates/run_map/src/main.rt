@@ -17,9 +17,9 @@ fn is_said(d: Drawing, number: u32, long: usize) -> bool {
 }
 
 // Whether the bytes are the text, and behind it what was lent.
-fn is_written(out: &[u8; 1024], text: &[u8]) -> bool {
+fn is_written(out: &[u8], text: &[u8]) -> bool {
     let mut i = 0;
-    while i < 1024 {
+    while i < out.len() {
         let mut expected = 0xa5;
         if i < text.len() {
             expected = text[i];
@@ -43,20 +43,35 @@ fn is_measured(r: &[u8; 1024], q: &[u8; 1024]) -> bool {
     is_said(d, expected, long)
 }
 
-// The text in the room that is lent: after a refusal nothing is written.
+// The text into the first bytes of what is lent.
+fn draw(file: &[u8], zone: u32, out: &mut [u8], room: usize) -> Drawing {
+    if out.len() < room {
+        return Drawing::Drawn(0xffff_ffff);
+    }
+    tzb_map::map(file, zone, &mut out[0..room])
+}
+
+// The text that is expected: after a refusal nothing is written.
+fn expected_text(number: u32, q: &[u8; 1024]) -> &[u8] {
+    let all = harness::held(q);
+    if number != 0 {
+        return harness::part(all, 0, 0);
+    }
+    all
+}
+
+// The text in the room that is lent, and what lies behind it.
 fn is_drawn(r: &[u8; 1024], q: &[u8; 1024]) -> bool {
-    let expected = harness::number(r, 4);
-    let mut long = harness::held(q).len();
-    let mut room = harness::size(q, 1020);
-    if 1024 < room {
-        room = 1024;
-    }
     let mut out = [0xa5u8; 1024];
-    let d = tzb_map::map(harness::held(r), harness::number(q, 4), &mut out[..room]);
-    if expected != 0 {
-        long = 0;
-    }
-    is_said(d, expected, long) & is_written(&out, harness::part(harness::held(q), 0, long))
+    let d = draw(
+        harness::held(r),
+        harness::number(q, 4),
+        &mut out,
+        harness::size(q, 1020),
+    );
+    let number = harness::number(r, 4);
+    let text = expected_text(number, q);
+    is_said(d, number, text.len()) & is_written(&out, text)
 }
 
 // Whether there is one more case, and the port says the same.
