@@ -24,8 +24,7 @@
  * Stack: a call wants so much of it, in KB of 1,024 bytes, from the caller's stack pointer on. Measured, bounded by the
  * machine code, and rounded up; no theorem speaks of it (docs/PROMISES.md). Signal handlers on the same stack come on top.
  *
- *     STACK_MAP KB  tzb_map tzb_map_length    (TODO: STACK_MAP is to be measured)
- *     96 KB  tzb_open tzb_lookup tzb_full_check tzb_full_check_rule
+ *     96 KB  tzb_open tzb_lookup tzb_full_check tzb_full_check_rule tzb_map tzb_map_length
  *     24 KB  tzb_crc32
  *     8 KB  tzb_contains tzb_decode tzb_ask tzb_ask_all
  *     4 KB  tzb_zone_count tzb_name_start tzb_name_end tzb_name tzb_choice tzb_listed tzb_candidate

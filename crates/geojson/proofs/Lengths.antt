@@ -3,9 +3,9 @@
 use Prim.Native.Nat.{ℕ, zero, suc, _+_, _≤_, _<_, _/_, _%_}
 use native.Mathlib.Nat.{not-suc-le-zero}
 use native.Mathlib.Omega.{arith}
-use mathlib.Core.Path.{_≡_, refl, sym, ap, _∙_}
+use mathlib.Core.Path.{_≡_, refl, sym, ap, ap₂, _∙_}
 use mathlib.Core.Bool.{Bool, true, false, cond}
-use mathlib.Core.List.{List, _++_}
+use mathlib.Core.List.{List, _++_, append-assoc}
 use borrow.Author.Tests.{ltb-false, lt-ltb, le-ltb}
 use lib.Dec.{ltb}
 use lib.ListN.{length, length-append}
@@ -39,14 +39,48 @@ unfolding digits digitsBy
 digits-more n h =
     rw (le-ltb n 10 h) (ap (λ (l : List ℕ). l ++ lastDigit n) (enough (suc (n / 10)) n (n / 10) (omega arith) (omega arith)))
 
--- five places, each by one division
-pub five : (n : ℕ) → lastDigit (n / 10_000) ++ lastDigit (n / 1_000) ++ lastDigit (n / 100) ++ lastDigit (n / 10) ++ lastDigit n ≡ places 5 n
+-- the last two digits together
+pub two : (n : ℕ) → lastDigit (n / 10) ++ lastDigit n ≡ places 2 n
 unfolding places
+two n = refl
+
+-- behind the digits of a hundredth
+pub digits-two : (n : ℕ) → 10 ≤ n → n < 100 → places 2 n ≡ digits n
+digits-two n l u = sym (two n) ∙ ap (λ (d : List ℕ). d ++ lastDigit n) (digits-one (n / 10) (omega arith)) ∙ digits-more n l
+
+pub digits-hundred : (n : ℕ) → 100 ≤ n → digits (n / 100) ++ places 2 n ≡ digits n
+digits-hundred n l =
+    let tenth : n / 100 ≡ n / 10 / 10 = omega arith in
+    ap₂ (λ (d e : List ℕ). d ++ e) (ap digits tenth) (sym (two n))
+    ∙ sym (append-assoc (digits (n / 10 / 10)) (lastDigit (n / 10)) (lastDigit n))
+    ∙ ap (λ (d : List ℕ). d ++ lastDigit n) (digits-more (n / 10) (omega arith))
+    ∙ digits-more n (omega arith)
+
+pub digits-five : (n : ℕ) → 10_000 ≤ n → n < 100_000 → lastDigit (n / 10_000) ++ places 2 (n / 100) ++ places 2 n ≡ digits n
+digits-five n l u =
+    let first : n / 10_000 ≡ n / 100 / 100 = omega arith in
+    ap (λ (d : List ℕ). d ++ places 2 (n / 100) ++ places 2 n) (ap lastDigit first ∙ digits-one (n / 100 / 100) (omega arith))
+    ∙ ap (λ (d : List ℕ). d ++ places 2 n) (digits-hundred (n / 100) (omega arith))
+    ∙ digits-hundred n (omega arith)
+
+-- behind the places of a hundredth
+places-hundred : (k n : ℕ) → places k (n / 100) ++ places 2 n ≡ places (suc (suc k)) n
+unfolding places
+places-hundred k n =
+    let tenth : n / 100 ≡ n / 10 / 10 = omega arith in
+    ap (λ (m : ℕ). places k m ++ (lastDigit (n / 10) ++ lastDigit n)) tenth
+    ∙ sym (append-assoc (places k (n / 10 / 10)) (lastDigit (n / 10)) (lastDigit n))
+
+one-more : (m : ℕ) → lastDigit (m / 100) ++ places 2 m ≡ places 3 m
+unfolding places
+one-more m = places-hundred 1 m
+
+pub five : (n : ℕ) → lastDigit (n / 10_000) ++ places 2 (n / 100) ++ places 2 n ≡ places 5 n
 five n =
-    let a : n / 10_000 ≡ n / 10 / 10 / 10 / 10 = omega arith in
-    let b : n / 1_000 ≡ n / 10 / 10 / 10 = omega arith in
-    let c : n / 100 ≡ n / 10 / 10 = omega arith in
-    rw (a, b, c)
+    let first : n / 10_000 ≡ n / 100 / 100 = omega arith in
+    ap (λ (m : ℕ). lastDigit m ++ places 2 (n / 100) ++ places 2 n) first
+    ∙ ap (λ (d : List ℕ). d ++ places 2 n) (one-more (n / 100))
+    ∙ places-hundred 3 n
 
 -- ---- lengths
 unit-positive : (k : ℕ) → 0 < unit k
@@ -105,8 +139,11 @@ places-length (suc k) n = length-append (places k (n / 10)) (lastDigit n) ∙ ap
     more : (m : ℕ) → m + 1 ≡ suc m
     more m = omega arith
 
-pub places-placed : (r p n : ℕ) → r ≡ p + 5 → r ≡ p + length (places 5 n)
-places-placed r p n e = e ∙ ap (λ (k : ℕ). p + k) (sym (places-length 5 n))
+pub places-placed : (k r p n : ℕ) → r ≡ p + k → r ≡ p + length (places k n)
+places-placed k r p n e = e ∙ ap (λ (m : ℕ). p + m) (sym (places-length k n))
+
+pub places-told : (k r p n : ℕ) → r ≡ p + length (places k n) → r ≡ p + k
+places-told k r p n e = e ∙ ap (λ (m : ℕ). p + m) (places-length k n)
 
 pub size-length : (n : ℕ) → length (hundredThousandths n) ≡ length (digits (n / 100_000)) + 6
 unfolding hundredThousandths

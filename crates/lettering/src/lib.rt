@@ -32,27 +32,50 @@ fn digit(out: &mut [u8], at: usize, n: u32) -> usize
 }
 
 // All digits of n.
-fn digits(out: &mut [u8], at: usize, n: u32) -> usize
+// The last two digits of n.
+fn two_places(out: &mut [u8], at: usize, n: u32) -> usize
     requires { ⌜ at < 0x7000_0000_0000_0000 ⌝ }
+    ensures { λ r. ⌜ (r ≡ at + 2) × (now (out .exit) ≡ over (now (out .entry)) at (places 2 n)) ⌝ }
+{
+    let last = digit(out, at, n / 10);
+    digit(out, last, n)
+}
+
+// The digits of a number below 100.
+fn one_or_two(out: &mut [u8], at: usize, n: u32) -> usize
+    requires { ⌜ (at < 0x7000_0000_0000_0000) × (n < 100) ⌝ }
     ensures { λ r. ⌜ (r ≡ at + length (digits n)) × (now (out .exit) ≡ over (now (out .entry)) at (digits n)) ⌝ }
 {
     if n < 10 {
         return digit(out, at, n);
     }
-    let next = digits(out, at, n / 10);
-    digit(out, next, n)
+    two_places(out, at, n)
+}
+
+fn digits(out: &mut [u8], at: usize, n: u32) -> usize
+    requires { ⌜ (at < 0x6000_0000_0000_0000) × (n < 100_000) ⌝ }
+    ensures { λ r. ⌜ (r ≡ at + length (digits n)) × (now (out .exit) ≡ over (now (out .entry)) at (digits n)) ⌝ }
+{
+    if n < 100 {
+        return one_or_two(out, at, n);
+    }
+    if n < 10_000 {
+        let last = one_or_two(out, at, n / 100);
+        return two_places(out, last, n);
+    }
+    let next = digit(out, at, n / 10_000);
+    let last = two_places(out, next, n / 100);
+    two_places(out, last, n)
 }
 
 // Its last five digits, with the zeros before them.
 fn five_places(out: &mut [u8], at: usize, n: u32) -> usize
-    requires { ⌜ at < 0x7000_0000_0000_0000 ⌝ }
+    requires { ⌜ at < 0x6800_0000_0000_0000 ⌝ }
     ensures { λ r. ⌜ (r ≡ at + 5) × (now (out .exit) ≡ over (now (out .entry)) at (places 5 n)) ⌝ }
 {
     let second = digit(out, at, n / 10_000);
-    let third = digit(out, second, n / 1_000);
-    let fourth = digit(out, third, n / 100);
-    let fifth = digit(out, fourth, n / 10);
-    digit(out, fifth, n)
+    let fourth = two_places(out, second, n / 100);
+    two_places(out, fourth, n)
 }
 
 // How long the text of n hundred-thousandths is.

@@ -1,4 +1,4 @@
--- `lettering::hundred_thousandths` meets its contract: passed the end only measured, else the whole part, the point and five places.
+-- `lettering::hundred_thousandths` meets its contract: past the end only measured, else the whole part, the point and five places.
 -- Assumes nothing.
 use Prim.Native.Nat.{ℕ, _+_, _/_}
 use native.Mathlib.Omega.{arith}
@@ -39,7 +39,7 @@ returns-2 c =
     let whole = point .before .before .before .before in
     let w = wrote (whole .digits .ensures .0) (whole .digits .ensures .1)
     behind wrote (point .put .ensures .0) (point .put .ensures .1)
-    behind wrote (places-placed _ _ _ (last .five-places .ensures .0)) (last .five-places .ensures .1) in
+    behind wrote (places-placed 5 _ _ _ (last .five-places .ensures .0)) (last .five-places .ensures .1) in
     (w .next, w .is)
 
 pub hundred-thousandths-spec : {M : Type 1} → statement M
