@@ -3,7 +3,7 @@
 --   opening           `openOf file`, tzb/specs/Opening: `ok` with the record, or `no n` for refusal n. `openedIs file` is the only record that a file can open to
 --   F1 to F6          `Accepted`, demands/specs/Accepted; the lowest broken rule: `lowestBroken`, reader_check/specs/FullCheck
 --   the record        84 bytes are read as `openedIn held`, and `bytesOf` writes them: tzb_record/specs/Layout
---   the walk          `zoneOf`, reader_rings/specs/Zones; in the domain: `inDomain`, plane/specs/Domain
+--   the walk          `zoneOf`, reader_zones/specs/Zones; in the domain: `inDomain`, plane/specs/Domain
 --   the zone sought   `lookupOf`, reader_lookup/specs/Asking
 -- Assumes nothing.
 use Prim.Native.Nat.{ℕ, _≤_, _<_}
