@@ -1,7 +1,7 @@
 -- Document 01, "Asking": a group's chunks as the second half of `scan_group` walks them, blocks left out. For any opened record and any bytes.
 -- Assumes nothing.
 use Prim.Native.Nat.{ℕ, zero, suc, _+_, _-_}
-use mathlib.Core.Bool.{cond}
+use mathlib.Core.Bool.{Bool, cond}
 use mathlib.Core.List.{List}
 use Rattle.plane.specs.declared.Point.{Point}
 use Rattle.plane.specs.declared.I32Point.{I32Point}
@@ -58,6 +58,14 @@ module _ (o : Opened) (s : List ℕ) (p : Point) (i : ℕ) (v : ChunkRecord) whe
 
   unfoldable pub lastAt : I32Point → Walk One
   lastAt x = cond (relevant (v .bbox) p) (endOf o s i yields λ e. lastIn x e) (done tt)
+
+-- chunk i by its number alone, where another of its group follows it or not, and x is the group's last point: nothing more is read where its box does not matter, else on as above
+unfoldable pub aloneAt : Opened → List ℕ → Point → I32Point → Bool → ℕ → Walk One
+aloneAt o s p x follows i =
+    chunkAt o s i yields λ v.
+    cond (relevant (v .bbox) p)
+    (cond follows (passAt o s p i v go λ n. done tt) (lastAt o s p i v x))
+    (done tt)
 
 -- n chunks that another follows, from chunk i with record v, then the last
 unfoldable pub chunksFrom : Opened → List ℕ → Point → I32Point → ℕ → ℕ → ChunkRecord → Walk One

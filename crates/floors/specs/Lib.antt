@@ -1,0 +1,2 @@
+-- The floor of a float.
+pub mod Floor

@@ -1,0 +1,1 @@
+// The greatest whole number not above a float.

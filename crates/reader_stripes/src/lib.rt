@@ -1,0 +1,1 @@
+// The stripes of an opened file.
