@@ -7,7 +7,7 @@ use Rattle.basics.specs.Told.{one-told}
 use Rattle.answer.specs.Answers.{Answer, ok, refused}
 use Rattle.answer.proofs.AnswersLaws.{readBack, one-answer}
 use Rattle.opened.specs.declared.Opened.{Opened}
-use Rattle.replies.specs.Replies.{boundsTold, Chosen, none, all, listed, choiceTold, candidateTold, verdictTold, Sought, nowhere, inZone, foundTold, listingTold, countTold, openingTold, Outcome, accepted, refusedBy, brokenAt, checkTold, Drawn, drawn, undrawn, unsound, drawingTold}
+use Rattle.replies.specs.Replies.{boundsTold, Chosen, none, all, listed, choiceTold, candidateTold, verdictTold, Sought, nowhere, inZone, foundTold, listingTold, countTold, neededTold, openingTold, Outcome, accepted, refusedBy, brokenAt, checkTold, Drawn, drawn, undrawn, unsound, drawingTold}
 use Rattle.replies.specs.declared.Bounds.{Bounds}
 use Rattle.replies.specs.declared.Bounds.the-variants as B
 use Rattle.replies.specs.declared.Choice.{Choice}
@@ -22,6 +22,8 @@ use Rattle.replies.specs.declared.Listing.{Listing}
 use Rattle.replies.specs.declared.Listing.the-variants as L
 use Rattle.replies.specs.declared.Count.{Count}
 use Rattle.replies.specs.declared.Count.the-variants as N
+use Rattle.replies.specs.declared.Needed.{Needed}
+use Rattle.replies.specs.declared.Needed.the-variants as S
 use Rattle.replies.specs.declared.Opening.{Opening}
 use Rattle.replies.specs.declared.Opening.the-variants as O
 use Rattle.replies.specs.declared.FullCheck.{FullCheck}
@@ -53,6 +55,13 @@ one-choice = one-told choiceTold again back
     back (C.All n) = refl
     back (C.Listed n p) = refl
     back (C.Refused k) = refl
+
+pub one-needed : (a b : Needed) (x : Answer ℕ) → neededTold a ≡ x → neededTold b ≡ x → a ≡ b
+one-needed = one-answer neededTold S.Numbers S.Refused back
+  where
+    back : (a : Needed) → readBack S.Numbers S.Refused (neededTold a) ≡ a
+    back (S.Numbers n) = refl
+    back (S.Refused k) = refl
 
 pub one-candidate : (a b : Candidate) (x : Answer ℕ) → candidateTold a ≡ x → candidateTold b ≡ x → a ≡ b
 one-candidate = one-answer candidateTold Z.Zone Z.Refused back

@@ -19,6 +19,8 @@ use Rattle.replies.specs.declared.Listing.{Listing}
 use Rattle.replies.specs.declared.Listing.the-variants as L
 use Rattle.replies.specs.declared.Count.{Count}
 use Rattle.replies.specs.declared.Count.the-variants as N
+use Rattle.replies.specs.declared.Needed.{Needed}
+use Rattle.replies.specs.declared.Needed.the-variants as S
 use Rattle.replies.specs.declared.Opening.{Opening}
 use Rattle.replies.specs.declared.Opening.the-variants as O
 use Rattle.replies.specs.declared.FullCheck.{FullCheck}
@@ -70,6 +72,11 @@ listingTold (L.Refused k) = refused k
 abbrev pub countTold : Count → Answer ℕ
 countTold (N.Is n) = ok n
 countTold (N.Refused k) = refused k
+
+-- how many numbers stripes take, or were written
+abbrev pub neededTold : Needed → Answer ℕ
+neededTold (S.Numbers n) = ok n
+neededTold (S.Refused k) = refused k
 
 abbrev pub openingTold : Opening → Answer Opened
 openingTold (O.Done o) = ok o

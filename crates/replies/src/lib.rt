@@ -49,6 +49,12 @@ pub enum Count {
     Refused(Refusal),
 }
 
+// How many numbers the stripes of a file take, or were written.
+pub enum Needed {
+    Numbers(u64),
+    Refused(Refusal),
+}
+
 // What opening answers: the opened record, or the first refusal.
 pub enum Opening {
     Done(Opened),
