@@ -71,6 +71,19 @@ pub striping-is : (b : BBox) (n : ℕ) (least : ℤ) (up height k : ℕ) → lea
 unfolding stripingOf
 striping-is b n least up height k e f g h = rw (h, g, f, e)
 
+-- its height is never 0, and it has stripes exactly where it has two chunks or more
+pub height-some : (b : BBox) (n : ℕ) → 0 < stripingOf b n .height
+unfolding stripingOf
+height-some b n = omega arith
+
+pub stripes-some : (b : BBox) (n : ℕ) → 2 ≤ n → 0 < stripingOf b n .k
+unfolding stripingOf
+stripes-some b n h = omega (arith, some-stripes n (max 1 (min (n / 4) 256)) h refl .0)
+
+pub stripes-none : (b : BBox) (n : ℕ) → n < 2 → stripingOf b n .k ≡ 0
+unfolding stripingOf
+stripes-none b n h = sym (no-stripes n h .0)
+
 -- ---- in how many stripes a chunk stands
 pub depth-is : (t : Striping) (b : BBox) (first last r : ℕ) → first ≡ stripeOf t (b .miny) → last ≡ stripeOf t (b .maxy) → last < t .k → r ≡ last + 1 - first → (r ≡ depth t b) × (r ≤ t .k)
 unfolding depth
