@@ -7,7 +7,7 @@ use lib.Ieee.{Float}
 use lib.Ieee.Scale.{finite}
 use lib.Ieee.Positive.{num, den}
 
--- a finite float of size at most 180: what the code's floor asks for
+-- a finite float of size at most 9,000,000: what the code's floor asks for
 pub record Small (x : Float) : Type 0 where
   pub is-finite : finite x ≡ true
-  pub small : num x ≤ 180 * den x
+  pub small : num x ≤ 9_000_000 * den x

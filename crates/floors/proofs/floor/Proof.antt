@@ -2,9 +2,9 @@
 -- Assumes nothing.
 use native.Mathlib.Omega.{arith}
 use borrow.Author.Needs.{needs}
-use Rattle.reader_cells.proofs.Flooring.{not-below, not-past, floor-taken, floor-left, cut-fits}
-use Rattle.reader_cells.proofs.floor.Statement.{statement}
-use Rattle.reader_cells.proofs.floor.Tie as tie
+use Rattle.floors.proofs.Flooring.{not-below, not-past, floor-taken, floor-left, cut-fits}
+use Rattle.floors.proofs.floor.Statement.{statement}
+use Rattle.floors.proofs.floor.Tie as tie
 
 truncating-f64-to-i64-requires : tie.Need-truncating-f64-to-i64-requires
 truncating-f64-to-i64-requires c κs = (not-below (c .args .x) (c .pre), not-past (c .args .x) (c .pre))

@@ -16,10 +16,27 @@ use lib.Ieee.{Float, nan, inf, fin, binary64, up, down, lt, le, eq, ofInt, toSig
 use lib.Ieee.Fits.{down-pos}
 use lib.Ieee.Exact.{HasValue}
 use lib.Ieee.Back.{round-whole}
-use Rattle.reader_cells.specs.Floor.{signed, floorOf}
-use Rattle.reader_grid.proofs.Numbers.{near}
-use Rattle.reader_cells.specs.Steps.{Small}
-use Rattle.reader_cells.proofs.CellNumbers.{moved-fits, moved-is, moved-small}
+use Rattle.floors.specs.Floor.{signed, floorOf}
+use Rattle.basics.specs.Signed.{sum-abs, mag-le}
+use Rattle.floors.specs.Steps.{Small}
+
+-- ---- small numbers in 64 bits
+fits-64 : (z : ℤ) → natAbs z ≤ 9_000_001 → SFits w64 z
+fits-64 z h = record { sfits = omega (arith, mag-le z) }
+
+-- at most one more or less
+module _ (z : ℤ) (k : natAbs z ≤ 9_000_000) where
+  same-in : toZ w64 (ofZ w64 z) ≡ z
+  same-in = toZ-ofZ w64 z (fits-64 z (omega arith))
+
+  moved-small : (d : ℤ) → natAbs d ≤ 1 → natAbs (z +ℤ d) ≤ 9_000_001
+  moved-small d h = omega (arith, sum-abs z d)
+
+  moved-fits : (d : ℤ) → natAbs d ≤ 1 → SFits w64 (toZ w64 (ofZ w64 z) +ℤ d)
+  moved-fits d h = rw same-in (fits-64 _ (moved-small d h))
+
+  moved-is : (d : ℤ) → natAbs d ≤ 1 → toZ w64 (ofZ w64 (toZ w64 (ofZ w64 z) +ℤ d)) ≡ z +ℤ d
+  moved-is d h = rw same-in (toZ-ofZ w64 (z +ℤ d) (fits-64 _ (moved-small d h)))
 
 or-l : (a b : Bool) → T a → T (a || b)
 or-l true b t = tt
@@ -42,7 +59,7 @@ not-past (fin true m e) h = lt→ltb 0 (m * up e * 1 + 1 * 2 ^ 63 * down e) (ome
 
 -- ---- the cut
 module _ (s : Bool) (m : ℕ) (e : ℤ) (h : Small (fin s m e)) where
-  part-small : m * up e / down e ≤ 180
+  part-small : m * up e / down e ≤ 9_000_000
   part-small = le-of-mul-le-mul-right {k = down e} (omega (arith, div-mul-le-self (m * up e) (down e), h .small)) (down-pos e)
 
   pub cut-is : toSigned 63 (fin s m e) ≡ signed s (m * up e / down e)
@@ -59,12 +76,12 @@ module _ (s : Bool) (m : ℕ) (e : ℤ) (h : Small (fin s m e)) where
       go true = ap (λ (q : ℕ). negℤ (pos q)) low
       go false = ap pos high
 
-signed-abs : (s : Bool) (n : ℕ) → natAbs (signed s n) ≡ n
+pub signed-abs : (s : Bool) (n : ℕ) → natAbs (signed s n) ≡ n
 signed-abs false n = refl
 signed-abs true zero = refl
 signed-abs true (suc n) = refl
 
-pub cut-small : (x : Float) → Small x → natAbs (toSigned 63 x) ≤ 180
+pub cut-small : (x : Float) → Small x → natAbs (toSigned 63 x) ≤ 9_000_000
 cut-small nan h = absurd (false≢true (h .is-finite))
 cut-small (inf s) h = absurd (false≢true (h .is-finite))
 cut-small (fin s m e) h = rw (cut-is s m e h, signed-abs) (part-small s m e h)
@@ -111,7 +128,7 @@ over-zero m e (fin false n d) v =
     let f : n * up d ≡ 0 = omega (arith, v .1) in
     scaled (0 * down e) (m * up e) (down d) 0 (m * up e * down d + n * up d * down e) (down-pos d) (omega arith) (ap (λ (z : ℕ). m * up e * down d + z * down e) f ∙ omega arith)
 
-above-is : (s : Bool) (m : ℕ) (e : ℤ) (q : ℕ) → q ≤ 180 → lt (fin s m e) (ofInt binary64 (signed s q)) ≡ aboveBy s (m * up e) (down e) q
+above-is : (s : Bool) (m : ℕ) (e : ℤ) (q : ℕ) → q ≤ 9_000_000 → lt (fin s m e) (ofInt binary64 (signed s q)) ≡ aboveBy s (m * up e) (down e) q
 unfolding ofInt
 above-is false m e q h = over-plus m e q _ (round-whole binary64 false q (omega arith))
 above-is true m e zero h = over-zero m e _ (round-whole binary64 false 0 (omega arith))
@@ -173,21 +190,21 @@ floor-kept (fin s m e) h t =
 
 -- the two ways out of the code, with each number as its width holds it
 module _ (x : Float) (cut : ℤ) (y : Float) (h : Small x) (ec : cut ≡ toSigned 63 x) (ey : y ≡ ofInt binary64 (toZ w64 (ofZ w64 cut))) where
-  small-cut : natAbs cut ≤ 180
+  small-cut : natAbs cut ≤ 9_000_000
   small-cut = rw ec (cut-small x h)
 
   same-cut : toZ w64 (ofZ w64 cut) ≡ cut
-  same-cut = toZ-ofZ w64 cut (near w64 cut (omega (arith, small-cut)))
+  same-cut = same-in cut small-cut
 
   asked : lt x y ≡ lt x (ofInt binary64 (toSigned 63 x))
   asked = ap (lt x) (ey ∙ ap (ofInt binary64) (same-cut ∙ ec))
 
-  pub floor-taken : lt x y ≡ true → (toZ w64 (ofZ w64 (toZ w64 (ofZ w64 cut) -ℤ pos 1)) ≡ floorOf x) × (natAbs (toZ w64 (ofZ w64 (toZ w64 (ofZ w64 cut) -ℤ pos 1))) ≤ 181)
+  pub floor-taken : lt x y ≡ true → (toZ w64 (ofZ w64 (toZ w64 (ofZ w64 cut) -ℤ pos 1)) ≡ floorOf x) × (natAbs (toZ w64 (ofZ w64 (toZ w64 (ofZ w64 cut) -ℤ pos 1))) ≤ 9_000_001)
   floor-taken t =
       let e : toZ w64 (ofZ w64 (toZ w64 (ofZ w64 cut) -ℤ pos 1)) ≡ cut -ℤ pos 1 = moved-is cut small-cut (negsuc 0) (omega arith) in
       (e ∙ ap (λ (z : ℤ). z -ℤ pos 1) ec ∙ floor-less x h (sym asked ∙ t), rw e (moved-small cut small-cut (negsuc 0) (omega arith)))
 
-  pub floor-left : lt x y ≡ false → (toZ w64 (ofZ w64 cut) ≡ floorOf x) × (natAbs (toZ w64 (ofZ w64 cut)) ≤ 181)
+  pub floor-left : lt x y ≡ false → (toZ w64 (ofZ w64 cut) ≡ floorOf x) × (natAbs (toZ w64 (ofZ w64 cut)) ≤ 9_000_001)
   floor-left t = (same-cut ∙ ec ∙ floor-kept x h (sym asked ∙ t), rw same-cut (omega (arith, small-cut)))
 
   pub cut-fits : (d : ℤ) → natAbs d ≤ 1 → SFits w64 (toZ w64 (ofZ w64 cut) +ℤ d)

@@ -3,7 +3,7 @@
 use mathlib.Core.Path.{_≡_, refl}
 use lib.IntN.{pos, negsuc}
 use lib.Ieee.{binary64, ofBits}
-use Rattle.reader_cells.specs.Floor.{floorOf}
+use Rattle.floors.specs.Floor.{floorOf}
 
 -- -0.5, 0.5, -0.0, 179.99999 and -180, each by its bits
 pub minus-half : floorOf (ofBits binary64 0xbfe0_0000_0000_0000) ≡ negsuc 0

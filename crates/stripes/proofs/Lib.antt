@@ -1,0 +1,3 @@
+-- What is proved of stripes.
+pub mod Heights
+pub mod StripesLaws
