@@ -41,27 +41,43 @@ module _ (o : Opened) (s : List ℕ) where
         let b = boxes-inv n c l e in
         ap length (b .4) ∙ ap suc (boxes-length n (c + 1) (b .2) (b .3))
 
-  -- one group
-  pub boxed-inv : (i : ℕ) (b : Boxed) → ok b ≡ boxedAt o s i → (g : GroupRecord) × (ok g ≡ groupAt o s i) × (l : List BBox) × (ok l ≡ boxesFrom o s g (g .count) 0) × (b ≡ record { bbox = g .bbox; chunks = l })
+  -- one group, with its record
+  pub boxed-inv : (i : ℕ) (g : GroupRecord) (b : Boxed) → ok g ≡ groupAt o s i → ok b ≡ boxedAt o s i → (l : List BBox) × (ok l ≡ boxesFrom o s g (g .count) 0) × (b ≡ record { bbox = g .bbox; chunks = l })
   unfolding boxedAt
-  boxed-inv i b e =
-      let a = then-inv (groupAt o s i) (λ g. boxesFrom o s g (g .count) 0 then λ l. ok (record { bbox = g .bbox; chunks = l })) b e in
-      let d = then-inv (boxesFrom o s (a .0) (a .0 .count) 0) (λ l. ok (record { bbox = a .0 .bbox; chunks = l })) b (a .2) in
-      (a .0, a .1, d .0, d .1, ok-inv b (record { bbox = a .0 .bbox; chunks = d .0 }) (d .2))
+  boxed-inv i g b e f =
+      let h : ok b ≡ (boxesFrom o s g (g .count) 0 then λ l. ok (record { bbox = g .bbox; chunks = l })) = rw (← e) at f in
+      let d = then-inv (boxesFrom o s g (g .count) 0) (λ l. ok (record { bbox = g .bbox; chunks = l })) b h in
+      (d .0, d .1, ok-inv b (record { bbox = g .bbox; chunks = d .0 }) (d .2))
 
-  -- a group among the groups: those before it, itself, those behind
-  pub from-inv : (n i k : ℕ) (l : List Boxed) → ok l ≡ boxedFrom o s n i → k < n → (a : List Boxed) × (b : Boxed) × (m : List Boxed) × (l ≡ a ++ b ∷ m) × (length a ≡ k) × (ok b ≡ boxedAt o s (i + k))
+  -- group i in a list of groups: k stand before it
+  pub record Among (l : List Boxed) (k i : ℕ) : Type 0 where
+    pub before : List Boxed
+    pub it : Boxed
+    pub behind : List Boxed
+    pub is : l ≡ before ++ it ∷ behind
+    pub place : length before ≡ k
+    pub made : ok it ≡ boxedAt o s i
+
+  one-more : (g : Boxed) (l m : List Boxed) (k i j : ℕ) → l ≡ g ∷ m → Among m k i → i ≡ j → Among l (suc k) j
+  one-more g l m k i j e a h =
+      record { before = g ∷ a .before; it = a .it; behind = a .behind; is = e ∙ ap (λ (z : List Boxed). g ∷ z) (a .is); place = ap suc (a .place); made = a .made ∙ ap (boxedAt o s) h }
+
+  among : (n i k : ℕ) (l : List Boxed) → ok l ≡ boxedFrom o s n i → k < n → Among l k (i + k)
   unfolding boxedFrom
-  from-inv zero i k l e h = absurd (omega arith)
-  from-inv (suc n) i zero l e h =
+  among zero i k l e h = absurd (omega arith)
+  among (suc n) i k l e h =
       let a = then-inv (boxedAt o s i) (λ g. boxedFrom o s n (i + 1) then λ l. ok (g ∷ l)) l e in
       let d = then-inv (boxedFrom o s n (i + 1)) (λ l. ok (a .0 ∷ l)) l (a .2) in
-      ([], a .0, d .0, ok-inv l (a .0 ∷ d .0) (d .2), refl, a .1 ∙ ap (boxedAt o s) (omega arith))
-  from-inv (suc n) i (suc k) l e h =
-      let a = then-inv (boxedAt o s i) (λ g. boxedFrom o s n (i + 1) then λ l. ok (g ∷ l)) l e in
-      let d = then-inv (boxedFrom o s n (i + 1)) (λ l. ok (a .0 ∷ l)) l (a .2) in
-      let r = from-inv n (i + 1) k (d .0) (d .1) (omega arith) in
-      (a .0 ∷ r .0, r .1, r .2, ok-inv l (a .0 ∷ d .0) (d .2) ∙ ap (λ (z : List Boxed). a .0 ∷ z) (r .3), ap suc (r .4), r .5 ∙ ap (boxedAt o s) (omega arith))
+      let f : l ≡ a .0 ∷ d .0 = ok-inv l (a .0 ∷ d .0) (d .2) in
+      pick (a .0) (a .1) (d .0) f (λ k h. among n (i + 1) k (d .0) (d .1) h) k h
+    where
+      pick : (g : Boxed) → ok g ≡ boxedAt o s i → (m : List Boxed) → l ≡ g ∷ m → ((k : ℕ) → k < n → Among m k (i + 1 + k)) → (k : ℕ) → k < suc n → Among l k (i + k)
+      pick g e m f rest zero h = record { before = []; it = g; behind = m; is = f; place = refl; made = e ∙ ap (boxedAt o s) (omega arith) }
+      pick g e m f rest (suc k) h = one-more g l m k (i + 1 + k) (i + suc k) f (rest k (omega arith)) (omega arith)
+
+  pub group-among : (l : List Boxed) (i : ℕ) → ok l ≡ boxedGroups o s → i < o .groups .count → Among l i i
+  unfolding boxedGroups
+  group-among l i e h = let z : 0 + i ≡ i = omega arith in rw z at (among (o .groups .count) 0 i l e h)
 
   -- the numbers
   pub stripes-inv : (room : ℕ) (x : List ℕ) → ok x ≡ stripesOf o s room → (l : List Boxed) × (ok l ≡ boxedGroups o s) × (x ≡ numbers l)

@@ -4,4 +4,7 @@ pub mod Lying
 pub mod Places
 pub mod Reading
 pub mod BuildingLaws
+pub mod Ruled
 pub mod Walking
+pub mod Heights
+pub mod Groups
