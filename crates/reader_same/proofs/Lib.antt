@@ -8,3 +8,4 @@ pub mod Ruled
 pub mod Walking
 pub mod Heights
 pub mod Groups
+pub mod Builds
