@@ -11,7 +11,7 @@ ghost use Rattle.varints.specs.Varint.{numberAt};
 ghost use Rattle.chunks.specs.Decode.{filled};
 ghost use Rattle.tzb.specs.FullCheck.{fullCheckOf};
 ghost use Rattle.tzb_asked.specs.Asked.{zonesAsked, nameAsked, endsAsked, endsAfter, choiceAsked, candidateAsked, containsAsked, decodeAsked, lookupAsked, listAsked, containsAskedBy, lookupAskedBy, listAskedBy, needAsked, stripesAsked};
-ghost use Rattle.reader_ways.specs.Ways.{striped};
+ghost use Rattle.reader_ways.specs.Ways.{striped, wayOf};
 ghost use Rattle.tzb_codes.specs.Codes.{bitOf, doneCode, kindCode, listedOf, insideCode, zoneCode, checkCode, ruleOf, neededCode, drawnCode, seenCode, numberCode, startCode, endCode};
 ghost use Rattle.tzb_map.specs.Map.{mapOf, mapIn, howLong, asAnswer};
 ghost use Rattle.tzb_c.specs.Opens.{openInto, lookupOnce};
@@ -179,6 +179,26 @@ pub extern "C" fn tzb_ask(record: &[u8], file: &[u8], lng: f64, lat: f64) -> i64
     tzb_codes::zone_code(tzb_asked::lookup_by(false, &none, record, file, lng, lat))
 }
 
+// All zones of a position, walked plainly or by stripes: how many there are, as a number.
+fn ask_all_by(
+    using: bool,
+    numbers: &[u32],
+    record: &[u8],
+    file: &[u8],
+    lng: f64,
+    lat: f64,
+    zones: &mut [u32],
+) -> i64
+    ensures { λ r. ⌜ r ≡ numberCode (howMany (listAskedBy (wayOf using (now (numbers .entry))) (now («record» .entry)) (now (file .entry)) lng lat (length (now (zones .entry))))) ⌝ }
+    ensures memory { λ r. ⌜ now (zones .exit) ≡ left (now (zones .entry)) (listAskedBy (wayOf using (now (numbers .entry))) (now («record» .entry)) (now (file .entry)) lng lat (length (now (zones .entry)))) ⌝ }
+{
+    let a = tzb_asked::lookup_into_by(using, numbers, record, file, lng, lat, zones);
+    match a {
+        Listing::Refused(k) => tzb_codes::refusal_code64(k),
+        Listing::Zones(n) => n as i64,
+    }
+}
+
 // All zones that a position lies in, in the order of their names, into lent places: how many there are, or -1000 - n for refusal n, and then nothing is written.
 #[no_mangle]
 pub extern "C" fn tzb_ask_all(
@@ -192,11 +212,7 @@ pub extern "C" fn tzb_ask_all(
     ensures memory { λ r. ⌜ now (zones .exit) ≡ left (now (zones .entry)) (listAsked (now («record» .entry)) (now (file .entry)) lng lat (length (now (zones .entry)))) ⌝ }
 {
     let none = [0u32; 1];
-    let a = tzb_asked::lookup_into_by(false, &none, record, file, lng, lat, zones);
-    match a {
-        Listing::Refused(k) => tzb_codes::refusal_code64(k),
-        Listing::Zones(n) => n as i64,
-    }
+    ask_all_by(false, &none, record, file, lng, lat, zones)
 }
 
 // ---- stripes
@@ -260,11 +276,7 @@ pub extern "C" fn tzb_ask_all_striped(
     ensures { λ r. ⌜ r ≡ numberCode (howMany (listAskedBy (striped (now (numbers .entry))) (now («record» .entry)) (now (file .entry)) lng lat (length (now (zones .entry))))) ⌝ }
     ensures memory { λ r. ⌜ now (zones .exit) ≡ left (now (zones .entry)) (listAskedBy (striped (now (numbers .entry))) (now («record» .entry)) (now (file .entry)) lng lat (length (now (zones .entry)))) ⌝ }
 {
-    let a = tzb_asked::lookup_into_by(true, numbers, record, file, lng, lat, zones);
-    match a {
-        Listing::Refused(k) => tzb_codes::refusal_code64(k),
-        Listing::Zones(n) => n as i64,
-    }
+    ask_all_by(true, numbers, record, file, lng, lat, zones)
 }
 
 // ---- the full check
