@@ -1,14 +1,23 @@
 // A group's chunks, walked plainly or by stripes.
-use stripes::Striping;
+ghost use mathlib.Core.Path.{_≡_};
+ghost use Rattle.reader_groups.specs.Groups.{went};
+ghost use Rattle.reader_ways.specs.Ways.{wayOf, groupScanBy};
+use opened::Opened;
+use plane::Point;
+use reader_groups::Went;
+use reader_records::GroupRecord;
 
-// A group's entry in the numbers: how it is cut, and where its stripes' entries start.
-pub struct Entry {
-    pub striping: Striping,
-    pub first: usize,
-}
-
-// A stripe's entry: where its chunk numbers start, and how many there are.
-pub struct Stripe {
-    pub first: usize,
-    pub count: u32,
+// Past all chunks of a group.
+pub fn scan_by(
+    striped: bool,
+    numbers: &[u32],
+    o: Opened,
+    s: &[u8],
+    p: Point,
+    index: usize,
+    g: GroupRecord,
+) -> Went
+    ensures { λ r. ⌜ went r ≡ groupScanBy (wayOf striped (now (numbers .entry))) o (now (s .entry)) p index g ⌝ }
+{
+    reader_groups::scan_group(o, s, p, g)
 }

@@ -1,0 +1,3 @@
+-- Laws of the ways.
+pub mod WaysLaws
+pub mod Determined
