@@ -35,7 +35,7 @@ unfolding containsAskedBy
 returns-2 c =
     let g = c .before .before in
     let r = g .before .before in
-    let s = r .before .before .before in
+    let s = r .before .before .before .before in
     let a = s .args in
     let same = ap₂ (λ (x y : ℤ). containsBy (wayOf (a .striped) (a .numbers .now)) (g .a2 .given .0 .0) (a .file .now) (a .zone) (point x y)) (toZ-ofZ w32 (a .x) (s .fits .x)) (toZ-ofZ w32 (a .y) (s .fits .y)) in
     asked _ _ _ _ (sym (ap recordTold (g .a2 .given .1)) ∙ r .read-record .ensures) (c .contains-by .ensures ∙ same)

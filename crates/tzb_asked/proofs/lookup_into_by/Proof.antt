@@ -26,7 +26,7 @@ lookup-into-by-requires c κs = search needs
 returns : tie.Need-returns
 returns c =
     let f = c .before .before .before in
-    let a = f .before .before .before .before .args in
+    let a = f .before .before .before .before .before .args in
     let e = list-barred (wayOf (a .striped) (a .numbers .now)) (a .«record» .now) (a .file .now) (a .lng) (a .lat) (length (a .zones .now)) _ (sym (ap recordTold (c .before .a .given .1)) ∙ f .read-record .ensures) in
     (many-no _ _ e, ap (left (a .zones .now)) e)
 
@@ -38,7 +38,7 @@ returns-2 c =
     let d = c .before .before in
     let g = d .before .before .before in
     let f = g .before .before in
-    let a = f .before .before .before .before .args in
+    let a = f .before .before .before .before .before .args in
     let e = list-asked (wayOf (a .striped) (a .numbers .now)) (a .«record» .now) (a .file .now) (a .lng) (a .lat) (length (a .zones .now)) _ (sym (ap recordTold (g .a2 .given .1)) ∙ f .read-record .ensures) in
     (d .lookup-into-by .ensures .0 ∙ ap howMany e, d .lookup-into-by .ensures .1 ∙ ap (left (a .zones .now)) e)
 
