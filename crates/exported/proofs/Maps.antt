@@ -32,7 +32,7 @@ use Rattle.tzb.proofs.Given.{opened-is}
 use Rattle.tzb_map.specs.Map.{upheld, mapOf, mapIn, howLong, asAnswer}
 use Rattle.tzb_map.proofs.MapLaws.{map-is, map-inv, in-is, in-inv}
 use Rattle.tzb_codes.specs.Codes.{checkCode, drawnCode}
-use Rattle.tzb_codes.proofs.CodesLaws.{code-small, drawn-short}
+use Rattle.tzb_codes.proofs.CodesLaws.{code-small, whole-short}
 use Rattle.exported.specs.Calls.{Tzb-full-check, Tzb-map, Tzb-map-length}
 use Rattle.exported.specs.Words.{refusing, Bytes, shapeOf}
 use Rattle.exported.specs.Demand1.{NumberOrRefusal, NumberOrAsItWas}
@@ -245,7 +245,7 @@ module _ (file : List ℕ) (zone : ℕ) where
 
     stands : drawn text ≡ map → length text < 0x8000_0000_0000_0000 → (r ≡ pos (length text)) × (after ≡ text ++ drop (length text) memory)
     stands e h = (
-      map-answer c ∙ ap code (sym e) ∙ sym (drawn-short (length text) h),
+      map-answer c ∙ ap code (sym e) ∙ sym (whole-short (length text) h),
       map-memory c ∙ ap (λ (d : Drawn (List ℕ)). left memory (asAnswer d)) (sym e),
     )
 
@@ -326,4 +326,4 @@ module _ (file : List ℕ) (zone : ℕ) where
         tells a d =
             map-length-answer c
             ∙ sym (ap (λ (x : Answer (List ℕ)). code (upheld accepted x)) (text-is o file zone (a .its-own) d) ∙ ap code (of-text (a .accepted)))
-            ∙ sym (drawn-short (length (textOf file zone)) (drawn-small (a .accepted) byte (a .its-own) d))
+            ∙ sym (whole-short (length (textOf file zone)) (drawn-small (a .accepted) byte (a .its-own) d))

@@ -1,13 +1,13 @@
--- `lookup_into` meets its contract: the record first, then the zones.
+-- `stripes` meets its contract: the record first, then the numbers.
 -- Assumes nothing.
 use mathlib.Core.Path.{sym, ap, _∙_}
 use lib.ListN.{length}
 use Rattle.tzb_record.specs.Layout.{recordTold}
 use borrow.Author.Needs.{needs}
-use Rattle.tzb_asked.proofs.lookup_into.Statement.{statement}
-use Rattle.tzb_asked.proofs.lookup_into.Tie as tie
+use Rattle.tzb_asked.proofs.stripes.Statement.{statement}
+use Rattle.tzb_asked.proofs.stripes.Tie as tie
 use Rattle.answer.specs.Answers.{left, howMany}
-use Rattle.tzb_asked.proofs.AskedLaws.{list-barred, list-asked}
+use Rattle.tzb_asked.proofs.AskedLaws.{stripes-barred, stripes-asked}
 use Rattle.answer.proofs.AnswersLaws.{many-no}
 
 read-record-requires : tie.Need-read-record-requires
@@ -19,15 +19,15 @@ enum-known-a c = search needs
 enum-known-a-2 : tie.Need-enum-known-a-2
 enum-known-a-2 c = search needs
 
-lookup-into-requires : tie.Need-lookup-into-requires
-lookup-into-requires c κs = search needs
+stripes-requires : tie.Need-stripes-requires
+stripes-requires c κs = search needs
 
 returns : tie.Need-returns
 returns c =
     let f = c .before .before .before in
     let a = f .before .before .before .before .args in
-    let e = list-barred (a .«record» .now) (a .file .now) (a .lng) (a .lat) (length (a .zones .now)) _ (sym (ap recordTold (c .before .a .given .1)) ∙ f .read-record .ensures) in
-    (many-no _ _ e, ap (left (a .zones .now)) e)
+    let e = stripes-barred (a .«record» .now) (a .file .now) (length (a .numbers .now)) _ (sym (ap recordTold (c .before .a .given .1)) ∙ f .read-record .ensures) in
+    (many-no _ _ e, ap (left (a .numbers .now)) e)
 
 same-length : tie.Need-same-length
 same-length c = search needs
@@ -38,17 +38,17 @@ returns-2 c =
     let g = d .before .before .before in
     let f = g .before .before in
     let a = f .before .before .before .before .args in
-    let e = list-asked (a .«record» .now) (a .file .now) (a .lng) (a .lat) (length (a .zones .now)) _ (sym (ap recordTold (g .a2 .given .1)) ∙ f .read-record .ensures) in
-    (d .lookup-into .ensures .0 ∙ ap howMany e, d .lookup-into .ensures .1 ∙ ap (left (a .zones .now)) e)
+    let e = stripes-asked (a .«record» .now) (a .file .now) (length (a .numbers .now)) _ (sym (ap recordTold (g .a2 .given .1)) ∙ f .read-record .ensures) in
+    (d .stripes .ensures .0 ∙ ap howMany e, d .stripes .ensures .1 ∙ ap (left (a .numbers .now)) e)
 
-pub lookup-into-spec : {M : Type 1} → statement M
-lookup-into-spec =
+pub stripes-spec : {M : Type 1} → statement M
+stripes-spec =
     tie.close
     (tie.spec
     read-record-requires
     enum-known-a
     enum-known-a-2
-    lookup-into-requires
+    stripes-requires
     returns
     same-length
     returns-2)
