@@ -181,7 +181,7 @@ pub extern "C" fn tzb_ask(record: &[u8], file: &[u8], lng: f64, lat: f64) -> i64
 
 // All zones of a position, walked plainly or by stripes: how many there are, as a number.
 fn ask_all_by(
-    using: bool,
+    way: bool,
     numbers: &[u32],
     record: &[u8],
     file: &[u8],
@@ -189,10 +189,10 @@ fn ask_all_by(
     lat: f64,
     zones: &mut [u32],
 ) -> i64
-    ensures { λ r. ⌜ r ≡ numberCode (howMany (listAskedBy (wayOf using (now (numbers .entry))) (now («record» .entry)) (now (file .entry)) lng lat (length (now (zones .entry))))) ⌝ }
-    ensures memory { λ r. ⌜ now (zones .exit) ≡ left (now (zones .entry)) (listAskedBy (wayOf using (now (numbers .entry))) (now («record» .entry)) (now (file .entry)) lng lat (length (now (zones .entry)))) ⌝ }
+    ensures { λ r. ⌜ r ≡ numberCode (howMany (listAskedBy (wayOf way (now (numbers .entry))) (now («record» .entry)) (now (file .entry)) lng lat (length (now (zones .entry))))) ⌝ }
+    ensures memory { λ r. ⌜ now (zones .exit) ≡ left (now (zones .entry)) (listAskedBy (wayOf way (now (numbers .entry))) (now («record» .entry)) (now (file .entry)) lng lat (length (now (zones .entry)))) ⌝ }
 {
-    let a = tzb_asked::lookup_into_by(using, numbers, record, file, lng, lat, zones);
+    let a = tzb_asked::lookup_into_by(way, numbers, record, file, lng, lat, zones);
     match a {
         Listing::Refused(k) => tzb_codes::refusal_code64(k),
         Listing::Zones(n) => n as i64,

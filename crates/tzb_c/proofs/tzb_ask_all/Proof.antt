@@ -7,6 +7,9 @@ use borrow.Author.Needs.{needs}
 use Rattle.tzb_c.proofs.tzb_ask_all.Statement.{statement}
 use Rattle.tzb_c.proofs.tzb_ask_all.Tie as tie
 
+slice-aggregate-ask-all-by : tie.Need-slice-aggregate-ask-all-by
+slice-aggregate-ask-all-by c = search needs
+
 ask-all-by-requires : tie.Need-ask-all-by-requires
 ask-all-by-requires c κs = search needs
 
@@ -21,4 +24,4 @@ returns c =
     )
 
 pub tzb-ask-all-spec : {M : Type 1} → statement M
-tzb-ask-all-spec = tie.close (tie.spec ask-all-by-requires same-length returns)
+tzb-ask-all-spec = tie.close (tie.spec slice-aggregate-ask-all-by ask-all-by-requires same-length returns)

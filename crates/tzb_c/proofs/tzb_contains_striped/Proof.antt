@@ -22,7 +22,7 @@ inside-code-requires c κs = search needs
 returns : tie.Need-returns
 returns c =
     let d = c .before in
-    let f = d .before .before .before in
+    let f = d .before .before .before .before in
     let a = f .args in
     let same = ap₂ (λ (x y : ℤ). containsAskedBy (striped (a .numbers .now)) (a .«record» .now) (a .file .now) (a .zone) (point x y)) (toZ-ofZ w32 (a .x) (f .fits .x)) (toZ-ofZ w32 (a .y) (f .fits .y)) in
     back w32 _ (c .inside-code .ok) ∙ c .inside-code .ensures ∙ ap insideCode (d .contains-by .ensures ∙ same)
