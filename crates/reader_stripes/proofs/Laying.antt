@@ -74,7 +74,7 @@ module _ (s : List ℕ) (p : ℕ) (all : List ℕ) where
         rw d at (g .laid)
 
 -- ---- stripes
-length-entries : (l : List (List ℕ)) (place : ℕ) → length (stripeEntries l place) ≡ 3 * length l
+pub length-entries : (l : List (List ℕ)) (place : ℕ) → length (stripeEntries l place) ≡ 3 * length l
 unfolding stripeEntries
 length-entries [] place = refl
 length-entries (t ∷ l) place = omega (arith, length-entries l (place + length t))
