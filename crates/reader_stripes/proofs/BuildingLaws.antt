@@ -31,17 +31,20 @@ use Rattle.reader_stripes.proofs.Reading.{length-gathered, gathered-run
 use Rattle.reader_stripes.proofs.Laying.{length-entries}
 
 -- ---- how a group is cut
-pub high-enough : (b : BBox) (n : ℕ) → 0 < stripingOf b n .height
+high-enough : (b : BBox) (n : ℕ) → 0 < stripingOf b n .height
 unfolding stripingOf
 high-enough b n = omega arith
 
-pub few-stripes : (b : BBox) (n : ℕ) → stripingOf b n .k ≤ 256
+few-stripes : (b : BBox) (n : ℕ) → stripingOf b n .k ≤ 256
 unfolding stripingOf stripeCount
 few-stripes b n = go (ltb n 2)
   where
     go : (t : Bool) → cond t 0 (max 1 (min (n / 4) 256)) ≤ 256
     go true = omega arith
     go false = omega arith
+
+pub cut-well : (t : Striping) (b : BBox) (n : ℕ) → t ≡ stripingOf b n → (0 < t .height) × (t .k ≤ 256)
+cut-well t b n e = rw e (high-enough b n, few-stripes b n)
 
 -- a group of one chunk has no stripes, any other has
 none-of-one : (b : BBox) (n : ℕ) → ltb n 2 ≡ not (ltb 0 (stripingOf b n .k))

@@ -64,8 +64,8 @@ module _ {A : Type 0} (at : ℕ → Answer A) where
       pub small : m + left * most ≤ n * most
       pub sum : added w m (gathered at left i) ≡ added w 0 (gathered at n first)
 
-    pub adding-start : Adding 0 first n
-    adding-start = record { place = refl; small = omega arith; sum = refl }
+    pub adding-start : (i left : ℕ) → i ≡ first → left ≡ n → Adding 0 i left
+    adding-start i left e f = record { place = ap₂ (λ (j k : ℕ). j + k) e f; small = rw f (omega arith); sum = ap₂ (λ (j k : ℕ). added w 0 (gathered at k j)) e f }
 
     module _ (m i left : ℕ) (g : Adding m i left) where
       -- what is added stays small
