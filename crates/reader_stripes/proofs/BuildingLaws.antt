@@ -7,7 +7,10 @@ use mathlib.Core.Bool.{Bool, true, false, not, _||_, cond}
 use mathlib.Core.List.{List, [], _∷_, _++_, append-assoc, append-nil}
 use borrow.Author.Tests.{lt-ltb, le-leb, lt-leb}
 use lib.Dec.{ltb, leb}
+use lib.IntN.{pos}
 use lib.ListN.{length, drop, length-append}
+use mir.Syntax.{w32}
+use mir.Val.{ofZ}
 use Rattle.plane.specs.Runs.{run}
 use Rattle.basics.specs.Picked.{yes-is, no-is}
 use Rattle.answer.specs.declared.Refusal.{Refusal}
@@ -22,12 +25,12 @@ use Rattle.reader_records.specs.declared.ChunkRecord.{ChunkRecord}
 use Rattle.reader_records.specs.Records.{chunkAt, groupAt}
 use Rattle.stripes.specs.declared.Striping.{Striping}
 use Rattle.stripes.specs.Stripes.{Boxed, stripeCount, stripingOf, stripingIn, withinHeight, stripesFrom, chunksIn, groupStripes, above}
-use Rattle.stripes.specs.Numbers.{groupEntry, groupEntries, stripeEntries, allStripes, together, numbers, depth, depths, groupNeed, needOf}
+use Rattle.stripes.specs.Numbers.{low, high, groupEntry, groupEntries, stripeEntries, allStripes, together, numbers, depth, depths, groupNeed, needOf}
 use Rattle.reader_stripes.specs.declared.Places.{Places}
 use Rattle.reader_stripes.specs.declared.Cut.{Cut}
 use Rattle.reader_stripes.specs.Building.{boxesFrom, boxedAt, boxedFrom, boxedGroups, stripesNeed, stripesOf}
-use Rattle.reader_stripes.specs.Steps.{gathered, weigh, weighed, added, boxAt, depthIn, boxOr, boxRead, boxedOr, boxedRead, allRead, boxesOf, CutFrom, cuts, Rooms, Striped}
-use Rattle.reader_stripes.proofs.Reading.{length-gathered, gathered-run}
+use Rattle.reader_stripes.specs.Steps.{gathered, weigh, weighed, added, boxAt, depthIn, boxOr, boxRead, boxedOr, boxedRead, allRead, boxesOf, CutFrom, stripeEntry, Rooms, Striped}
+use Rattle.reader_stripes.proofs.Reading.{length-run, length-gathered, gathered-run}
 use Rattle.reader_stripes.proofs.Laying.{length-entries}
 
 -- ---- how a group is cut
@@ -197,3 +200,30 @@ module _ (o : Opened) (s : List ℕ) where
   pub all-again : (l : List Boxed) → ok l ≡ boxedGroups o s → l ≡ allRead o s
   unfolding boxedGroups allRead
   all-again l e = gathered-run (boxedAt o s) (boxedRead o s) boxed-again (o .groups .count) 0 l (e ∙ boxed-gathered (o .groups .count) 0)
+
+  module _ (i : ℕ) where
+    pub cut-none : (k : Refusal) → refused k ≡ groupAt o s i → CutFrom o s i (record { first = 0; count = 0; striping = record { least = pos 0; height = 1; k = 0 } })
+    unfolding boxedRead boxesOf stripingOf stripeCount run
+    cut-none k e = record { striping = rw (← e); boxes = rw (← e) }
+
+    pub cut-is : (g : GroupRecord) → ok g ≡ groupAt o s i → (t : Striping) → t ≡ stripingOf (g .bbox) (g .count) → CutFrom o s i (record { first = g .first; count = g .count; striping = t })
+    unfolding boxedRead boxesOf
+    cut-is g e t f =
+        record {
+          striping = rw (← e) (f ∙ ap (stripingOf (g .bbox)) (sym (length-run (boxRead o s) (g .count) (g .first))));
+          boxes = rw (← e);
+        }
+
+-- ---- entries
+module _ (t : Striping) (place : ℕ) where
+  pub entry-is : 0 < t .k → (b l h : ℕ) → b ≡ ofZ w32 (t .least) → l ≡ low place → h ≡ high place → b ∷ t .height ∷ t .k ∷ l ∷ h ∷ [] ≡ groupEntry t place
+  unfolding groupEntry
+  entry-is k b l h e f g = let z : ltb 0 (t .k) ≡ true = lt-ltb 0 (t .k) k in rw (z, e, f, g)
+
+  pub entry-none : t .k ≤ 0 → 0 ∷ 0 ∷ 0 ∷ 0 ∷ 0 ∷ [] ≡ groupEntry t place
+  unfolding groupEntry
+  entry-none k = let z : t .k ≡ 0 = omega arith in rw z
+
+pub stripe-is : (from to l h : ℕ) → l ≡ low from → h ≡ high from → l ∷ h ∷ (to - from) ∷ [] ≡ stripeEntry from to
+unfolding stripeEntry
+stripe-is from to l h e f = rw (e, f)

@@ -53,8 +53,8 @@ pub record Laying (s : List ℕ) (p : ℕ) (all rest : List ℕ) (q : ℕ) (now 
   pub laid : Written s p done q now
 
 module _ (s : List ℕ) (p : ℕ) (all : List ℕ) where
-  pub laying-start : Laying s p all all p s
-  laying-start = record { done = []; whole = refl; laid = wrote (omega arith) (sym (over-none s p)) }
+  pub laying-start : (rest : List ℕ) → rest ≡ all → Laying s p all rest p s
+  laying-start rest e = record { done = []; whole = e; laid = wrote (omega arith) (sym (over-none s p)) }
 
   module _ (rest : List ℕ) (q : ℕ) (now : List ℕ) (g : Laying s p all rest q now) where
     pub laying-same : length now ≡ length s
@@ -62,6 +62,10 @@ module _ (s : List ℕ) (p : ℕ) (all : List ℕ) where
 
     pub laying-place : q + length rest ≡ p + length all
     laying-place = omega (arith, g .laid .next, length-append (g .done) rest, ap length (g .whole))
+
+    -- room for the first of what is left
+    pub laying-room : p + length all ≤ length s → (a more : List ℕ) → rest ≡ a ++ more → q + length a ≤ length now
+    laying-room h a more e = omega (arith, laying-place, laying-same, ap length e, length-append a more)
 
     pub laying-on : (a more : List ℕ) (r : ℕ) (after : List ℕ) → rest ≡ a ++ more → r ≡ q + length a → after ≡ over now q a → Laying s p all more r after
     laying-on a more r after e f k =
@@ -151,8 +155,8 @@ pub record Striping-on (m : List ℕ) (p : Places) (all rest : List (List ℕ)) 
   pub laid : Striped m p done q now
 
 module _ (m : List ℕ) (p : Places) (all : List (List ℕ)) where
-  pub on-start : Striping-on m p all all p m
-  on-start = record { done = []; whole = refl; laid = striped-none m p }
+  pub on-start : (rest : List (List ℕ)) → rest ≡ all → Striping-on m p all rest p m
+  on-start rest e = record { done = []; whole = e; laid = striped-none m p }
 
   module _ (rest : List (List ℕ)) (q : Places) (now : List ℕ) (g : Striping-on m p all rest q now) where
     pub on-same : length now ≡ length m
@@ -182,6 +186,10 @@ module _ (m : List ℕ) (p : Places) (all : List (List ℕ)) where
     on-end e =
         let d : g .done ≡ all = sym (append-nil (g .done)) ∙ ap (λ (t : List (List ℕ)). g .done ++ t) (sym e) ∙ g .whole in
         rw d at (g .laid)
+
+pub room-one : (m : List ℕ) (p : Places) (t : List ℕ) → Rooms m p (t ∷ []) → (p .stripe + 3 ≤ p .chunk) × (p .chunk + length t ≤ length m)
+unfolding together
+room-one m p t room = (omega (arith, room .stripes), omega (arith, room .chunks, length-append t []))
 
 -- room for the first of what is left
 pub room-first : (m : List ℕ) (p : Places) (a more rest : List (List ℕ)) → rest ≡ a ++ more → Rooms m p rest → Rooms m p a

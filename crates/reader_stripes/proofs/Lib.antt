@@ -2,3 +2,4 @@
 pub mod Reading
 pub mod Laying
 pub mod BuildingLaws
+pub mod Loops

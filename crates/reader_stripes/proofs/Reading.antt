@@ -16,6 +16,11 @@ use Rattle.reader_stripes.specs.Steps.{gathered, weigh, weighed, added, 
 pub up-to : (most d : ℕ) (x : Answer ℕ) → x ≡ ok d → upTo most x → d ≤ most
 up-to most d x e h = rw e at h
 
+pub length-run : {A : Type 0} (f : ℕ → A) (n i : ℕ) → length (run f n i) ≡ n
+unfolding run
+length-run f zero i = refl
+length-run f (suc n) i = ap suc (length-run f n (i + 1))
+
 module _ {A : Type 0} (w : A → ℕ) where
   weighed-no : (x : Answer A) (r : Refusal) → refused r ≡ weighed w x → refused r ≡ x
   unfolding weighed

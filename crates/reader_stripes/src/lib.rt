@@ -256,16 +256,17 @@ fn put_chunks(
     from: usize,
 ) -> usize
     requires { ⌜ (0 < c .striping .height) × (0 < c .striping .k) × (from + length (chunksIn (c .striping) stripe 0 (boxesOf o (now s) c)) ≤ length (now numbers)) ⌝ }
-    ensures { λ r. ⌜ (r ≡ from + length (chunksIn (c .striping) stripe 0 (boxesOf o (now (s .entry)) c))) × (now (numbers .exit) ≡ over (now (numbers .entry)) from (chunksIn (c .striping) stripe 0 (boxesOf o (now (s .entry)) c))) ⌝ }
+    ensures { λ r. ⌜ (r ≡ from + length (chunksIn (c .striping) stripe 0 (boxesOf o (now (s .entry)) c))) × (r < from + 0x1_0000_0000) × (now (numbers .exit) ≡ over (now (numbers .entry)) from (chunksIn (c .striping) stripe 0 (boxesOf o (now (s .entry)) c))) ⌝ }
 {
     let t = c.striping;
     let first = fields::wide(c.first);
+    let count = fields::wide(c.count);
     let mut at = from;
-    let mut j: u32 = 0;
-    while j < c.count {
-        let b = box_read(o, s, first + fields::wide(j));
+    let mut j = 0;
+    while j < count {
+        let b = box_read(o, s, first + j);
         if stripes::stands_in(t, stripe, b) {
-            numbers[at] = j;
+            numbers[at] = j as u32;
             at += 1;
         }
         j += 1;
@@ -299,11 +300,11 @@ fn put_stripes(o: Opened, s: &[u8], c: Cut, numbers: &mut [u32], p: Places) -> P
     requires { ⌜ (0 < c .striping .height) × Rooms (now numbers) p (stripesFrom (c .striping) (boxesOf o (now s) c) (c .striping .k) 0) ⌝ }
     ensures { λ r. ⌜ Striped (now (numbers .entry)) p (stripesFrom (c .striping) (boxesOf o (now (s .entry)) c) (c .striping .k) 0) r (now (numbers .exit)) ⌝ }
 {
-    let k = c.striping.k;
+    let k = fields::wide(c.striping.k);
     let mut q = p;
-    let mut i: u32 = 0;
+    let mut i = 0;
     while i < k {
-        q = put_one(o, s, c, i, numbers, q);
+        q = put_one(o, s, c, i as u32, numbers, q);
         i += 1;
     }
     q

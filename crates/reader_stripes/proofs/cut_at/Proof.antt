@@ -1,3 +1,8 @@
+-- `cut_at` meets its contract.
+-- Assumes nothing.
+use mathlib.Core.Path.{sym, ap, _∙_}
+use Rattle.reader_records.specs.Records.{toldGroup}
+use Rattle.reader_stripes.proofs.BuildingLaws.{cut-none, cut-is}
 use native.Mathlib.Omega.{arith}
 use borrow.Author.Needs.{needs}
 use Rattle.reader_stripes.proofs.cut_at.Statement.{statement}
@@ -29,11 +34,13 @@ striping-of-requires c κs = search needs
 
 -- src/lib.rt:147:1
 returns : tie.Need-returns
-returns c = search needs
+returns c = cut-none _ _ _ _ (sym (ap toldGroup (c .enum-told .given .1)) ∙ c .before .before .group-at .ensures)
 
 -- src/lib.rt:147:1
 returns-2 : tie.Need-returns-2
-returns-2 c = search needs
+returns-2 c =
+    let a = c .before .before .before in
+    cut-is _ _ _ _ (sym (ap toldGroup (a .a .given .1)) ∙ a .before .before .group-at .ensures) _ (c .striping-of .ensures)
 
 pub cut-at-spec : {M : Type 1} → statement M
 cut-at-spec =

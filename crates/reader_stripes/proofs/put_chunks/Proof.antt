@@ -1,74 +1,92 @@
+-- `put_chunks` meets its contract: what is left, laid from here on.
+-- Assumes nothing.
+use Prim.Native.Nat.{_-_}
+use mathlib.Core.Path.{refl}
+use mathlib.Core.Logic.{⊎-elim}
 use native.Mathlib.Omega.{arith}
+use Rattle.reader_stripes.proofs.Laying.{Laying, laying-start, laying-same}
+use Rattle.reader_stripes.proofs.Loops.{chunksLeft, chunks-in, chunks-took, chunks-passed, chunks-fit, chunks-put}
 use borrow.Author.Needs.{needs}
 use Rattle.reader_stripes.proofs.put_chunks.Statement.{statement}
 use Rattle.reader_stripes.proofs.put_chunks.Tie as tie
-use Rattle.reader_stripes.proofs.put_chunks.Reads as reads
-use Rattle.reader_stripes.proofs.put_chunks.Lts as lts
-use Rattle.fields.proofs.wide.Reads as wide-reads
-use Rattle.reader_stripes.proofs.box_read.Reads as box-read-reads
-use Rattle.stripes.proofs.stands_in.Reads as stands-in-reads
 
 abbrev Inv-loop : tie.InvT-loop
-Inv-loop o s c stripe numbers₀ from t first at₀ j₀ numbers at j = ?
+Inv-loop o s stripe numbers₀ from t first count at₀ j₀ numbers at j = Laying numbers₀ from (chunksLeft o s t count first stripe 0) (chunksLeft o s t count first stripe j) at numbers
 
 abbrev μ-loop : tie.MeasureT-loop
-μ-loop o s c stripe numbers₀ from t first at₀ j₀ numbers at j = ?
+μ-loop o s stripe numbers₀ from t first count at₀ j₀ numbers at j = count - j
 
--- src/lib.rt:262:9
 wide-requires : tie.Need-wide-requires Inv-loop μ-loop
 wide-requires c κs = search needs
 
--- src/lib.rt:265:5
-loop-holds : tie.Need-loop-holds Inv-loop μ-loop
-loop-holds c = search needs
-
--- src/lib.rt:266:40
 wide-requires-2 : tie.Need-wide-requires-2 Inv-loop μ-loop
 wide-requires-2 c κs = search needs
 
--- src/lib.rt:266:32
+loop-holds : tie.Need-loop-holds Inv-loop μ-loop
+loop-holds c = laying-start _ _ _ _ refl
+
 add-box-read : tie.Need-add-box-read Inv-loop μ-loop
 add-box-read c = search needs
 
--- src/lib.rt:266:13
 box-read-requires : tie.Need-box-read-requires Inv-loop μ-loop
 box-read-requires c κs = search needs
 
--- src/lib.rt:267:12
 stands-in-requires : tie.Need-stands-in-requires Inv-loop μ-loop
-stands-in-requires c κs = search needs
+stands-in-requires c κs =
+    let start = c .before .before .before .before .before .before .before .before in
+    (start .pre .0, start .pre .1)
 
--- src/lib.rt:268:13
 mul-numbers : tie.Need-mul-numbers Inv-loop μ-loop
-mul-numbers c = search needs
+mul-numbers c =
+    let l = c .before .before .before .before in
+    let start = l .before .before .before .before .before .before in
+    let h = chunks-fit _ _ _ _ _ _ (l .before .before .wide .ensures .0) (l .before .wide2 .ensures .0) _ _ (start .pre .2) _ _ _ (l .loop .inv) (chunks-in _ _ _ _ _ _ _ (c .before .before .before .loop-test .taken) _ (c .before .before .box-read .ensures) _ (c .before .stands-in .ensures) (c .if1 .taken)) in
+    let e = laying-same _ _ _ _ _ _ (l .loop .inv) in
+    search needs
 
--- src/lib.rt:268:13
 slice-write-numbers : tie.Need-slice-write-numbers Inv-loop μ-loop
-slice-write-numbers c = search needs
+slice-write-numbers c =
+    let l = c .before .before .before .before in
+    let start = l .before .before .before .before .before .before in
+    let h = chunks-fit _ _ _ _ _ _ (l .before .before .wide .ensures .0) (l .before .wide2 .ensures .0) _ _ (start .pre .2) _ _ _ (l .loop .inv) (chunks-in _ _ _ _ _ _ _ (c .before .before .before .loop-test .taken) _ (c .before .before .box-read .ensures) _ (c .before .stands-in .ensures) (c .if1 .taken)) in
+    h
 
--- src/lib.rt:269:13
+cast-numbers : tie.Need-cast-numbers Inv-loop μ-loop
+cast-numbers c = search needs
+
 add-at : tie.Need-add-at Inv-loop μ-loop
-add-at c = search needs
+add-at c =
+    let l = c .before .before .before .before in
+    let start = l .before .before .before .before .before .before in
+    let h = chunks-fit _ _ _ _ _ _ (l .before .before .wide .ensures .0) (l .before .wide2 .ensures .0) _ _ (start .pre .2) _ _ _ (l .loop .inv) (chunks-in _ _ _ _ _ _ _ (c .before .before .before .loop-test .taken) _ (c .before .before .box-read .ensures) _ (c .before .stands-in .ensures) (c .if1 .taken)) in
+    let e = laying-same _ _ _ _ _ _ (l .loop .inv) in
+    search needs
 
--- src/lib.rt:271:9
 add-j : tie.Need-add-j Inv-loop μ-loop
 add-j c = search needs
 
--- src/lib.rt:265:5
 loop-less : tie.Need-loop-less Inv-loop μ-loop
 loop-less c = search needs
 
--- src/lib.rt:265:5
 loop-again : tie.Need-loop-again Inv-loop μ-loop
-loop-again c = search needs
+loop-again c =
+    let l = c .before .before .before .before in
+    let start = l .before .before .before .before .before .before in
+    let b = c .before .before in
+    ⊎-elim
+    (λ w. chunks-took _ _ _ _ _ _ _ (b .before .loop-test .taken) _ (b .box-read .ensures) _ (c .before .stands-in .ensures) _ _ _ _ _ (l .loop .inv) _ _
+    (chunks-fit _ _ _ _ _ _ (l .before .before .wide .ensures .0) (l .before .wide2 .ensures .0) _ _ (start .pre .2) _ _ _ (l .loop .inv) (chunks-in _ _ _ _ _ _ _ (b .before .loop-test .taken) _ (b .box-read .ensures) _ (c .before .stands-in .ensures) (w .0 .taken)))
+    (w .2) (w .1) (w .0 .taken))
+    (λ w. chunks-passed _ _ _ _ _ _ _ (b .before .loop-test .taken) _ (b .box-read .ensures) _ (c .before .stands-in .ensures) _ _ _ _ _ (l .loop .inv) _ _ (w .2) (w .1) (w .0 .left))
+    (c .if1 .came)
 
--- src/lib.rt:250:1
 same-length : tie.Need-same-length Inv-loop μ-loop
-same-length c = search needs
+same-length c = laying-same _ _ _ _ _ _ (c .before .loop .inv)
 
--- src/lib.rt:250:1
 returns : tie.Need-returns Inv-loop μ-loop
-returns c = search needs
+returns c =
+    let l = c .before in
+    chunks-put _ _ _ _ _ _ (l .before .before .wide .ensures .0) (l .before .wide2 .ensures .0) _ _ (l .before .wide2 .ensures .1) _ _ _ (l .loop .inv) (c .loop-test .left)
 
 pub put-chunks-spec : {M : Type 1} → statement M
 put-chunks-spec =
@@ -77,11 +95,12 @@ put-chunks-spec =
     Inv-loop
     μ-loop
     wide-requires
-    loop-holds
     wide-requires-2
+    loop-holds
     add-box-read
     box-read-requires
     stands-in-requires
+    cast-numbers
     mul-numbers
     slice-write-numbers
     add-at

@@ -1,3 +1,11 @@
+-- `put_group` meets its contract.
+-- Assumes nothing.
+use mathlib.Core.Path.{ap, _∙_}
+use mir.Syntax.{w32}
+use mir.Val.{ofZ}
+use mir.ValLaws.{toZ-ofZ}
+use Rattle.geojson.specs.Over.{over}
+use Rattle.reader_stripes.proofs.BuildingLaws.{entry-is, entry-none}
 use native.Mathlib.Omega.{arith}
 use borrow.Author.Needs.{needs}
 use Rattle.reader_stripes.proofs.put_group.Statement.{statement}
@@ -31,7 +39,9 @@ same-length c = search needs
 
 -- src/lib.rt:214:9
 returns : tie.Need-returns
-returns c = search needs
+returns c =
+    let b = c .before .before .before .before .before in
+    c .before .before .put-five .ensures ∙ ap (over _ _) (entry-is _ _ (b .before .before .before .if1 .taken) _ _ _ (b .bits32 .ensures ∙ ap (ofZ w32) (toZ-ofZ w32 (c .before .before .before .before .before .before .before .before .before .before .before .args .t .least) (record { sfits = b .before .struct-told .given .0 .1 }))) (c .before .before .before .before .low-half .ensures) (c .before .before .before .high-half .ensures))
 
 -- src/lib.rt:216:5
 put-five-requires-2 : tie.Need-put-five-requires-2
@@ -43,7 +53,7 @@ same-length-2 c = search needs
 
 -- src/lib.rt:208:1
 returns-2 : tie.Need-returns-2
-returns-2 c = search needs
+returns-2 c = c .before .before .put-five2 .ensures ∙ ap (over _ _) (entry-none _ _ (c .before .before .before .before .if1 .left))
 
 pub put-group-spec : {M : Type 1} → statement M
 put-group-spec =

@@ -1,3 +1,10 @@
+-- `put_stripe` meets its contract: stores in a row.
+-- Assumes nothing.
+use mathlib.Core.Path.{ap, _∙_}
+use lib.ListN.{length-set}
+use Rattle.geojson.specs.Over.{over}
+use Rattle.reader_stripes.proofs.BuildingLaws.{stripe-is}
+use Rattle.reader_stripes.proofs.Laying.{three}
 use native.Mathlib.Omega.{arith}
 use borrow.Author.Needs.{needs}
 use Rattle.reader_stripes.proofs.put_stripe.Statement.{statement}
@@ -33,7 +40,7 @@ mul-numbers-2 c = search needs
 
 -- src/lib.rt:225:5
 slice-write-numbers-2 : tie.Need-slice-write-numbers-2
-slice-write-numbers-2 c = search needs
+slice-write-numbers-2 c = simp length-set (omega arith)
 
 -- src/lib.rt:226:24
 sub-numbers : tie.Need-sub-numbers
@@ -53,7 +60,7 @@ mul-numbers-3 c = search needs
 
 -- src/lib.rt:226:5
 slice-write-numbers-3 : tie.Need-slice-write-numbers-3
-slice-write-numbers-3 c = search needs
+slice-write-numbers-3 c = simp length-set (omega arith)
 
 -- src/lib.rt:220:1
 same-length : tie.Need-same-length
@@ -61,7 +68,7 @@ same-length c = search needs
 
 -- src/lib.rt:220:1
 returns : tie.Need-returns
-returns c = search needs
+returns c = three _ _ _ _ _ (c .before .before .before .pre .0) ∙ ap (over _ _) (stripe-is _ _ _ _ (c .before .low-half .ensures) (c .high-half .ensures))
 
 pub put-stripe-spec : {M : Type 1} → statement M
 put-stripe-spec =
