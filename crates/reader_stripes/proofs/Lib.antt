@@ -3,3 +3,4 @@ pub mod Reading
 pub mod Laying
 pub mod BuildingLaws
 pub mod Loops
+pub mod Built

@@ -117,7 +117,7 @@ module _ (t : Striping) (l : List BBox) (k i : ℕ) where
   stripes-off h = let e : k - i ≡ 0 = omega arith in rw e
 
 -- the stripes of a group as it was cut
-pub cut-stripes : (o : Opened) (s : List ℕ) (i : ℕ) (c : Cut) → CutFrom o s i c → stripesFrom (c .striping) (boxesOf o s c) (c .striping .k) 0 ≡ groupStripes (boxedRead o s i)
+cut-stripes : (o : Opened) (s : List ℕ) (i : ℕ) (c : Cut) → CutFrom o s i c → stripesFrom (c .striping) (boxesOf o s c) (c .striping .k) 0 ≡ groupStripes (boxedRead o s i)
 unfolding groupStripes
 cut-stripes o s i c e = ap₂ (λ (t : Striping) (l : List BBox). stripesFrom t l (t .k) 0) (e .striping) (e .boxes)
 
@@ -134,13 +134,18 @@ length-group : (g : Boxed) → length (groupStripes g) ≡ stripingIn g .k
 unfolding groupStripes
 length-group g = length-stripes (stripingIn g) (g .chunks) (stripingIn g .k) 0
 
-pub length-entry : (t : Striping) (place : ℕ) → length (groupEntry t place) ≡ 5
+length-entry : (t : Striping) (place : ℕ) → length (groupEntry t place) ≡ 5
 unfolding groupEntry
 length-entry t place = go (ltb 0 (t .k)) _ _ _ _ _
   where
     go : (b : Bool) (v w x y z : ℕ) → length (cond b (v ∷ w ∷ x ∷ y ∷ z ∷ []) (0 ∷ 0 ∷ 0 ∷ 0 ∷ 0 ∷ [])) ≡ 5
     go true v w x y z = refl
     go false v w x y z = refl
+
+pub length-groups : (l : List Boxed) (place : ℕ) → length (groupEntries l place) ≡ 5 * length l
+unfolding groupEntries
+length-groups [] place = refl
+length-groups (g ∷ l) place = omega (arith, length-append (groupEntry (stripingIn g) place) (groupEntries l (place + 3 * stripingIn g .k)), length-entry (stripingIn g) place, length-groups l (place + 3 * stripingIn g .k))
 
 module _ (o : Opened) (s : List ℕ) where
   unfoldable pub groupsLeft : ℕ → List Boxed
@@ -159,9 +164,13 @@ module _ (o : Opened) (s : List ℕ) where
     unfolding groupsLeft
     groups-none h = run-off (boxedRead o s) (o .groups .count) i i h
 
-    pub stripes-one : i < o .groups .count → allStripes (groupsLeft i) ≡ groupStripes (boxedRead o s i) ++ allStripes (groupsLeft (i + 1))
+    stripes-one : i < o .groups .count → allStripes (groupsLeft i) ≡ groupStripes (boxedRead o s i) ++ allStripes (groupsLeft (i + 1))
     unfolding allStripes
     stripes-one h = ap allStripes (groups-one h)
+
+    -- the same as it is cut
+    pub stripes-cut : i < o .groups .count → (c : Cut) → CutFrom o s i c → allStripes (groupsLeft i) ≡ stripesFrom (c .striping) (boxesOf o s c) (c .striping .k) 0 ++ allStripes (groupsLeft (i + 1))
+    stripes-cut h c e = stripes-one h ∙ ap (λ (l : List (List ℕ)). l ++ allStripes (groupsLeft (i + 1))) (sym (cut-stripes o s i c e))
 
     pub stripes-none : o .groups .count ≤ i → allStripes (groupsLeft i) ≡ []
     unfolding allStripes
