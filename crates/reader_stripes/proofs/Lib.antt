@@ -4,3 +4,4 @@ pub mod Laying
 pub mod BuildingLaws
 pub mod Loops
 pub mod Built
+pub mod Determined
