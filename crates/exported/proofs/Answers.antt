@@ -37,6 +37,7 @@ use Rattle.exported.proofs.Demand1.{once-tabled}
 use Rattle.exported.proofs.Demand3 as Three
 use Rattle.plane.specs.Places.{point, pointOf}
 use Rattle.answer.proofs.AnswersLaws.{then-ok, then-no, zero-one, left-no, left-is}
+use Rattle.reader_ways.specs.Ways.{plain}
 use Rattle.reader_zones.proofs.ZonesLaws.{whole-over, whole-off, whole-is}
 use Rattle.tzb_record.proofs.LayoutLaws.{record-none, record-is, record-long}
 use Rattle.tzb_codes.proofs.CodesLaws.{code-small}
@@ -214,14 +215,14 @@ module _ (held file : List ℕ) (zone : ℕ) (x y r : ℤ) (c : Tzb-contains hel
   contains-answers =
       record {
         no-record = contains-none;
-        no-zone = λ h l. contains-at h ∙ ap insideCode (sym (whole-over (openedIn held) file zone (point x y) l)) ∙ sym (code-small (refusal 45) (omega arith));
-        outside = λ h l d. contains-at h ∙ ap insideCode (sym (whole-off (openedIn held) file zone (point x y) l d));
+        no-zone = λ h l. contains-at h ∙ ap insideCode (sym (whole-over plain (openedIn held) file zone (point x y) l)) ∙ sym (code-small (refusal 45) (omega arith));
+        outside = λ h l d. contains-at h ∙ ap insideCode (sym (whole-off plain (openedIn held) file zone (point x y) l d));
         walked = λ h l d. walked h l d;
       }
     where
       walked : length held ≡ 84 → zone < openedIn held .zones .count → inDomain (point x y) ≡ true → Tells yesNo (zoneOf (openedIn held) file (pointOf (point x y)) zone) r
       walked h l d =
-          let e = whole-is (openedIn held) file zone (point x y) l d in
+          let e = whole-is plain (openedIn held) file zone (point x y) l d in
           let t = higher 46 48 (omega arith) _ (contains-q (openedIn held) file zone (point x y)) in
           let w = inside-tells (containsAt (openedIn held) file zone (point x y)) t in
           record { value = λ b f. contains-at h ∙ w .value b (f ∙ e); refusal = λ n f. contains-at h ∙ w .refusal n (f ∙ e) }

@@ -36,6 +36,7 @@ use Rattle.exported.proofs.Meaning.{open-answer, open-memory, full-chec
 use Rattle.plane.specs.Places.{point}
 use Rattle.replies.specs.Replies.{Outcome, accepted, refusedBy, brokenAt}
 use Rattle.answer.proofs.AnswersLaws.{then-ok}
+use Rattle.reader_ways.specs.Ways.{plain}
 use Rattle.reader_zones.proofs.ZonesLaws.{whole-over}
 use Rattle.tzb_codes.proofs.CodesLaws.{code-small}
 
@@ -91,7 +92,7 @@ module _ (file : List ℕ) where
     no-zone : (zones : ℕ) → Tzb-zone-count (take 84 after) (pos zones) → (zone : ℕ) → zones ≤ zone → (x y r : ℤ) → Tzb-contains (take 84 after) file zone x y r → r ≡ refusing 45
     no-zone zones n zone h x y r c =
         asked zone x y r c
-        ∙ ap insideCode (sym (whole-over o file zone (point x y) (omega (arith, count zones n))))
+        ∙ ap insideCode (sym (whole-over plain o file zone (point x y) (omega (arith, count zones n))))
         ∙ sym (code-small (refusal 45) (omega arith))
 
     -- and the full check accepted it
