@@ -27,11 +27,12 @@ use Rattle.reader_groups.specs.Groups.{One, chunksFrom, groupScan}
 use Rattle.stripes.specs.declared.Striping.{Striping}
 use Rattle.stripes.specs.Stripes.{Boxed, stripeCount, stripingIn, stripingOf, stripeOf, standsIn, chunksIn}
 use Rattle.stripes.specs.Numbers.{groupNumbers, groupEntry, numbers}
-use Rattle.stripes.proofs.StripesLaws.{stripe-below, stands-at}
+use Rattle.stripes.proofs.StripesLaws.{stripe-below, stands-at, height-some}
 use Rattle.reader_stripes.specs.Building.{boxesFrom, boxedAt, boxedGroups}
 use Rattle.reader_ways.specs.Ways.{heightOf, entryAt, stripeAt, numberedFrom, stripeWalk, stripedScan}
 use Rattle.reader_ways.specs.declared.Entry.{Entry}
 use Rattle.reader_ways.specs.declared.Stripe.{Stripe}
+use Rattle.reader_ways.proofs.WaysLaws.{walk-is, scan-plain, scan-striped}
 use Rattle.reader_same.specs.Same.{Built}
 use Rattle.reader_same.proofs.BuildingLaws.{boxes-inv, boxes-length, boxed-inv, group-among, stripes-inv}
 use Rattle.reader_same.proofs.Lying.{Lies, begins}
@@ -67,17 +68,6 @@ placed o s lent b i g e l f n =
       read = d .1;
       lies = begins lent (length (b .numbers)) (numbers l) (b .kept ∙ n);
     }
-
--- ---- the walk, step by step: a group's entry, and that of a stripe
-module _ (o : Opened) (s lent : List ℕ) (p : Point) (i : ℕ) (g : GroupRecord) (e : Entry) (read : ok e ≡ entryAt lent i) where
-  walk-plain : e .striping .k ≡ 0 → stripedScan lent o s p i g ≡ groupScan o s p g
-  unfolding stripedScan
-  walk-plain h = rw (← read, eq-eqb (e .striping .k) 0 h)
-
-  walk-stripe : 0 < e .striping .k → 0 < e .striping .height → (t : Stripe) → ok t ≡ stripeAt lent (e .first) (stripeOf (e .striping) (heightOf (p .y)))
-      → stripedScan lent o s p i g ≡ numberedFrom o s p g lent (t .count) (t .first)
-  unfolding stripedScan stripeWalk
-  walk-stripe h k t f = rw (← read, ne-eqb (e .striping .k) 0 (λ z. omega arith), lt-ltb 0 (e .striping .height) k, ← f)
 
 -- a group whose chunks' records are all there, from the first on
 scan-from : (o : Opened) (s : List ℕ) (p : Point) (g : GroupRecord) (n : ℕ) (v : ChunkRecord) → g .count ≡ suc n → ok v ≡ chunkAt o s (g .first + 0) → groupScan o s p g ≡ chunksFrom o s p (g .exit) n (g .first + 0) v
@@ -119,20 +109,18 @@ module _ (o : Opened) (s lent : List ℕ) (p : Point) (i : ℕ) (g : GroupRecord
 
   -- a group of one chunk has no stripes
   no-stripes : t .k ≡ 0 → stripedScan lent o s p i g ≡ groupScan o s p g
-  no-stripes h = walk-plain o s lent p i g _ (read-none lent i _ t entry h) refl
+  no-stripes h = sym (scan-plain lent o s p i g _ (read-none lent i _ t entry h) (omega arith))
 
   least-fits : mag (t .least) < 2 ^ hbits w32
   unfolding stripingOf
   least-fits = omega (arith, mag-le (g .bbox .miny), least-small (g .bbox) (group-domain o s i g e))
 
-  has-height : 0 < t .height
-  unfolding stripingOf
-  has-height = omega arith
-
   some-stripes : 0 < t .k → stripedScan lent o s p i g ≡ groupScan o s p g
   some-stripes h =
       let q = group-stripe lent (w .all) (w .before) (w .behind) group (w .lies) (w .is) stripe (stripe-below t (heightOf (p .y)) h) in
-      walk-stripe o s lent p i g _ (read-entry lent i _ t entry h least-fits) h has-height _ (read-stripe lent _ stripe _ (chunksIn t stripe 0 (w .boxes)) (q .entry))
+      let e : Entry = record { striping = t; first = groupStart (w .all) (w .before) } in
+      sym (scan-striped lent o s p i g e (read-entry lent i _ t entry h least-fits) h)
+      ∙ sym (walk-is o s p g lent e (height-some (g .bbox) (length (w .boxes))) (heightOf (p .y)) stripe refl refl _ (read-stripe lent _ stripe _ (chunksIn t stripe 0 (w .boxes)) (q .entry)))
       ∙ walk-lent o s p g lent _ _ (q .chunks)
       ∙ sym all-walked
 
