@@ -1,27 +1,25 @@
 -- Two ways that walk every group of a file alike answer every question alike: a group is reached only by its record. Nothing here need be believed.
 -- Assumes nothing.
 use Prim.Native.Nat.{ℕ, zero, suc, _+_, _-_}
-use mathlib.Core.Path.{_≡_, refl, sym, ap, ap₂, subst, fun-ext, _∙_}
+use mathlib.Core.Path.{_≡_, refl, sym, ap, fun-ext, _∙_}
 use mathlib.Core.Bool.{Bool, true, false, cond}
 use mathlib.Core.List.{List}
 use lib.Ieee.{Float}
 use Rattle.plane.specs.declared.Point.{Point}
 use Rattle.plane.specs.declared.I32Point.{I32Point}
-use Rattle.answer.specs.Answers.{Answer, ok, refused, _then_, need}
-use Rattle.answer.specs.Walks.{Walk, _go_, _yields_, done, off, verdict}
+use Rattle.answer.specs.Answers.{Answer, ok, refused, _then_}
+use Rattle.answer.specs.Walks.{Walk, _go_, _yields_}
 use Rattle.answer.proofs.AnswersLaws.{then-inv, ok-inv}
-use Rattle.boxes.specs.Box.{contains, relevant, right}
 use Rattle.opened.specs.declared.Opened.{Opened}
 use Rattle.reader_records.specs.declared.GroupRecord.{GroupRecord}
 use Rattle.reader_records.specs.declared.RingRecord.{RingRecord}
 use Rattle.reader_records.specs.Records.{groupAt, opAt, ringAt, polyAt, groupIndex, turnsRound}
 use Rattle.reader_ways.specs.Ways.{Way, groupScanBy}
-use Rattle.reader_groups.specs.Groups.{One}
 use Rattle.reader_rings.specs.declared.Turned.{Turned}
 use Rattle.reader_rings.specs.declared.Round.{Round}
-use Rattle.reader_rings.specs.Rings.{turnOf, turnedAt, groupWalk, turnWalk, opStep, opsFrom, ringEnd, ringRest, ringOf, ringContains, jointOf}
+use Rattle.reader_rings.specs.Rings.{turnOf, turnedAt, groupWalk, turnWalk, opStep, opsFrom, ringRest, ringOf, ringContains}
 use Rattle.reader_zones.specs.Zones.{polyOf, zoneBy, containsBy}
-use Rattle.replies.specs.Replies.{Chosen, none, all, listed, Sought}
+use Rattle.replies.specs.Replies.{Chosen, none, all, listed}
 use Rattle.reader_lookup.specs.Asking.{scaled, candidateOf, hitAt, lookupAmong, lookupBy}
 use Rattle.reader_listing.specs.All.{hitsAmong, hitsOf, listFor, listBy}
 use Rattle.reader_cells.specs.Asked.{candidatesOf}

@@ -1,40 +1,35 @@
 -- THEOREM: asked with the numbers built from the record and the file, a group whose box is level with the point is walked by stripes as it is walked plainly.
 -- Assumes nothing.
-use Prim.Native.Nat.{ℕ, zero, suc, _+_, _-_, _*_, _^_, _≤_, _<_, max}
+use Prim.Native.Nat.{ℕ, zero, suc, _+_, _-_, _*_, _^_, _<_}
 use native.Mathlib.Omega.{arith}
 use mathlib.Core.Path.{_≡_, refl, sym, ap, subst, _∙_}
-use mathlib.Core.Bool.{Bool, true, false, cond}
-use mathlib.Core.List.{List, [], _∷_, _++_}
-use borrow.Author.Tests.{lt-ltb, eq-eqb, ne-eqb}
-use lib.Dec.{ltb, eqb}
+use mathlib.Core.Bool.{true}
+use mathlib.Core.List.{List, _∷_, _++_}
 use lib.ListN.{length}
-use lib.IntN.{ℤ, natAbs}
 use lib.Signed.{mag}
 use mir.Syntax.{w32}
 use mir.Val.{hbits}
 use Rattle.basics.specs.Signed.{mag-le}
 use Rattle.plane.specs.declared.Point.{Point}
 use Rattle.answer.specs.Answers.{Answer, ok}
-use Rattle.answer.proofs.AnswersLaws.{ok-inv}
-use Rattle.answer.specs.Walks.{Walk, _yields_, must}
+use Rattle.answer.specs.Walks.{_yields_}
 use Rattle.boxes.specs.declared.BBox.{BBox}
 use Rattle.boxes.specs.Box.{relevant, boxInDomain}
 use Rattle.opened.specs.declared.Opened.{Opened}
 use Rattle.reader_records.specs.declared.GroupRecord.{GroupRecord}
 use Rattle.reader_records.specs.declared.ChunkRecord.{ChunkRecord}
 use Rattle.reader_records.specs.Records.{chunkAt, groupAt}
-use Rattle.reader_groups.specs.Groups.{One, chunksFrom, groupScan}
+use Rattle.reader_groups.specs.Groups.{chunksFrom, groupScan}
 use Rattle.stripes.specs.declared.Striping.{Striping}
-use Rattle.stripes.specs.Stripes.{Boxed, stripeCount, stripingIn, stripingOf, stripeOf, standsIn, chunksIn}
+use Rattle.stripes.specs.Stripes.{Boxed, stripingIn, stripingOf, stripeOf, standsIn, chunksIn}
 use Rattle.stripes.specs.Numbers.{groupNumbers, groupEntry, numbers}
 use Rattle.stripes.proofs.StripesLaws.{stripe-below, stands-at, height-some}
-use Rattle.reader_stripes.specs.Building.{boxesFrom, boxedAt, boxedGroups}
-use Rattle.reader_ways.specs.Ways.{heightOf, entryAt, stripeAt, numberedFrom, stripeWalk, stripedScan}
+use Rattle.reader_stripes.specs.Building.{boxesFrom, boxedGroups}
+use Rattle.reader_ways.specs.Ways.{heightOf, stripedScan}
 use Rattle.reader_ways.specs.declared.Entry.{Entry}
-use Rattle.reader_ways.specs.declared.Stripe.{Stripe}
 use Rattle.reader_ways.proofs.WaysLaws.{walk-is, scan-plain, scan-striped}
 use Rattle.reader_same.specs.Same.{Built}
-use Rattle.reader_same.proofs.BuildingLaws.{boxes-inv, boxes-length, boxed-inv, group-among, stripes-inv}
+use Rattle.reader_same.proofs.BuildingLaws.{boxes-inv, boxed-inv, group-among, stripes-inv}
 use Rattle.reader_same.proofs.Lying.{Lies, begins}
 use Rattle.reader_same.proofs.Places.{groupStart, entry-lies, group-stripe}
 use Rattle.reader_same.proofs.Reading.{read-entry, read-none, read-stripe}

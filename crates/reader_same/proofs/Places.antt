@@ -1,16 +1,10 @@
 -- Where the parts of the built numbers lie (stripes/specs/Numbers): a group's entry, a stripe's entry, a stripe's chunk numbers. Nothing here need be believed.
 -- Assumes nothing.
-use Prim.Native.Nat.{ℕ, zero, suc, _+_, _-_, _*_, _≤_, _<_}
+use Prim.Native.Nat.{ℕ, zero, suc, _+_, _-_, _*_, _<_}
 use native.Mathlib.Omega.{arith}
-use mathlib.Core.Path.{_≡_, refl, sym, ap, ap₂, subst, _∙_}
-use mathlib.Core.Bool.{Bool, true, false, cond}
+use mathlib.Core.Path.{_≡_, refl, sym, ap, subst, _∙_}
 use mathlib.Core.List.{List, [], _∷_, _++_, append-assoc}
-use lib.Dec.{ltb}
 use lib.ListN.{length, length-append}
-use lib.IntN.{ℤ}
-use mir.Syntax.{w32}
-use mir.Val.{ofZ}
-use borrow.Author.Tests.{lt-ltb, le-ltb}
 use Rattle.boxes.specs.declared.BBox.{BBox}
 use Rattle.stripes.specs.declared.Striping.{Striping}
 use Rattle.stripes.specs.Stripes.{Boxed, chunksIn, stripesFrom, stripingIn, groupStripes}
@@ -147,13 +141,14 @@ module _ (xs : List ℕ) (all : List Boxed) (built : Lies xs 0 (numbers all)) wh
   -- a stripe with those before and behind it
   pub stripe-lies : (u w : List (List ℕ)) (t : List ℕ) → allStripes all ≡ u ++ t ∷ w
       → Lies xs (stripesStart all + stripeNumbers * length u) (stripeEntry t (chunksStart all + length (together u))) × Lies xs (chunksStart all + length (together u)) t
-  stripe-lies u w t e =
-      (laid-at stripeEntry length xs (stripesStart all) (chunksStart all) (allStripes all) u t w e (stripePart all) (stripes-laid (allStripes all) (chunksStart all)) stripes-lie
+  stripe-lies u w t e = (
+    laid-at stripeEntry length xs (stripesStart all) (chunksStart all) (allStripes all) u t w e (stripePart all) (stripes-laid (allStripes all) (chunksStart all)) stripes-lie
         (stripesStart all + stripeNumbers * length u) (ap (λ (m : List ℕ). stripesStart all + length m) (sym (stripes-laid u (chunksStart all))) ∙ ap (λ (n : ℕ). stripesStart all + n) (stripe-entries-length u (chunksStart all)))
         (chunksStart all + length (together u)) (ap (λ (n : ℕ). chunksStart all + n) (sym (together-moved stripeEntry u))),
-      laid-at alone length xs (chunksStart all) 0 (allStripes all) u t w e (together (allStripes all)) (together-laid (allStripes all) 0) chunks-lie
+    laid-at alone length xs (chunksStart all) 0 (allStripes all) u t w e (together (allStripes all)) (together-laid (allStripes all) 0) chunks-lie
         (chunksStart all + length (together u)) (ap (λ (l : List ℕ). chunksStart all + length l) (sym (together-laid u 0)))
-        (0 + moved alone length u) refl)
+        (0 + moved alone length u) refl,
+  )
 
 -- ---- a group's stripe among all stripes
 module _ (l m : List Boxed) (g : Boxed) where
@@ -171,7 +166,7 @@ module _ (l m : List Boxed) (g : Boxed) where
   among stripe rest e =
       let z : 0 + stripe ≡ stripe = omega arith in
       let f : groupStripes g ≡ stripesFrom (stripingIn g) (g .chunks) stripe 0 ++ numbersIn stripe ∷ stripesFrom (stripingIn g) (g .chunks) rest (stripe + 1) =
-        ap (λ (n : ℕ). stripesFrom (stripingIn g) (g .chunks) n 0) e ∙ (rw z at (from-on (stripingIn g) (g .chunks) stripe (suc rest) 0)) in
+      ap (λ (n : ℕ). stripesFrom (stripingIn g) (g .chunks) n 0) e ∙ (rw z at (from-on (stripingIn g) (g .chunks) stripe (suc rest) 0)) in
       stripes-on l (g ∷ m)
       ∙ ap (λ (u : List (List ℕ)). allStripes l ++ (u ++ allStripes m)) f
       ∙ ap (λ (u : List (List ℕ)). allStripes l ++ u) (append-assoc (stripesFrom (stripingIn g) (g .chunks) stripe 0) (numbersIn stripe ∷ stripesFrom (stripingIn g) (g .chunks) rest (stripe + 1)) (allStripes m))

@@ -1,6 +1,6 @@
 -- What is read of numbers in which the parts lie (reader_ways/specs/Ways). Nothing here need be believed.
 -- Assumes nothing.
-use Prim.Native.Nat.{ℕ, zero, suc, _+_, _*_, _^_, _≤_, _<_}
+use Prim.Native.Nat.{ℕ, _+_, _*_, _^_, _<_}
 use native.Mathlib.Omega.{arith}
 use native.Mathlib.Nat.{mod-add-div}
 use mathlib.Core.Path.{_≡_, refl, sym, ap, ap₂, _∙_}

@@ -1,7 +1,7 @@
 -- The stripes change no answer (specs/Same), of every record, every file and all numbers.
 -- Assumes nothing.
 use Prim.Native.Nat.{ℕ}
-use mathlib.Core.Path.{_≡_, sym, _∙_}
+use mathlib.Core.Path.{sym, _∙_}
 use mathlib.Core.List.{List}
 use Rattle.opened.specs.declared.Opened.{Opened}
 use Rattle.reader_ways.specs.Ways.{plain, striped}
