@@ -218,7 +218,17 @@ pub fn lookup_into_by(
     let c = reader_cells::candidates(o, s, lng, lat);
     match c {
         Choice::None => Listing::Zones(0),
-        Choice::All(n) => list_in(striped, numbers, o, s, reader_lookup::scaled_at(lng, lat), false, n, 0, out),
+        Choice::All(n) => list_in(
+            striped,
+            numbers,
+            o,
+            s,
+            reader_lookup::scaled_at(lng, lat),
+            false,
+            n,
+            0,
+            out,
+        ),
         Choice::Listed(n, place) => list_in(
             striped,
             numbers,

@@ -132,14 +132,7 @@ fn lookup_listed(
 }
 
 // The zone that a position lies in.
-pub fn lookup_by(
-    striped: bool,
-    numbers: &[u32],
-    o: Opened,
-    s: &[u8],
-    lng: f64,
-    lat: f64,
-) -> Found
+pub fn lookup_by(striped: bool, numbers: &[u32], o: Opened, s: &[u8], lng: f64, lat: f64) -> Found
     ensures { λ r. ⌜ foundTold r ≡ lookupBy (wayOf striped (now (numbers .entry))) o (now (s .entry)) lng lat ⌝ }
 {
     let c = reader_cells::candidates(o, s, lng, lat);

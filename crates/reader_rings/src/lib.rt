@@ -262,7 +262,16 @@ fn ring_rest(
         exit: x,
         sum: fields::wide(t.group.points),
     };
-    let w = ops_from(striped, numbers, o, s, p, r.count, fields::wide(r.first) + 1, so);
+    let w = ops_from(
+        striped,
+        numbers,
+        o,
+        s,
+        p,
+        r.count,
+        fields::wide(r.first) + 1,
+        so,
+    );
     match w {
         Rounds::Refused(k) => Went::Refused(k),
         Rounds::On => Went::On,

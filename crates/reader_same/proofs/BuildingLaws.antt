@@ -2,7 +2,7 @@
 -- Assumes nothing.
 use Prim.Native.Nat.{ℕ, zero, suc, _+_, _<_}
 use native.Mathlib.Omega.{arith}
-use mathlib.Core.Path.{_≡_, refl, sym, ap, _∙_}
+use mathlib.Core.Path.{_≡_, refl, ap, _∙_}
 use mathlib.Core.Bool.{_||_}
 use mathlib.Core.List.{List, [], _∷_, _++_}
 use lib.Dec.{leb, ltb}
@@ -33,13 +33,6 @@ module _ (o : Opened) (s : List ℕ) where
         let b = need-inv 49 (ltb (g .count) 2 || withinHeight (g .bbox) (v .bbox)) (boxesWith n c v) l (a .2) in
         let d = then-inv (boxesFrom o s g n (c + 1)) (λ m. ok (v .bbox ∷ m)) l (b .1) in
         (v, a .1, d .0, d .1, ok-inv l (v .bbox ∷ d .0) (d .2))
-
-    pub boxes-length : (n c : ℕ) (l : List BBox) → ok l ≡ boxesFrom o s g n c → length l ≡ n
-    unfolding boxesFrom
-    boxes-length zero c l e = ap length (ok-inv l [] e)
-    boxes-length (suc n) c l e =
-        let b = boxes-inv n c l e in
-        ap length (b .4) ∙ ap suc (boxes-length n (c + 1) (b .2) (b .3))
 
   -- one group, with its record
   pub boxed-inv : (i : ℕ) (g : GroupRecord) (b : Boxed) → ok g ≡ groupAt o s i → ok b ≡ boxedAt o s i → (l : List BBox) × (ok l ≡ boxesFrom o s g (g .count) 0) × (b ≡ record { bbox = g .bbox; chunks = l })

@@ -1,39 +1,35 @@
 -- THEOREM: asked with the numbers built from the record and the file, a group whose box is level with the point is walked by stripes as it is walked plainly.
 -- Assumes nothing.
-use Prim.Native.Nat.{ℕ, zero, suc, _+_, _-_, _*_, _^_, _≤_, _<_, max}
+use Prim.Native.Nat.{ℕ, zero, suc, _+_, _-_, _*_, _^_, _<_}
 use native.Mathlib.Omega.{arith}
 use mathlib.Core.Path.{_≡_, refl, sym, ap, subst, _∙_}
-use mathlib.Core.Bool.{Bool, true, false, cond}
-use mathlib.Core.List.{List, [], _∷_, _++_}
-use borrow.Author.Tests.{lt-ltb, eq-eqb, ne-eqb}
-use lib.Dec.{ltb, eqb}
+use mathlib.Core.Bool.{true}
+use mathlib.Core.List.{List, _∷_, _++_}
 use lib.ListN.{length}
-use lib.IntN.{ℤ, natAbs}
 use lib.Signed.{mag}
 use mir.Syntax.{w32}
 use mir.Val.{hbits}
 use Rattle.basics.specs.Signed.{mag-le}
 use Rattle.plane.specs.declared.Point.{Point}
 use Rattle.answer.specs.Answers.{Answer, ok}
-use Rattle.answer.proofs.AnswersLaws.{ok-inv}
-use Rattle.answer.specs.Walks.{Walk, _yields_, must}
+use Rattle.answer.specs.Walks.{_yields_}
 use Rattle.boxes.specs.declared.BBox.{BBox}
 use Rattle.boxes.specs.Box.{relevant, boxInDomain}
 use Rattle.opened.specs.declared.Opened.{Opened}
 use Rattle.reader_records.specs.declared.GroupRecord.{GroupRecord}
 use Rattle.reader_records.specs.declared.ChunkRecord.{ChunkRecord}
 use Rattle.reader_records.specs.Records.{chunkAt, groupAt}
-use Rattle.reader_groups.specs.Groups.{One, chunksFrom, groupScan}
+use Rattle.reader_groups.specs.Groups.{chunksFrom, groupScan}
 use Rattle.stripes.specs.declared.Striping.{Striping}
-use Rattle.stripes.specs.Stripes.{Boxed, stripeCount, stripingIn, stripingOf, stripeOf, standsIn, chunksIn}
+use Rattle.stripes.specs.Stripes.{Boxed, stripingIn, stripingOf, stripeOf, standsIn, chunksIn}
 use Rattle.stripes.specs.Numbers.{groupNumbers, groupEntry, numbers}
-use Rattle.stripes.proofs.StripesLaws.{stripe-below, stands-at}
-use Rattle.reader_stripes.specs.Building.{boxesFrom, boxedAt, boxedGroups}
-use Rattle.reader_ways.specs.Ways.{heightOf, entryAt, stripeAt, numberedFrom, stripeWalk, stripedScan}
+use Rattle.stripes.proofs.StripesLaws.{stripe-below, stands-at, height-some}
+use Rattle.reader_stripes.specs.Building.{boxesFrom, boxedGroups}
+use Rattle.reader_ways.specs.Ways.{heightOf, stripedScan}
 use Rattle.reader_ways.specs.declared.Entry.{Entry}
-use Rattle.reader_ways.specs.declared.Stripe.{Stripe}
+use Rattle.reader_ways.proofs.WaysLaws.{walk-is, scan-plain, scan-striped}
 use Rattle.reader_same.specs.Same.{Built}
-use Rattle.reader_same.proofs.BuildingLaws.{boxes-inv, boxes-length, boxed-inv, group-among, stripes-inv}
+use Rattle.reader_same.proofs.BuildingLaws.{boxes-inv, boxed-inv, group-among, stripes-inv}
 use Rattle.reader_same.proofs.Lying.{Lies, begins}
 use Rattle.reader_same.proofs.Places.{groupStart, entry-lies, group-stripe}
 use Rattle.reader_same.proofs.Reading.{read-entry, read-none, read-stripe}
@@ -67,17 +63,6 @@ placed o s lent b i g e l f n =
       read = d .1;
       lies = begins lent (length (b .numbers)) (numbers l) (b .kept ∙ n);
     }
-
--- ---- the walk, step by step: a group's entry, and that of a stripe
-module _ (o : Opened) (s lent : List ℕ) (p : Point) (i : ℕ) (g : GroupRecord) (e : Entry) (read : ok e ≡ entryAt lent i) where
-  walk-plain : e .striping .k ≡ 0 → stripedScan lent o s p i g ≡ groupScan o s p g
-  unfolding stripedScan
-  walk-plain h = rw (← read, eq-eqb (e .striping .k) 0 h)
-
-  walk-stripe : 0 < e .striping .k → 0 < e .striping .height → (t : Stripe) → ok t ≡ stripeAt lent (e .first) (stripeOf (e .striping) (heightOf (p .y)))
-      → stripedScan lent o s p i g ≡ numberedFrom o s p g lent (t .count) (t .first)
-  unfolding stripedScan stripeWalk
-  walk-stripe h k t f = rw (← read, ne-eqb (e .striping .k) 0 (λ z. omega arith), lt-ltb 0 (e .striping .height) k, ← f)
 
 -- a group whose chunks' records are all there, from the first on
 scan-from : (o : Opened) (s : List ℕ) (p : Point) (g : GroupRecord) (n : ℕ) (v : ChunkRecord) → g .count ≡ suc n → ok v ≡ chunkAt o s (g .first + 0) → groupScan o s p g ≡ chunksFrom o s p (g .exit) n (g .first + 0) v
@@ -119,20 +104,18 @@ module _ (o : Opened) (s lent : List ℕ) (p : Point) (i : ℕ) (g : GroupRecord
 
   -- a group of one chunk has no stripes
   no-stripes : t .k ≡ 0 → stripedScan lent o s p i g ≡ groupScan o s p g
-  no-stripes h = walk-plain o s lent p i g _ (read-none lent i _ t entry h) refl
+  no-stripes h = sym (scan-plain lent o s p i g _ (read-none lent i _ t entry h) (omega arith))
 
   least-fits : mag (t .least) < 2 ^ hbits w32
   unfolding stripingOf
   least-fits = omega (arith, mag-le (g .bbox .miny), least-small (g .bbox) (group-domain o s i g e))
 
-  has-height : 0 < t .height
-  unfolding stripingOf
-  has-height = omega arith
-
   some-stripes : 0 < t .k → stripedScan lent o s p i g ≡ groupScan o s p g
   some-stripes h =
       let q = group-stripe lent (w .all) (w .before) (w .behind) group (w .lies) (w .is) stripe (stripe-below t (heightOf (p .y)) h) in
-      walk-stripe o s lent p i g _ (read-entry lent i _ t entry h least-fits) h has-height _ (read-stripe lent _ stripe _ (chunksIn t stripe 0 (w .boxes)) (q .entry))
+      let e : Entry = record { striping = t; first = groupStart (w .all) (w .before) } in
+      sym (scan-striped lent o s p i g e (read-entry lent i _ t entry h least-fits) h)
+      ∙ sym (walk-is o s p g lent e (height-some (g .bbox) (length (w .boxes))) (heightOf (p .y)) stripe refl refl _ (read-stripe lent _ stripe _ (chunksIn t stripe 0 (w .boxes)) (q .entry)))
       ∙ walk-lent o s p g lent _ _ (q .chunks)
       ∙ sym all-walked
 

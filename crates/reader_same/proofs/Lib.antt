@@ -9,3 +9,5 @@ pub mod Walking
 pub mod Heights
 pub mod Groups
 pub mod Builds
+pub mod Alike
+pub mod Same

@@ -1,20 +1,15 @@
 -- Where the parts of the built numbers lie (stripes/specs/Numbers): a group's entry, a stripe's entry, a stripe's chunk numbers. Nothing here need be believed.
 -- Assumes nothing.
-use Prim.Native.Nat.{ℕ, zero, suc, _+_, _-_, _*_, _≤_, _<_}
+use Prim.Native.Nat.{ℕ, zero, suc, _+_, _-_, _*_, _<_}
 use native.Mathlib.Omega.{arith}
-use mathlib.Core.Path.{_≡_, refl, sym, ap, ap₂, subst, _∙_}
-use mathlib.Core.Bool.{Bool, true, false, cond}
+use mathlib.Core.Path.{_≡_, refl, sym, ap, subst, _∙_}
 use mathlib.Core.List.{List, [], _∷_, _++_, append-assoc}
-use lib.Dec.{ltb}
 use lib.ListN.{length, length-append}
-use lib.IntN.{ℤ}
-use mir.Syntax.{w32}
-use mir.Val.{ofZ}
-use borrow.Author.Tests.{lt-ltb, le-ltb}
 use Rattle.boxes.specs.declared.BBox.{BBox}
 use Rattle.stripes.specs.declared.Striping.{Striping}
 use Rattle.stripes.specs.Stripes.{Boxed, chunksIn, stripesFrom, stripingIn, groupStripes}
 use Rattle.stripes.specs.Numbers.{low, high, groupNumbers, stripeNumbers, groupEntry, groupEntries, stripeEntries, allStripes, together, numbers}
+use Rattle.stripes.proofs.NeedLaws.{entries-length, stripe-entries-length, stripes-length, group-length}
 use Rattle.reader_same.proofs.Lying.{Lies, lies-left, lies-right, lies-to}
 
 -- ---- entries one after another, each of which says a place; behind each the place moves by so many
@@ -42,14 +37,6 @@ module _ {X : Type 0} (entry : X → ℕ → List ℕ) (size : X → ℕ) where
       let v : Lies xs at (laid l place ++ (entry x (place + moved l) ++ laid m (place + moved l + size x))) = subst (Lies xs at) (f ∙ ap (λ (z : List X). laid z place) e ∙ laid-on l (x ∷ m) place) w in
       let u : Lies xs (at + length (laid l place)) (entry x (place + moved l)) = lies-left xs (at + length (laid l place)) (entry x (place + moved l)) _ (lies-right xs at (laid l place) _ v) in
       lies-to xs (at + length (laid l place)) to (entry x n) (rw h at u) g
-
-  -- each entry of the same width
-  module _ (w : ℕ) (wide : (x : X) (place : ℕ) → length (entry x place) ≡ w) where
-    laid-length : (l : List X) (place : ℕ) → length (laid l place) ≡ w * length l
-    unfolding laid
-    laid-length [] place = omega arith
-    laid-length (x ∷ l) place =
-        length-append (entry x place) (laid l (place + size x)) ∙ ap₂ _+_ (wide x place) (laid-length l (place + size x)) ∙ omega arith
 
 -- ---- the numbers' three parts are laid so
 abbrev entryOf : Boxed → ℕ → List ℕ
@@ -86,21 +73,16 @@ together-moved entry [] = refl
 together-moved entry (t ∷ l) = length-append t (together l) ∙ ap (λ (n : ℕ). length t + n) (together-moved entry l)
 
 -- ---- how many stripes there are
-from-length : (t : Striping) (l : List BBox) (n stripe : ℕ) → length (stripesFrom t l n stripe) ≡ n
-unfolding stripesFrom
-from-length t l zero stripe = refl
-from-length t l (suc n) stripe = ap suc (from-length t l n (stripe + 1))
-
 stripes-on : (l m : List Boxed) → allStripes (l ++ m) ≡ allStripes l ++ allStripes m
 unfolding allStripes
 stripes-on [] m = refl
 stripes-on (g ∷ l) m = ap (λ (t : List (List ℕ)). groupStripes g ++ t) (stripes-on l m) ∙ sym (append-assoc (groupStripes g) (allStripes l) (allStripes m))
 
 stripes-moved : (entry : Boxed → ℕ → List ℕ) (l : List Boxed) → moved entry sizeOf l ≡ stripeNumbers * length (allStripes l)
-unfolding allStripes moved groupStripes
+unfolding allStripes moved
 stripes-moved entry [] = refl
 stripes-moved entry (g ∷ l) =
-    let e : length (groupStripes g ++ allStripes l) ≡ stripingIn g .k + length (allStripes l) = length-append (groupStripes g) (allStripes l) ∙ ap (λ (n : ℕ). n + length (allStripes l)) (from-length (stripingIn g) (g .chunks) (stripingIn g .k) 0) in
+    let e : length (groupStripes g ++ allStripes l) ≡ stripingIn g .k + length (allStripes l) = length-append (groupStripes g) (allStripes l) ∙ ap (λ (n : ℕ). n + length (allStripes l)) (group-length g) in
     ap (λ (n : ℕ). stripeNumbers * stripingIn g .k + n) (stripes-moved entry l) ∙ omega (arith, e)
 
 -- a group's stripe, with those before and behind
@@ -114,15 +96,6 @@ from-on t l (suc n) m stripe =
     let e : suc n + m ≡ suc (n + m) = omega arith in
     let f : stripe + suc n ≡ stripe + 1 + n = omega arith in
     rw (e, f) (ap (λ (u : List (List ℕ)). chunksIn t stripe 0 l ∷ u) (from-on t l n m (stripe + 1)))
-
--- ---- an entry's width
-group-wide : (t : Striping) (place : ℕ) → length (groupEntry t place) ≡ groupNumbers
-unfolding groupEntry
-group-wide t place = go (ltb 0 (t .k))
-  where
-    go : (b : Bool) → length (cond b (ofZ w32 (t .least) ∷ t .height ∷ t .k ∷ low place ∷ high place ∷ []) (0 ∷ 0 ∷ 0 ∷ 0 ∷ 0 ∷ [])) ≡ groupNumbers
-    go true = refl
-    go false = refl
 
 -- ---- where the stripes' entries start, and the chunk numbers; where those entries start that come behind the stripes of l
 abbrev stripesStart : List Boxed → ℕ
@@ -141,13 +114,6 @@ groupPart all = groupEntries all (stripesStart all)
 abbrev stripePart : List Boxed → List ℕ
 stripePart all = stripeEntries (allStripes all) (chunksStart all)
 
-module _ (all : List Boxed) where
-  group-part-length : length (groupPart all) ≡ stripesStart all
-  group-part-length = ap length (groups-laid all (stripesStart all)) ∙ laid-length _ _ groupNumbers (λ g. group-wide (stripingIn g)) all (stripesStart all)
-
-  stripe-part-length : length (stripePart all) ≡ stripeNumbers * length (allStripes all)
-  stripe-part-length = ap length (stripes-laid (allStripes all) (chunksStart all)) ∙ laid-length _ _ stripeNumbers (λ t n. refl) (allStripes all) (chunksStart all)
-
 module _ (xs : List ℕ) (all : List Boxed) (built : Lies xs 0 (numbers all)) where
   fore-lies : Lies xs 0 (groupPart all ++ stripePart all)
   unfolding numbers
@@ -157,31 +123,32 @@ module _ (xs : List ℕ) (all : List Boxed) (built : Lies xs 0 (numbers all)) wh
   groups-lie = lies-left xs 0 (groupPart all) (stripePart all) fore-lies
 
   stripes-lie : Lies xs (stripesStart all) (stripePart all)
-  stripes-lie = lies-to xs _ _ _ (lies-right xs 0 (groupPart all) (stripePart all) fore-lies) (ap (λ (n : ℕ). 0 + n) (group-part-length all) ∙ omega arith)
+  stripes-lie = lies-to xs _ _ _ (lies-right xs 0 (groupPart all) (stripePart all) fore-lies) (ap (λ (n : ℕ). 0 + n) (entries-length all (stripesStart all)) ∙ omega arith)
 
   chunks-lie : Lies xs (chunksStart all) (together (allStripes all))
   unfolding numbers
   chunks-lie =
       lies-to xs _ _ _ (lies-right xs 0 (groupPart all ++ stripePart all) (together (allStripes all)) built)
-      (omega (arith, length-append (groupPart all) (stripePart all), group-part-length all, stripe-part-length all))
+      (omega (arith, length-append (groupPart all) (stripePart all), entries-length all (stripesStart all), stripe-entries-length (allStripes all) (chunksStart all)))
 
   -- a group with the groups before and behind it
   pub entry-lies : (l m : List Boxed) (g : Boxed) → all ≡ l ++ g ∷ m → Lies xs (groupNumbers * length l) (groupEntry (stripingIn g) (groupStart all l))
   entry-lies l m g e =
       laid-at entryOf sizeOf xs 0 (stripesStart all) all l g m e (groupPart all) (groups-laid all (stripesStart all)) groups-lie
-      (groupNumbers * length l) (omega (arith, laid-length entryOf sizeOf groupNumbers (λ g. group-wide (stripingIn g)) l (stripesStart all)))
+      (groupNumbers * length l) (ap (λ (u : List ℕ). 0 + length u) (sym (groups-laid l (stripesStart all))) ∙ omega (arith, entries-length l (stripesStart all)))
       (groupStart all l) (ap (λ (n : ℕ). stripesStart all + n) (stripes-moved entryOf l))
 
   -- a stripe with those before and behind it
   pub stripe-lies : (u w : List (List ℕ)) (t : List ℕ) → allStripes all ≡ u ++ t ∷ w
       → Lies xs (stripesStart all + stripeNumbers * length u) (stripeEntry t (chunksStart all + length (together u))) × Lies xs (chunksStart all + length (together u)) t
-  stripe-lies u w t e =
-      (laid-at stripeEntry length xs (stripesStart all) (chunksStart all) (allStripes all) u t w e (stripePart all) (stripes-laid (allStripes all) (chunksStart all)) stripes-lie
-        (stripesStart all + stripeNumbers * length u) (omega (arith, laid-length stripeEntry length stripeNumbers (λ t n. refl) u (chunksStart all)))
+  stripe-lies u w t e = (
+    laid-at stripeEntry length xs (stripesStart all) (chunksStart all) (allStripes all) u t w e (stripePart all) (stripes-laid (allStripes all) (chunksStart all)) stripes-lie
+        (stripesStart all + stripeNumbers * length u) (ap (λ (m : List ℕ). stripesStart all + length m) (sym (stripes-laid u (chunksStart all))) ∙ ap (λ (n : ℕ). stripesStart all + n) (stripe-entries-length u (chunksStart all)))
         (chunksStart all + length (together u)) (ap (λ (n : ℕ). chunksStart all + n) (sym (together-moved stripeEntry u))),
-      laid-at alone length xs (chunksStart all) 0 (allStripes all) u t w e (together (allStripes all)) (together-laid (allStripes all) 0) chunks-lie
+    laid-at alone length xs (chunksStart all) 0 (allStripes all) u t w e (together (allStripes all)) (together-laid (allStripes all) 0) chunks-lie
         (chunksStart all + length (together u)) (ap (λ (l : List ℕ). chunksStart all + length l) (sym (together-laid u 0)))
-        (0 + moved alone length u) refl)
+        (0 + moved alone length u) refl,
+  )
 
 -- ---- a group's stripe among all stripes
 module _ (l m : List Boxed) (g : Boxed) where
@@ -189,7 +156,7 @@ module _ (l m : List Boxed) (g : Boxed) where
   before stripe = allStripes l ++ stripesFrom (stripingIn g) (g .chunks) stripe 0
 
   before-length : (stripe : ℕ) → length (before stripe) ≡ length (allStripes l) + stripe
-  before-length stripe = length-append (allStripes l) (stripesFrom (stripingIn g) (g .chunks) stripe 0) ∙ ap (λ (n : ℕ). length (allStripes l) + n) (from-length (stripingIn g) (g .chunks) stripe 0)
+  before-length stripe = length-append (allStripes l) (stripesFrom (stripingIn g) (g .chunks) stripe 0) ∙ ap (λ (n : ℕ). length (allStripes l) + n) (stripes-length (stripingIn g) (g .chunks) stripe 0)
 
   abbrev pub numbersIn : ℕ → List ℕ
   numbersIn stripe = chunksIn (stripingIn g) stripe 0 (g .chunks)
@@ -199,7 +166,7 @@ module _ (l m : List Boxed) (g : Boxed) where
   among stripe rest e =
       let z : 0 + stripe ≡ stripe = omega arith in
       let f : groupStripes g ≡ stripesFrom (stripingIn g) (g .chunks) stripe 0 ++ numbersIn stripe ∷ stripesFrom (stripingIn g) (g .chunks) rest (stripe + 1) =
-        ap (λ (n : ℕ). stripesFrom (stripingIn g) (g .chunks) n 0) e ∙ (rw z at (from-on (stripingIn g) (g .chunks) stripe (suc rest) 0)) in
+      ap (λ (n : ℕ). stripesFrom (stripingIn g) (g .chunks) n 0) e ∙ (rw z at (from-on (stripingIn g) (g .chunks) stripe (suc rest) 0)) in
       stripes-on l (g ∷ m)
       ∙ ap (λ (u : List (List ℕ)). allStripes l ++ (u ++ allStripes m)) f
       ∙ ap (λ (u : List (List ℕ)). allStripes l ++ u) (append-assoc (stripesFrom (stripingIn g) (g .chunks) stripe 0) (numbersIn stripe ∷ stripesFrom (stripingIn g) (g .chunks) rest (stripe + 1)) (allStripes m))

@@ -1,7 +1,7 @@
 -- What is known of a directory's record that was answered (reader_records/specs/Records). Nothing here need be believed.
 -- Assumes nothing.
-use Prim.Native.Nat.{ℕ, _<_}
-use mathlib.Core.Path.{_≡_, sym, ap, _∙_}
+use Prim.Native.Nat.{ℕ, _+_, _≤_, _<_}
+use mathlib.Core.Path.{_≡_, ap, _∙_}
 use mathlib.Core.Bool.{Bool, true}
 use mathlib.Core.List.{List}
 use borrow.Author.Tests.{ltb-true}
@@ -16,7 +16,7 @@ use Rattle.opened.specs.Widths.{groupWide, chunkWide}
 use Rattle.reader_records.specs.declared.GroupRecord.{GroupRecord}
 use Rattle.reader_records.specs.declared.ChunkRecord.{ChunkRecord}
 use Rattle.reader_records.specs.Records.{place, recordAt, ruled, groupIn, groupRule, groupAt, chunkIn, chunkRule, chunkAt}
-use Rattle.reader_records.proofs.RecordsLaws.{within-some, group-within, group-box}
+use Rattle.reader_records.proofs.RecordsLaws.{within-some, within-fits, group-within, group-box}
 
 -- its index lies in the directory, and it keeps its rule
 ruled-inv : {A : Type 0} (s : List ℕ) (d : Directory) (w i : ℕ) (read : ℕ → A) (rule : A → Bool) (n : ℕ) (v : A) → ok v ≡ ruled (recordAt s d w i) read rule n → (i < d .count) × (rule v ≡ true)
@@ -38,6 +38,9 @@ module _ (o : Opened) (s : List ℕ) (i : ℕ) where
 
     pub group-domain : boxInDomain (g .bbox) ≡ true
     group-domain = group-box (o .chunks .count) g (group-kept .1)
+
+    pub group-fits : g .first + g .count ≤ o .chunks .count
+    group-fits = within-fits (g .first) (g .count) (o .chunks .count) (group-within (o .chunks .count) g (group-kept .1))
 
     pub group-some : 0 < g .count
     group-some = within-some (g .first) (g .count) (o .chunks .count) (group-within (o .chunks .count) g (group-kept .1))

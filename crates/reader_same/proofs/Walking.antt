@@ -1,16 +1,14 @@
 -- A walk over chunk numbers one after another: as a stripe has them in the lent numbers, and all of a group's. Nothing here need be believed.
 -- Assumes nothing.
-use Prim.Native.Nat.{ℕ, zero, suc, _+_, _-_, _<_}
+use Prim.Native.Nat.{ℕ, zero, suc, _+_, _<_}
 use native.Mathlib.Omega.{arith}
 use mathlib.Core.Path.{_≡_, refl, sym, ap, _∙_}
 use mathlib.Core.Bool.{Bool, true, false, cond, true≢false}
 use mathlib.Core.List.{List, [], _∷_}
 use borrow.Author.Tests.{lt-ltb, le-ltb}
-use lib.Dec.{ltb}
 use lib.ListN.{length}
 use Rattle.plane.specs.declared.Point.{Point}
-use Rattle.plane.specs.declared.I32Point.{I32Point}
-use Rattle.answer.specs.Answers.{Answer, ok}
+use Rattle.answer.specs.Answers.{ok}
 use Rattle.answer.proofs.AnswersLaws.{ok-inv}
 use Rattle.answer.specs.Walks.{Walk, _go_, done}
 use Rattle.boxes.specs.declared.BBox.{BBox}
@@ -20,10 +18,10 @@ use Rattle.reader_records.specs.declared.GroupRecord.{GroupRecord}
 use Rattle.reader_records.specs.declared.ChunkRecord.{ChunkRecord}
 use Rattle.reader_records.specs.Records.{chunkAt}
 use Rattle.reader_groups.proofs.GroupsLaws.{joined-none, last-none}
-use Rattle.reader_groups.specs.Groups.{One, joinedTo, passAt, lastAt, aloneAt, chunksFrom, groupScan}
+use Rattle.reader_groups.specs.Groups.{One, joinedTo, passAt, lastAt, aloneAt, chunksFrom}
 use Rattle.stripes.specs.declared.Striping.{Striping}
 use Rattle.stripes.specs.Stripes.{standsIn, chunksIn}
-use Rattle.reader_ways.specs.Ways.{chunkNumberAt, numbered, numberedFrom}
+use Rattle.reader_ways.specs.Ways.{numbered, numberedFrom}
 use Rattle.reader_stripes.specs.Building.{boxesFrom}
 use Rattle.reader_same.proofs.Going.{done-go, go-done, go-go}
 use Rattle.reader_same.proofs.Lying.{Lies, lies-tail}
