@@ -1,4 +1,4 @@
--- THEOREM: asked with the numbers built from the record and the file, a group whose box is level with the point is walked by stripes as it is walked plainly.
+-- THEOREM: asked with the numbers built from the record and the file, every group of the file is walked by stripes as it is walked plainly, at every point.
 -- Assumes nothing.
 use Prim.Native.Nat.{ℕ, zero, suc, _+_, _-_, _*_, _^_, _<_}
 use native.Mathlib.Omega.{arith}
