@@ -1,4 +1,4 @@
--- Every refusal of a question has a number from 1 to 46: by any way through a group's chunks of which that holds, and so by the plain one.
+-- Every refusal of a question has a number from 1 to 46, by either way through a group's chunks and for any numbers.
 -- Assumes nothing.
 use Prim.Native.Nat.{ℕ, zero, suc, _+_, _-_, _*_, _%_}
 use mathlib.Core.Path.{refl}
@@ -39,9 +39,10 @@ use Rattle.reader_records.specs.declared.GroupRecord.{GroupRecord}
 use Rattle.reader_records.specs.declared.RingRecord.{RingRecord}
 use Rattle.reader_records.specs.Records.{place, recordAt, ruled, listAt, ringAt, countRule, opAt, groupAt, chunkAt}
 use Rattle.reader_chunks.specs.Chunks.{endOf, span, bytesOf, firstIn, scanIn, decodeBy, decodeIn}
-use Rattle.reader_groups.specs.Groups.{nextFirst, skipTo, scanTo, joinedTo, passAt, lastIn, lastAt, chunksFrom, groupScan}
-use Rattle.reader_ways.specs.Ways.{Way, plain, groupScanBy}
-use Rattle.reader_ways.proofs.WaysLaws.{by-plain}
+use Rattle.reader_groups.specs.Groups.{nextFirst, skipTo, scanTo, joinedTo, passAt, lastIn, lastAt, aloneAt, chunksFrom, groupScan}
+use Rattle.reader_ways.specs.Ways.{Way, plain, striped, entryAt, stripeAt, chunkNumberAt, numbered, numberedFrom, stripeWalk, stripedScan, groupScanBy}
+use Rattle.reader_ways.specs.declared.Entry.{Entry}
+use Rattle.stripes.specs.Numbers.{groupNumbers, stripeNumbers}
 use Rattle.reader_rings.specs.declared.Turned.{Turned}
 use Rattle.reader_rings.specs.declared.Round.{Round}
 use Rattle.reader_rings.specs.Rings.{turnedAt, jointOf, groupWalk, turnWalk, opStep, opsFrom, ringEnd, ringRest, ringOf, ringContains}
@@ -126,11 +127,11 @@ module _ (o : Opened) (s : List ℕ) (i : ℕ) where
   unfolding opAt
   op = ruled-35 _ _ _ (record-at s (o .ops) opWide i)
 
-  group : Q (groupAt o s i)
+  pub group : Q (groupAt o s i)
   unfolding groupAt
   group = ruled-34 _ _ _ (record-at s (o .groups) groupWide i)
 
-  chunk : Q (chunkAt o s i)
+  pub chunk : Q (chunkAt o s i)
   unfolding chunkAt
   chunk = ruled-34 _ _ _ (record-at s (o .chunks) chunkWide i)
 
@@ -274,6 +275,48 @@ module _ (o : Opened) (s : List ℕ) where
     unfolding groupScan
     group-of g = yields-t _ _ (chunk o s (g .first)) (λ v. chunks-from (g .exit) _ (g .first) v)
 
+    -- ---- groups by stripes
+    alone : (x : I32Point) (follows : Bool) (i : ℕ) → W (aloneAt o s p x follows i)
+    unfolding aloneAt
+    alone x follows i =
+        yields-t _ _ (chunk o s i) (λ v.
+        either-way W (relevant (v .bbox) p) _ _ (either-way W follows _ _ (go-t _ _ (pass i v) (λ n. walked _ _)) (last i v x)) (walked _ _))
+
+    numbered-q : (g : GroupRecord) (c : ℕ) → W (numbered o s p g c)
+    unfolding numbered
+    numbered-q g c = must-t 34 (ltb c (g .count)) _ refl (alone (g .exit) _ _)
+
+    module _ (numbers : List ℕ) where
+      entry-q : (i : ℕ) → Q (entryAt numbers i)
+      unfolding entryAt
+      entry-q i = need-t 44 (leb (groupNumbers * i + groupNumbers) (length numbers)) _ refl (given _)
+
+      stripe-q : (first stripe : ℕ) → Q (stripeAt numbers first stripe)
+      unfolding stripeAt
+      stripe-q first stripe = need-t 44 (leb (first + stripeNumbers * stripe + stripeNumbers) (length numbers)) _ refl (given _)
+
+      chunk-number : (at : ℕ) → Q (chunkNumberAt numbers at)
+      unfolding chunkNumberAt
+      chunk-number at = need-t 44 (leb (at + 1) (length numbers)) _ refl (given _)
+
+      numbered-from : (g : GroupRecord) (n at : ℕ) → W (numberedFrom o s p g numbers n at)
+      unfolding numberedFrom
+      numbered-from g zero at = walked _ _
+      numbered-from g (suc n) at = yields-t _ _ (chunk-number at) (λ c. go-t _ _ (numbered-q g c) (λ u. numbered-from g n (at + 1)))
+
+      stripe-walk : (g : GroupRecord) (e : Entry) → W (stripeWalk o s p g numbers e)
+      unfolding stripeWalk
+      stripe-walk g e = must-t 34 (ltb 0 (e .striping .height)) _ refl (yields-t _ _ (stripe-q (e .first) _) (λ t. numbered-from g (t .count) (t .first)))
+
+      striped-scan : (i : ℕ) (g : GroupRecord) → W (stripedScan numbers o s p i g)
+      unfolding stripedScan
+      striped-scan i g = yields-t _ _ (entry-q i) (λ e. either-way W (eqb (e .striping .k) 0) _ _ (group-of g) (stripe-walk g e))
+
+    scans : (w : Way) (i : ℕ) (g : GroupRecord) → W (groupScanBy w o s p i g)
+    unfolding groupScanBy
+    scans plain i g = group-of g
+    scans (striped numbers) i g = striped-scan numbers i g
+
     -- ---- rings: what no way changes
     joint : (a b : I32Point) → W (jointOf p a b)
     unfolding jointOf
@@ -320,12 +363,12 @@ module _ (o : Opened) (s : List ℕ) where
   unfolding listFor placed
   list-for places l = before-t _ _ (names-read l) (need-t 46 (atMost (length l) places) _ refl (given _))
 
-  -- ---- by a way of which every group's walk has such numbers
-  module _ (w : Way) (scans : (p : Point) (i : ℕ) (g : GroupRecord) → W (groupScanBy w o s p i g)) where
+  -- ---- by either way
+  module _ (w : Way) where
     module _ (p : Point) where
       group-walk : (i : ℕ) (g : GroupRecord) → W (groupWalk w o s p i g)
       unfolding groupWalk
-      group-walk i g = either-way W (relevant (g .bbox) p) _ _ (either-way W (right (g .bbox) p) _ _ (walked _ _) (scans p i g)) (walked _ _)
+      group-walk i g = either-way W (relevant (g .bbox) p) _ _ (either-way W (right (g .bbox) p) _ _ (walked _ _) (scans p w i g)) (walked _ _)
 
       turn : (a : I32Point) (t : Turned) → W (turnWalk w o s p a t)
       unfolding turnWalk
@@ -398,15 +441,12 @@ module _ (o : Opened) (s : List ℕ) where
     unfolding listBy
     list-by-q lng lat places = then-t _ _ (hits lng lat) (list-for places)
 
-  -- ---- by the plain way
-  plain-scans : (p : Point) (i : ℕ) (g : GroupRecord) → W (groupScanBy plain o s p i g)
-  plain-scans p i g = rw (by-plain o s p i g) (group-of p g)
-
+  -- ---- by the plain one
   pub contains-q : (zone : ℕ) (q : I32Point) → Q (containsAt o s zone q)
-  contains-q = contains-by-q plain plain-scans
+  contains-q = contains-by-q plain
 
   pub lookup-q : (lng lat : Float) → Q (lookupOf o s lng lat)
-  lookup-q = lookup-by-q plain plain-scans
+  lookup-q = lookup-by-q plain
 
   pub list-q : (lng lat : Float) (places : ℕ) → Q (listOf o s lng lat places)
-  list-q = list-by-q plain plain-scans
+  list-q = list-by-q plain
