@@ -17,8 +17,8 @@ use Rattle.answer.specs.declared.Refusal.{Refusal}
 use Rattle.answer.specs.Answers.{Answer, ok, refused, no, _then_, need, howMany, left}
 use Rattle.answer.proofs.AnswersLaws.{then-ok, then-no, then-inv, need-met, need-not, need-inv, ok-inv, zero-one}
 use Rattle.boxes.specs.declared.BBox.{BBox}
-use Rattle.geojson.specs.Over.{over}
-use Rattle.geojson.proofs.OverLaws.{Written, over-on, over-all}
+use Rattle.answer.specs.Over.{over}
+use Rattle.answer.proofs.OverLaws.{Written, over-on, over-all}
 use Rattle.opened.specs.declared.Opened.{Opened}
 use Rattle.reader_records.specs.declared.GroupRecord.{GroupRecord}
 use Rattle.reader_records.specs.declared.ChunkRecord.{ChunkRecord}

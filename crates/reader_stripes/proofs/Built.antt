@@ -12,8 +12,8 @@ use Rattle.answer.specs.declared.Refusal.{Refusal}
 use Rattle.answer.specs.Answers.{Answer, ok, refused, no, _then_, need, howMany, left}
 use Rattle.answer.specs.Refusals.{refusal}
 use Rattle.answer.proofs.AnswersLaws.{then-ok, then-no, then-inv, need-met, need-not, ok-inv, zero-one, many-no, many-is, left-no, left-is}
-use Rattle.geojson.specs.Over.{over}
-use Rattle.geojson.proofs.OverLaws.{over-on, over-all}
+use Rattle.answer.specs.Over.{over}
+use Rattle.answer.proofs.OverLaws.{over-on, over-all}
 use Rattle.opened.specs.declared.Opened.{Opened}
 use Rattle.stripes.specs.Stripes.{Boxed}
 use Rattle.stripes.specs.Numbers.{groupEntries, stripeEntries, allStripes, together, numbers, needOf}

@@ -5,8 +5,8 @@ use native.Mathlib.Omega.{arith}
 use mathlib.Core.Path.{_≡_, refl, sym, ap, ap₂, _∙_}
 use mathlib.Core.List.{List, [], _∷_, _++_, append-assoc, append-nil}
 use lib.ListN.{length, set, length-append, length-set}
-use Rattle.geojson.specs.Over.{over}
-use Rattle.geojson.proofs.OverLaws.{Written, wrote, _behind_, over-none, over-on, over-one, length-over}
+use Rattle.answer.specs.Over.{over}
+use Rattle.answer.proofs.OverLaws.{Written, wrote, _behind_, over-none, over-on, over-one, length-over}
 use Rattle.stripes.specs.Numbers.{low, high, stripeEntries, together}
 use Rattle.reader_stripes.specs.declared.Places.{Places}
 use Rattle.reader_stripes.specs.Steps.{stripeEntry, Rooms, Striped}

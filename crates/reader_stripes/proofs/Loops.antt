@@ -9,8 +9,8 @@ use lib.Dec.{ltb}
 use lib.ListN.{length, set, length-append}
 use Rattle.plane.specs.Runs.{run}
 use Rattle.boxes.specs.declared.BBox.{BBox}
-use Rattle.geojson.specs.Over.{over}
-use Rattle.geojson.proofs.OverLaws.{Written, over-one, over-none}
+use Rattle.answer.specs.Over.{over}
+use Rattle.answer.proofs.OverLaws.{Written, over-one, over-none}
 use Rattle.opened.specs.declared.Opened.{Opened}
 use Rattle.stripes.specs.declared.Striping.{Striping}
 use Rattle.stripes.specs.Stripes.{Boxed, stripingOf, stripingIn, standsIn, chunksIn, stripesFrom, groupStripes}

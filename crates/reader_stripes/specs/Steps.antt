@@ -11,7 +11,7 @@ use lib.ListN.{length}
 use Rattle.plane.specs.Runs.{run}
 use Rattle.answer.specs.Answers.{Answer, ok, refused, _then_, need}
 use Rattle.boxes.specs.declared.BBox.{BBox}
-use Rattle.geojson.specs.Over.{over}
+use Rattle.answer.specs.Over.{over}
 use Rattle.opened.specs.declared.Opened.{Opened}
 use Rattle.reader_records.specs.declared.ChunkRecord.{ChunkRecord}
 use Rattle.reader_records.specs.declared.GroupRecord.{GroupRecord}

@@ -6,7 +6,7 @@ ghost use lib.ListN.{length};
 ghost use mir.Syntax.{w32};
 ghost use mir.Val.{ofZ};
 ghost use Rattle.answer.specs.Answers.{howMany, left};
-ghost use Rattle.geojson.specs.Over.{over};
+ghost use Rattle.answer.specs.Over.{over};
 ghost use Rattle.replies.specs.Replies.{neededTold};
 ghost use Rattle.stripes.specs.Stripes.{chunksIn, stripesFrom};
 ghost use Rattle.stripes.specs.Numbers.{low, high, groupEntry, groupEntries, allStripes, groupNeed};

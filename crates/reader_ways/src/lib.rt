@@ -44,17 +44,6 @@ fn place_in(numbers: &[u32], at: usize) -> usize
     fields::wide(numbers[at]) + 0x1_0000_0000 * fields::wide(numbers[at + 1])
 }
 
-// A number as the height that it keeps.
-fn signed(x: u32) -> i32
-    ensures { λ r. ⌜ r ≡ toZ w32 x ⌝ }
-{
-    if x < 0x8000_0000 {
-        x as i32
-    } else {
-        !((0xffff_ffff - x) as i32)
-    }
-}
-
 // Group i's entry.
 fn entry_at(numbers: &[u32], i: usize) -> EntryAt
     ensures { λ r. ⌜ toldEntry r ≡ entryAt (now (numbers .entry)) i ⌝ }
@@ -64,7 +53,7 @@ fn entry_at(numbers: &[u32], i: usize) -> EntryAt
     }
     let at = 5 * i;
     let striping = Striping {
-        least: signed(numbers[at]),
+        least: fields::signed32(numbers[at]),
         height: numbers[at + 1],
         k: numbers[at + 2],
     };

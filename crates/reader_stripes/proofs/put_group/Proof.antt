@@ -4,7 +4,7 @@ use mathlib.Core.Path.{ap, _∙_}
 use mir.Syntax.{w32}
 use mir.Val.{ofZ}
 use mir.ValLaws.{toZ-ofZ}
-use Rattle.geojson.specs.Over.{over}
+use Rattle.answer.specs.Over.{over}
 use Rattle.reader_stripes.proofs.BuildingLaws.{entry-is, entry-none}
 use native.Mathlib.Omega.{arith}
 use borrow.Author.Needs.{needs}

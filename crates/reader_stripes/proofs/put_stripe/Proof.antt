@@ -2,7 +2,7 @@
 -- Assumes nothing.
 use mathlib.Core.Path.{ap, _∙_}
 use lib.ListN.{length-set}
-use Rattle.geojson.specs.Over.{over}
+use Rattle.answer.specs.Over.{over}
 use Rattle.reader_stripes.proofs.BuildingLaws.{stripe-is}
 use Rattle.reader_stripes.proofs.Laying.{three}
 use native.Mathlib.Omega.{arith}

@@ -18,14 +18,14 @@ returns c = entry-past _ _ _ (omega arith) (c .refuse .ensures)
 mul-at : tie.Need-mul-at
 mul-at c = search needs
 
-mul-signed : tie.Need-mul-signed
-mul-signed c = search needs
+mul-signed32 : tie.Need-mul-signed32
+mul-signed32 c = search needs
 
-shared-slice-read-signed : tie.Need-shared-slice-read-signed
-shared-slice-read-signed c = search needs
+shared-slice-read-signed32 : tie.Need-shared-slice-read-signed32
+shared-slice-read-signed32 c = search needs
 
-signed-requires : tie.Need-signed-requires
-signed-requires c κs = search needs
+signed32-requires : tie.Need-signed32-requires
+signed32-requires c κs = search needs
 
 add-t6 : tie.Need-add-t6
 add-t6 c = search needs
@@ -54,7 +54,7 @@ place-in-requires c κs = search needs
 returns-2 : tie.Need-returns-2
 returns-2 c =
     let r = c .before .before .before in
-    entry-is _ _ (omega arith) _ _ (back w32 (r .signed .result) (r .signed .ok) ∙ r .signed .ensures) (c .place-in .ensures)
+    entry-is _ _ (omega arith) _ _ (back w32 (r .signed32 .result) (r .signed32 .ok) ∙ r .signed32 .ensures) (c .place-in .ensures)
 
 pub entry-at-spec : {M : Type 1} → statement M
 entry-at-spec =
@@ -63,9 +63,9 @@ entry-at-spec =
     refuse-requires
     returns
     mul-at
-    mul-signed
-    shared-slice-read-signed
-    signed-requires
+    mul-signed32
+    shared-slice-read-signed32
+    signed32-requires
     add-t6
     mul-t12
     shared-slice-read-t14

@@ -8,7 +8,7 @@ use mathlib.Core.List.{List, [], _∷_, _++_}
 use native.Mathlib.Numerals.{add-one}
 use lib.ListN.{length, take, drop, getD, set, length-append}
 use lib.Seq.{length-take-le, take-suc, take-all}
-use Rattle.geojson.specs.Over.{over}
+use Rattle.answer.specs.Over.{over}
 
 pub over-none : {A : Type 0} (s : List A) (p : ℕ) → over s p [] ≡ s
 unfolding over
