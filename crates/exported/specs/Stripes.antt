@@ -12,7 +12,7 @@ use lib.Ieee.{Float}
 use lib.ListN.{length, take, drop}
 use Rattle.demands.specs.Words.{InZone}
 use Rattle.exported.specs.Calls.{Tzb-open, Tzb-full-check, Tzb-zone-count, Tzb-contains, Tzb-ask, Tzb-ask-all, Tzb-stripes-need, Tzb-stripes, Tzb-contains-striped, Tzb-ask-striped, Tzb-ask-all-striped}
-use Rattle.exported.specs.Words.{refusing, Refuses, shapeOf}
+use Rattle.exported.specs.Words.{refusing, Refuses, Bytes, shapeOf}
 use Rattle.exported.specs.Demand3.{OneOrZero}
 use Rattle.plane.specs.Places.{point}
 
@@ -39,11 +39,11 @@ pub record BuiltFrom (held file numbers : List ℕ) : Type 0 where
 -- questions by stripes
 pub record StripedAnswers (file : List ℕ) : Type 0 where
   -- each answers as without them, refusals included
-  pub contains : (held numbers : List ℕ) → BuiltFrom held file numbers → (zone : ℕ) (x y r q : ℤ)
+  pub contains : (held numbers : List ℕ) → Bytes held → BuiltFrom held file numbers → (zone : ℕ) (x y r q : ℤ)
       → Tzb-contains held file zone x y r → Tzb-contains-striped held numbers file zone x y q → q ≡ r
-  pub ask : (held numbers : List ℕ) → BuiltFrom held file numbers → (lng lat : Float) (r q : ℤ)
+  pub ask : (held numbers : List ℕ) → Bytes held → BuiltFrom held file numbers → (lng lat : Float) (r q : ℤ)
       → Tzb-ask held file lng lat r → Tzb-ask-striped held numbers file lng lat q → q ≡ r
-  pub ask-all : (held numbers : List ℕ) → BuiltFrom held file numbers → (lng lat : Float) (places : List ℕ) (r q : ℤ) (after after' : List ℕ)
+  pub ask-all : (held numbers : List ℕ) → Bytes held → BuiltFrom held file numbers → (lng lat : Float) (places : List ℕ) (r q : ℤ) (after after' : List ℕ)
       → Tzb-ask-all held file lng lat places r after → Tzb-ask-all-striped held numbers file lng lat places q after' → (q ≡ r) × (after' ≡ after)
   -- Of a file that the full check accepts building is refused for nothing but room.
   pub builds : Tzb-full-check file (pos 0) → (memory after : List ℕ) → Tzb-open file memory (pos 0) after
