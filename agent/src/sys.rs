@@ -21,6 +21,11 @@ mod exports {
         pub fn tzb_decode(record: *const u8, size: usize, file: *const u8, length: usize, chunk: u32, out: *mut i32, room: usize) -> i64;
         pub fn tzb_ask(record: *const u8, size: usize, file: *const u8, length: usize, lng: f64, lat: f64) -> i64;
         pub fn tzb_ask_all(record: *const u8, size: usize, file: *const u8, length: usize, lng: f64, lat: f64, zones: *mut u32, places: usize) -> i64;
+        pub fn tzb_stripes_need(record: *const u8, size: usize, file: *const u8, length: usize) -> i64;
+        pub fn tzb_stripes(record: *const u8, size: usize, file: *const u8, length: usize, numbers: *mut u32, room: usize) -> i64;
+        pub fn tzb_contains_striped(record: *const u8, size: usize, numbers: *const u32, count: usize, file: *const u8, length: usize, zone: u32, x: i32, y: i32) -> i32;
+        pub fn tzb_ask_striped(record: *const u8, size: usize, numbers: *const u32, count: usize, file: *const u8, length: usize, lng: f64, lat: f64) -> i64;
+        pub fn tzb_ask_all_striped(record: *const u8, size: usize, numbers: *const u32, count: usize, file: *const u8, length: usize, lng: f64, lat: f64, zones: *mut u32, places: usize) -> i64;
         pub fn tzb_full_check(file: *const u8, length: usize) -> i32;
         pub fn tzb_full_check_rule(file: *const u8, length: usize) -> u32;
         pub fn tzb_map(file: *const u8, length: usize, zone: u32, out: *mut u8, room: usize) -> i64;
@@ -34,6 +39,20 @@ macro_rules! ask {
         let (record, file): (&Record, &[u8]) = ($record, $file);
         // SAFETY: both are live slices, given by their own pointers and lengths, and so is what more is lent.
         unsafe { exports::$export(record.as_ptr(), record.len(), file.as_ptr(), file.len() $(, $more)*) }
+    }};
+}
+
+/// Calls a question by stripes: one that takes the stripes' numbers between the two.
+macro_rules! ask_striped {
+    ($export:ident, $record:expr, $numbers:expr, $file:expr $(, $more:expr)*) => {{
+        let numbers: &[u32] = $numbers;
+        let (record, file): (&Record, &[u8]) = ($record, $file);
+        // SAFETY: all three are live slices, given by their own pointers and lengths, and so is what more is lent.
+        unsafe {
+            exports::$export(
+                record.as_ptr(), record.len(), numbers.as_ptr(), numbers.len(), file.as_ptr(), file.len() $(, $more)*
+            )
+        }
     }};
 }
 
@@ -65,6 +84,49 @@ pub fn ask(record: &Record, file: &[u8], lng: f64, lat: f64) -> i64 {
 
 pub fn ask_all(record: &Record, file: &[u8], lng: f64, lat: f64, zones: &mut [u32]) -> i64 {
     ask!(tzb_ask_all, record, file, lng, lat, zones.as_mut_ptr(), zones.len())
+}
+
+pub fn stripes_need(record: &Record, file: &[u8]) -> i64 {
+    ask!(tzb_stripes_need, record, file)
+}
+
+pub fn stripes(record: &Record, file: &[u8], numbers: &mut [u32]) -> i64 {
+    ask!(tzb_stripes, record, file, numbers.as_mut_ptr(), numbers.len())
+}
+
+pub fn contains_striped(
+    record: &Record,
+    numbers: &[u32],
+    file: &[u8],
+    zone: u32,
+    x: i32,
+    y: i32,
+) -> i32 {
+    ask_striped!(tzb_contains_striped, record, numbers, file, zone, x, y)
+}
+
+pub fn ask_striped(record: &Record, numbers: &[u32], file: &[u8], lng: f64, lat: f64) -> i64 {
+    ask_striped!(tzb_ask_striped, record, numbers, file, lng, lat)
+}
+
+pub fn ask_all_striped(
+    record: &Record,
+    numbers: &[u32],
+    file: &[u8],
+    lng: f64,
+    lat: f64,
+    zones: &mut [u32],
+) -> i64 {
+    ask_striped!(
+        tzb_ask_all_striped,
+        record,
+        numbers,
+        file,
+        lng,
+        lat,
+        zones.as_mut_ptr(),
+        zones.len()
+    )
 }
 
 pub fn full_check(file: &[u8]) -> i32 {
