@@ -108,3 +108,92 @@ pub(crate) fn stripes(record: &sys::Record, file: &[u8]) -> Stripes {
     numbers.truncate(written);
     Ok(Arc::new(numbers))
 }
+
+#[cfg(test)]
+mod tests {
+    use super::*;
+
+    /// The sample, opened, and how many numbers its stripes take.
+    fn sample() -> (Vec<u8>, sys::Record, usize) {
+        let file = std::fs::read("../sample/real-ne.tzb").unwrap();
+        let mut record = [0; sys::RECORD];
+        assert_eq!(sys::open(&file, &mut record), 0);
+        let need = sys::stripes_need(&record, &file);
+        (file, record, need.try_into().unwrap())
+    }
+
+    /// A position, and the zone that is answered there: in Germany, by the coast of Chile, at sea.
+    const ASKED: [(f64, f64); 3] = [(8.68, 50.11), (-73.5, -47.2), (-30.0, 0.0)];
+
+    #[test]
+    fn what_lies_behind_the_stripes_stays() {
+        let (file, record, need) = sample();
+        let built = stripes(&record, &file).unwrap();
+        assert_eq!(built.len(), need);
+        for more in [0, 1, 1000] {
+            let mut numbers = vec![0xeeee_eeee; need + more];
+            assert_eq!(sys::stripes(&record, &file, &mut numbers), need as i64);
+            assert_eq!(numbers[..need], built[..]);
+            assert!(numbers[need..].iter().all(|&number| number == 0xeeee_eeee), "{more}");
+            for (lng, lat) in ASKED {
+                let asked = sys::ask_striped(&record, &numbers, &file, lng, lat);
+                assert_eq!(asked, sys::ask(&record, &file, lng, lat), "{lng} {lat}");
+            }
+        }
+    }
+
+    #[test]
+    fn room_that_is_too_short_is_46_and_stays() {
+        let (file, record, need) = sample();
+        for room in [0, 1, need / 2, need - 1] {
+            let mut numbers = vec![0xeeee_eeee; room];
+            assert_eq!(sys::stripes(&record, &file, &mut numbers), -1046, "{room}");
+            assert!(numbers.iter().all(|&number| number == 0xeeee_eeee), "{room}");
+        }
+    }
+
+    /// Bytes that are not the file's: no stripes, and no memory is made for any.
+    #[test]
+    fn a_record_of_other_bytes() {
+        let (file, record, _) = sample();
+        for bytes in [&[], &file[..file.len() / 8]] {
+            assert_eq!(sys::stripes_need(&record, bytes), -1044);
+            let Err(WhyPlain::Refused(refusal)) = stripes(&record, bytes) else { panic!() };
+            assert_eq!(refusal.number(), 44);
+        }
+    }
+
+    /// No numbers are no plain question. Where they say that a group has no stripes it is walked plainly.
+    #[test]
+    fn numbers_of_ones_own() {
+        let (file, record, need) = sample();
+        for (lng, lat) in ASKED {
+            let plain = sys::ask(&record, &file, lng, lat);
+            assert!(plain >= 0, "{lng} {lat}");
+            assert_eq!(sys::ask_striped(&record, &vec![0; need], &file, lng, lat), plain);
+        }
+        let inside = |numbers: &[u32]| {
+            sys::contains_striped(&record, numbers, &file, 126, 868_000, 5_011_000)
+        };
+        assert_eq!(sys::contains(&record, &file, 126, 868_000, 5_011_000), 1);
+        assert_eq!([inside(&[]), inside(&vec![u32::MAX; need])], [-1044; 2]);
+    }
+
+    #[test]
+    fn in_words() {
+        let told = |why| Walk::Plain(why).to_string();
+        let striped = Walk::Striped { numbers: 25 };
+        assert_eq!(striped.to_string(), "by stripes: 25 numbers, 100 bytes");
+        assert_eq!(told(WhyPlain::Chosen), "plainly: it was opened so");
+        assert!(
+            told(WhyPlain::TooLarge { numbers: 25 })
+                .ends_with("take 100 bytes, more than the file")
+        );
+        assert!(
+            told(WhyPlain::NoMemory { numbers: 25 }).ends_with("memory for the stripes, 100 bytes")
+        );
+        let refusal = Refusal::new(49);
+        assert_eq!(told(WhyPlain::Refused(refusal)), format!("plainly: {refusal}"));
+        assert_eq!(bytes(usize::MAX), usize::MAX);
+    }
+}
