@@ -5,7 +5,7 @@ mod common;
 use std::cell::Cell;
 use std::sync::Arc;
 
-use common::{Squares, TZDIR, coast, in_chunks, sample, words};
+use common::{GROUPDIR, Squares, TZDIR, changed, coast, in_chunks, sample, start_of, words};
 use tzb::{Index, Refusal, Walk, full_check};
 
 /// What a service keeps: the index of the day, and how often it was replaced.
@@ -123,4 +123,20 @@ fn ask_while_bytes_change(before: &[u8], after: &[u8], from: u32) {
         assert!(index.sections().count() <= index.file().len() / 16);
         assert!(index.grid().is_none() || index.file().len() > 1_000_000);
     }
+}
+
+/// The group has a chunk less after opening, and every stripe of the first bytes names it. So it shows who asks by stripes.
+#[test]
+fn an_index_asks_with_its_stripes() {
+    let before = in_chunks("A", &coast(40));
+    let after = changed(&before, start_of(&before, GROUPDIR) + 8, &words(&[39]));
+    let told = [Index::open, Index::open_checked, Index::open_plain].map(|open| {
+        let (before, after, turn) = (before.clone(), after.clone(), Cell::new(0));
+        let index = open(Changing { turn, from: 1, before, after }).unwrap();
+        let zone = index.zone(0.5, 0.2).map(|_| ());
+        let zones = index.zones(0.5, 0.2).map(|_| ());
+        let inside = index.contains(0, 50_000, 20_000).map(|_| ());
+        [zone, zones, inside].map(|one| one.map_err(|refusal| refusal.number()))
+    });
+    assert_eq!(told, [[Err(34); 3], [Err(34); 3], [Ok(()); 3]]);
 }
