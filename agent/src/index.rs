@@ -118,8 +118,8 @@ impl<B: AsRef<[u8]>> Index<B> {
     /// Opens a file that the [full check](crate::full_check) accepts, and no other.
     ///
     /// Then no question is refused but for a number that is too large, and containment at points of whole
-    /// hundred-thousandths of a degree is that of exact geometry. Both are proved. Stripes are built as
-    /// [`open`](Self::open) does.
+    /// hundred-thousandths of a degree is that of exact geometry. Both are proved. Stripes are built as for
+    /// [`open`](Self::open).
     ///
     /// ```
     /// # fn main() -> Result<(), Box<dyn std::error::Error>> {

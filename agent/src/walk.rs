@@ -122,7 +122,7 @@ mod tests {
         (file, record, need.try_into().unwrap())
     }
 
-    /// A position, and the zone that is answered there: in Germany, by the coast of Chile, at sea.
+    /// In Germany, by the coast of Chile, at sea.
     const ASKED: [(f64, f64); 3] = [(8.68, 50.11), (-73.5, -47.2), (-30.0, 0.0)];
 
     #[test]
