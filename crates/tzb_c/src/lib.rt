@@ -130,7 +130,7 @@ pub extern "C" fn tzb_candidate(record: &[u8], file: &[u8], place: u32) -> i64
 pub extern "C" fn tzb_contains(record: &[u8], file: &[u8], zone: u32, x: i32, y: i32) -> i32
     ensures { λ r. ⌜ r ≡ insideCode (containsAsked (now («record» .entry)) (now (file .entry)) zone (point x y)) ⌝ }
 {
-    let none = [0u32; 1];
+    let none = [0u32; 0];
     tzb_codes::inside_code(tzb_asked::contains_by(false, &none, record, file, zone, x, y))
 }
 
@@ -175,7 +175,7 @@ pub extern "C" fn tzb_lookup(file: &[u8], lng: f64, lat: f64) -> i32
 pub extern "C" fn tzb_ask(record: &[u8], file: &[u8], lng: f64, lat: f64) -> i64
     ensures { λ r. ⌜ r ≡ zoneCode (lookupAsked (now («record» .entry)) (now (file .entry)) lng lat) ⌝ }
 {
-    let none = [0u32; 1];
+    let none = [0u32; 0];
     tzb_codes::zone_code(tzb_asked::lookup_by(false, &none, record, file, lng, lat))
 }
 
@@ -211,7 +211,7 @@ pub extern "C" fn tzb_ask_all(
     ensures { λ r. ⌜ r ≡ numberCode (howMany (listAsked (now («record» .entry)) (now (file .entry)) lng lat (length (now (zones .entry))))) ⌝ }
     ensures memory { λ r. ⌜ now (zones .exit) ≡ left (now (zones .entry)) (listAsked (now («record» .entry)) (now (file .entry)) lng lat (length (now (zones .entry)))) ⌝ }
 {
-    let none = [0u32; 1];
+    let none = [0u32; 0];
     ask_all_by(false, &none, record, file, lng, lat, zones)
 }
 
