@@ -9,7 +9,9 @@ use mathlib.Core.List.{List}
 use lib.Signed.{leZ}
 use Rattle.basics.specs.Truth.{and-r}
 use Rattle.plane.specs.Segment.{seg}
-use Rattle.answer.specs.Answers.{ok, Given}
+use Rattle.answer.specs.declared.Refusal.{Refusal}
+use Rattle.answer.specs.Refusals.{refusal}
+use Rattle.answer.specs.Answers.{ok, refused, Given}
 use Rattle.boxes.specs.declared.BBox.{BBox}
 use Rattle.shapes.specs.Shapes.{covers, zoneIn}
 use Rattle.shapes.specs.Layout.{zoneAt}
@@ -20,12 +22,12 @@ use Rattle.replies.specs.Replies.{accepted}
 use Rattle.stripes.specs.Stripes.{withinHeight}
 use Rattle.stripes.specs.Numbers.{numbers, needOf}
 use Rattle.stripes.proofs.NeedLaws.{need-is}
-use Rattle.reader_stripes.specs.Building.{boxedGroups}
+use Rattle.reader_stripes.specs.Building.{boxedGroups, stripesNeed}
 use Rattle.reader_check.proofs.Facts.{group-covers}
 use Rattle.reader_exact.specs.Directories.{directories}
 use Rattle.reader_same.specs.Same.{Built}
 use Rattle.reader_same.proofs.Ruled.{group-fits}
-use Rattle.reader_same.proofs.Builds.{Under, groups-given, need-given, stripes-given}
+use Rattle.reader_same.proofs.Builds.{Under, groups-given, need-given, stripes-given, need-only}
 use Rattle.reader_same.proofs.Same.{same}
 use Rattle.tzb.specs.Opening.{openOf}
 use Rattle.tzb.specs.FullCheck.{fullCheckOf}
@@ -42,21 +44,26 @@ covered-within : (b c : BBox) → covers b c ≡ true → withinHeight b c ≡ t
 unfolding covers withinHeight
 covered-within b c h = and-r (leZ (b .minx) (c .minx) && leZ (c .maxx) (b .maxx)) (leZ (b .miny) (c .miny) && leZ (c .maxy) (b .maxy)) h
 
--- ---- building
-module _ (file : List ℕ) (o : Opened) (a : Accepted file o) where
+-- ---- building, of a file that opens: every record is there
+module _ (file : List ℕ) (o : Opened) (opened : ok o ≡ openOf file) where
   chunk-given : (i : ℕ) → i < o .chunks .count → Given (chunkAt o file i)
-  chunk-given i h = record { value = _; is = chunk-answered file o (a .f1) i h }
+  chunk-given i h = record { value = _; is = chunk-answered file o opened i h }
 
   group-given : (i : ℕ) → i < o .groups .count → Given (groupAt o file i)
-  group-given i h = record { value = _; is = group-answered file o (a .f1) i h }
+  group-given i h = record { value = _; is = group-answered file o opened i h }
 
+  pub opened-needs : (k : Refusal) → refused k ≡ stripesNeed o file → k ≡ refusal 49
+  opened-needs = need-only o file group-given (λ i h g e c l. chunk-given (g .first + c) (omega (arith, group-fits o file i g e)))
+
+-- ---- and of one that the full check accepts
+module _ (file : List ℕ) (o : Opened) (a : Accepted file o) where
   under : (i : ℕ) → i < o .groups .count → (g : GroupRecord) → ok g ≡ groupAt o file i → (c : ℕ) → c < g .count → Under o file g (g .first + c)
   under i h g e c l =
-      let k = chunk-given (g .first + c) (omega (arith, group-fits o file i g e)) in
+      let k = chunk-given file o (a .f1) (g .first + c) (omega (arith, group-fits o file i g e)) in
       record { chunk = k; within = covered-within (g .bbox) (k .value .bbox) (group-covers o file (a .f5) i h g e (g .first + c) (omega arith) (omega arith) (k .value) (k .is)) }
 
   boxed : Given (boxedGroups o file)
-  boxed = groups-given o file group-given under
+  boxed = groups-given o file (group-given file o (a .f1)) under
 
   pub accepted-builds : Builds o file
   accepted-builds =
@@ -79,4 +86,4 @@ contains-striped file accepts o opened lent b zone h p =
     }
 
 pub demand-3-striped : (file : List ℕ) → Demand3Striped file
-demand-3-striped file = record { builds = λ accepts o opened. accepted-builds file o (accepted-with file accepts o opened); contains = contains-striped file }
+demand-3-striped file = record { needs = opened-needs file; builds = λ accepts o opened. accepted-builds file o (accepted-with file accepts o opened); contains = contains-striped file }

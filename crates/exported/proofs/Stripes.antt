@@ -5,6 +5,7 @@ use native.Mathlib.Omega.{arith}
 use mathlib.Core.Path.{_≡_, refl, sym, ap, subst, _∙_}
 use mathlib.Core.Bool.{Bool, true, false}
 use mathlib.Core.List.{List, [], _∷_, _++_}
+use mathlib.Core.Logic.{_⊎_, inl, inr}
 use lib.IntN.{ℤ, pos}
 use lib.Ieee.{Float}
 use lib.Dec.{leb}
@@ -35,7 +36,7 @@ use Rattle.reader_same.specs.Same.{Built}
 use Rattle.reader_same.proofs.BuildingLaws.{boxes-inv}
 use Rattle.reader_same.proofs.Same.{same}
 use Rattle.demands.proofs.Accepted.{accepted-with}
-use Rattle.demands_striped.proofs.Striped.{accepted-builds}
+use Rattle.demands_striped.proofs.Striped.{accepted-builds, opened-needs}
 use Rattle.tzb.specs.Opening.{openOf, openedIs}
 use Rattle.tzb.specs.FullCheck.{fullCheckOf}
 use Rattle.tzb.proofs.Given.{opened-is}
@@ -235,7 +236,18 @@ module _ (file : List ℕ) (byte : Bytes file) where
     abbrev alike : {A : Type 0} (f g : Opened → Answer A) → ((o : Opened) → Built o file numbers' → f o ≡ g o) → (recordOf held then f) ≡ (recordOf held then g)
     alike = asked-same held file numbers' byte (few-read held bytes) b
 
-  -- the file was opened into memory, and the full check accepted it
+  -- the file was opened into memory
+  needs : (memory after : List ℕ) → Tzb-open file memory (pos 0) after → (r : ℤ) → Tzb-stripes-need (take 84 after) file r → ((n : ℕ) × (r ≡ pos n)) ⊎ (r ≡ refusing 49)
+  unfolding needAsked
+  needs memory after opened r c =
+      let e = need-answer c ∙ ap neededCode (sym (then-ok (recordOf (take 84 after)) (λ o. stripesNeed o file) (openedIs file) (Three.held file byte memory after opened))) in
+      of (stripesNeed (openedIs file) file) e (opened-needs file (openedIs file) (Three.opens file byte memory after opened))
+    where
+      of : (x : Answer ℕ) → r ≡ neededCode x → ((k : Refusal) → refused k ≡ x → k ≡ refusal 49) → ((n : ℕ) × (r ≡ pos n)) ⊎ (r ≡ refusing 49)
+      of (ok n) e h = inl (min n 0x7fff_ffff_ffff_ffff, e)
+      of (refused k) e h = inr (e ∙ ap refusalCode (h k refl) ∙ sym (code-small (refusal 49) (omega arith)))
+
+  -- and the full check accepted it
   module _ (checked : Tzb-full-check file (pos 0)) (memory after : List ℕ) (opened : Tzb-open file memory (pos 0) after) where
     abbrev its : Opened
     its = openedIs file
@@ -280,6 +292,7 @@ module _ (file : List ℕ) (byte : Bytes file) where
         ask-all = λ held numbers' bytes b lng lat places r q after after' c d.
             let e = alike held numbers' bytes b (λ o. listBy (striped numbers') o file lng lat (length places)) (λ o. listOf o file lng lat (length places)) (λ o k. same o file numbers' k .lookup-into lng lat (length places)) in
             (all-striped-answer d ∙ ap (λ (x : Answer (List ℕ)). numberCode (howMany x)) e ∙ sym (all-answer c), all-striped-memory d ∙ ap (left places) e ∙ sym (all-memory c));
+        needs = needs;
         builds = builds;
         exact = λ checked memory after opened numbers' b zones n zone h x y r c. Three.exactly file byte memory after opened checked zones n zone h x y r (asked checked memory after opened numbers' b zone x y r c);
       }

@@ -7,6 +7,7 @@
 use Prim.Native.Nat.{ℕ, _≤_, _<_}
 use mathlib.Core.Path.{_≡_}
 use mathlib.Core.List.{List}
+use mathlib.Core.Logic.{_⊎_}
 use lib.IntN.{ℤ, pos}
 use lib.Ieee.{Float}
 use lib.ListN.{length, take, drop}
@@ -45,6 +46,9 @@ pub record StripedAnswers (file : List ℕ) : Type 0 where
       → Tzb-ask held file lng lat r → Tzb-ask-striped held numbers file lng lat q → q ≡ r
   pub ask-all : (held numbers : List ℕ) → Bytes held → BuiltFrom held file numbers → (lng lat : Float) (places : List ℕ) (r q : ℤ) (after after' : List ℕ)
       → Tzb-ask-all held file lng lat places r after → Tzb-ask-all-striped held numbers file lng lat places q after' → (q ≡ r) × (after' ≡ after)
+  -- Of a file that opens the need is a number, or 49.
+  pub needs : (memory after : List ℕ) → Tzb-open file memory (pos 0) after
+      → (r : ℤ) → Tzb-stripes-need (take 84 after) file r → ((n : ℕ) × (r ≡ pos n)) ⊎ (r ≡ refusing 49)
   -- Of a file that the full check accepts building is refused for nothing but room.
   pub builds : Tzb-full-check file (pos 0) → (memory after : List ℕ) → Tzb-open file memory (pos 0) after
       → (r : ℤ) → Tzb-stripes-need (take 84 after) file r → (n : ℕ) × (r ≡ pos n)

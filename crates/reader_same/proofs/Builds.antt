@@ -2,12 +2,14 @@
 -- Assumes nothing.
 use Prim.Native.Nat.{ℕ, zero, suc, _+_, _≤_, _<_}
 use native.Mathlib.Omega.{arith}
-use mathlib.Core.Path.{_≡_, refl, _∙_}
+use mathlib.Core.Path.{_≡_, refl, sym, _∙_}
 use mathlib.Core.Bool.{Bool, true, false, _||_}
 use mathlib.Core.List.{List, []}
 use lib.Dec.{leb, ltb}
-use Rattle.answer.specs.Answers.{Answer, ok, Given, _then_, need}
-use Rattle.answer.proofs.AnswersLaws.{then-ok, need-met}
+use Rattle.answer.specs.declared.Refusal.{Refusal}
+use Rattle.answer.specs.Refusals.{refusal}
+use Rattle.answer.specs.Answers.{Answer, ok, refused, Given, _then_, need}
+use Rattle.answer.proofs.AnswersLaws.{then-ok, need-met, zero-one}
 use Rattle.opened.specs.declared.Opened.{Opened}
 use Rattle.reader_records.specs.declared.GroupRecord.{GroupRecord}
 use Rattle.reader_records.specs.Records.{chunkAt, groupAt}
@@ -69,3 +71,48 @@ need-given o s g = then-ok (boxedGroups o s) (λ l. ok (needOf l)) (g .value) (g
 pub stripes-given : (o : Opened) (s : List ℕ) (room : ℕ) (g : Given (boxedGroups o s)) → need 46 (leb (needOf (g .value)) room) (ok (numbers (g .value))) ≡ stripesOf o s room
 unfolding stripesOf
 stripes-given o s room g = then-ok (boxedGroups o s) (λ l. need 46 (leb (needOf l) room) (ok (numbers l))) (g .value) (g .is)
+
+-- ---- where every record is there, nothing but 49 is met
+abbrev Only49 : {A : Type 0} → Answer A → Type 0
+Only49 x = (k : Refusal) → refused k ≡ x → k ≡ refusal 49
+
+only-ok : {A : Type 0} (a : A) → Only49 (ok a)
+only-ok a k e = let z : _≡_ {A = ℕ} 0 1 = cc in absurd (zero-one z)
+
+only-given : {A : Type 0} (x : Answer A) → Given x → Only49 x
+only-given x g k e = only-ok (g .value) k (e ∙ sym (g .is))
+
+only-need : {A : Type 0} (b : Bool) (x : Answer A) → Only49 x → Only49 (need 49 b x)
+only-need true x h k e = h k e
+only-need false x h k e = cc
+
+only-then : {A B : Type 0} (x : Answer A) (f : A → Answer B) → Only49 x → ((a : A) → ok a ≡ x → Only49 (f a)) → Only49 (x then f)
+only-then (ok a) f h g k e = g a refl k e
+only-then (refused r) f h g k e = h k e
+
+module _ (o : Opened) (s : List ℕ) where
+  boxes-only : (g : GroupRecord) → ((c : ℕ) → c < g .count → Given (chunkAt o s (g .first + c))) → (n c : ℕ) → c + n ≤ g .count → Only49 (boxesFrom o s g n c)
+  unfolding boxesFrom
+  boxes-only g there zero c h = only-ok []
+  boxes-only g there (suc n) c h =
+      only-then (chunkAt o s (g .first + c)) _ (only-given (chunkAt o s (g .first + c)) (there c (omega arith)))
+      (λ v e. only-need (ltb (g .count) 2 || withinHeight (g .bbox) (v .bbox)) _
+      (only-then (boxesFrom o s g n (c + 1)) _ (boxes-only g there n (c + 1) (omega arith)) (λ l f. only-ok _)))
+
+  module _ (there : (i : ℕ) → i < o .groups .count → Given (groupAt o s i)) (under : (i : ℕ) → i < o .groups .count → (g : GroupRecord) → ok g ≡ groupAt o s i → (c : ℕ) → c < g .count → Given (chunkAt o s (g .first + c))) where
+    boxed-only : (i : ℕ) → i < o .groups .count → Only49 (boxedAt o s i)
+    unfolding boxedAt
+    boxed-only i h =
+        only-then (groupAt o s i) _ (only-given (groupAt o s i) (there i h))
+        (λ g e. only-then (boxesFrom o s g (g .count) 0) _ (boxes-only g (under i h g e) (g .count) 0 (omega arith)) (λ l f. only-ok _))
+
+    from-only : (n i : ℕ) → i + n ≤ o .groups .count → Only49 (boxedFrom o s n i)
+    unfolding boxedFrom
+    from-only zero i h = only-ok []
+    from-only (suc n) i h =
+        only-then (boxedAt o s i) _ (boxed-only i (omega arith))
+        (λ g e. only-then (boxedFrom o s n (i + 1)) _ (from-only n (i + 1) (omega arith)) (λ l f. only-ok _))
+
+    pub need-only : (k : Refusal) → refused k ≡ stripesNeed o s → k ≡ refusal 49
+    unfolding stripesNeed boxedGroups
+    need-only = only-then (boxedFrom o s (o .groups .count) 0) _ (from-only (o .groups .count) 0 (omega arith)) (λ l e. only-ok _)
