@@ -132,25 +132,18 @@ module _ (o : Opened) (s : List ℕ) where
           sym (then-ok (groupAt o s i) (λ (g : GroupRecord). boxesFrom o s g (g .count) 0 then λ l. ok (record { bbox = g .bbox; chunks = l })) g e)
           ∙ ap (λ (x : Answer (List BBox)). x then λ l. ok (record { bbox = g .bbox; chunks = l })) (boxes-gathered g (g .count) 0 (g .first) (omega arith) ∙ ap (λ (u : Striping). gathered (boxAt o s (g .bbox) u) (g .count) (g .first)) (sym f))
 
-      pub group-bad : (r : Refusal) → refused r ≡ added (depthIn t) 0 (gathered (boxAt o s (g .bbox) t) (g .count) (g .first)) → refused r ≡ weighed groupNeed (boxedAt o s i)
-      unfolding weighed added
-      group-bad r h = go (gathered (boxAt o s (g .bbox) t) (g .count) (g .first)) refl h
-        where
-          go : (x : Answer (List BBox)) → gathered (boxAt o s (g .bbox) t) (g .count) (g .first) ≡ x → refused r ≡ added (depthIn t) 0 x → refused r ≡ weighed groupNeed (boxedAt o s i)
-          go (ok l) k h = let z : _≡_ {A = ℕ} 0 1 = cc in absurd (zero-one z)
-          go (refused r') k h = rw (boxed-as, k) h
-
-      pub group-is : (d : ℕ) → ok d ≡ added (depthIn t) 0 (gathered (boxAt o s (g .bbox) t) (g .count) (g .first)) → (n : ℕ) → n ≡ 5 + 3 * t .k + d → ok n ≡ weighed groupNeed (boxedAt o s i)
+      -- its own numbers, behind its entries
+      pub group-is : (x : Answer ℕ) → x ≡ added (depthIn t) (5 + 3 * t .k) (gathered (boxAt o s (g .bbox) t) (g .count) (g .first)) → x ≡ weighed groupNeed (boxedAt o s i)
       unfolding weighed added groupNeed
-      group-is d h n w = go (gathered (boxAt o s (g .bbox) t) (g .count) (g .first)) refl h
+      group-is x h = h ∙ go (gathered (boxAt o s (g .bbox) t) (g .count) (g .first)) refl
         where
-          go : (x : Answer (List BBox)) → gathered (boxAt o s (g .bbox) t) (g .count) (g .first) ≡ x → ok d ≡ added (depthIn t) 0 x → ok n ≡ weighed groupNeed (boxedAt o s i)
-          go (refused r) k h = let z : _≡_ {A = ℕ} 0 1 = cc in absurd (zero-one z)
-          go (ok l) k h =
+          go : (y : Answer (List BBox)) → gathered (boxAt o s (g .bbox) t) (g .count) (g .first) ≡ y → added (depthIn t) (5 + 3 * t .k) y ≡ weighed groupNeed (boxedAt o s i)
+          go (refused r) k = rw (boxed-as, k)
+          go (ok l) k =
               let many : length l ≡ g .count = length-gathered (boxAt o s (g .bbox) t) (g .count) (g .first) l (sym k) in
               let u : t ≡ stripingOf (g .bbox) (length l) = f ∙ ap (stripingOf (g .bbox)) (sym many) in
-              let sum : d ≡ cond (ltb 0 (t .k)) (depths t l) 0 = ok-inv d (0 + weigh (depthIn t) l) h ∙ omega arith ∙ weigh-depths t l in
-              let all : n ≡ 5 + 3 * stripingOf (g .bbox) (length l) .k + cond (ltb 0 (stripingOf (g .bbox) (length l) .k)) (depths (stripingOf (g .bbox) (length l)) l) 0 = w ∙ ap₂ (λ (u : Striping) (j : ℕ). 5 + 3 * u .k + j) u (sum ∙ ap (λ (u : Striping). cond (ltb 0 (u .k)) (depths u l) 0) u) in
+              let all : 5 + 3 * t .k + weigh (depthIn t) l ≡ 5 + 3 * stripingOf (g .bbox) (length l) .k + cond (ltb 0 (stripingOf (g .bbox) (length l) .k)) (depths (stripingOf (g .bbox) (length l)) l) 0 =
+                  ap (λ (j : ℕ). 5 + 3 * t .k + j) (weigh-depths t l) ∙ ap (λ (u : Striping). 5 + 3 * u .k + cond (ltb 0 (u .k)) (depths u l) 0) u in
               rw (boxed-as, k) (ap ok all)
 
   -- ---- all groups
