@@ -5,6 +5,7 @@ use native.Mathlib.Omega.{arith}
 use mathlib.Core.Path.{_≡_, refl, sym, ap, ap₂, _∙_}
 use mathlib.Core.List.{List, [], _∷_, _++_, append-assoc, append-nil}
 use lib.ListN.{length, set, length-append, length-set}
+use lib.Seq.{lt-length-set}
 use Rattle.geojson.specs.Over.{over}
 use Rattle.geojson.proofs.OverLaws.{Written, wrote, _behind_, over-none, over-on, over-one, length-over}
 use Rattle.stripes.specs.Numbers.{low, high, stripeEntries, together}
@@ -45,6 +46,20 @@ module _ (s : List ℕ) (p a b c : ℕ) where
       ∙ over-next (set t (p + 3) d) (p + 4) (p + 5) e [] (omega arith) (omega (arith, length-set t (p + 3) d))
       ∙ over-next t (p + 3) (p + 4) d (e ∷ []) (omega arith) (omega arith)
       ∙ three-and (p + 3) (d ∷ e ∷ []) refl (omega arith)
+
+-- there is room for each
+module _ (s : List ℕ) (p a b c d i : ℕ) (h : i < length s) where
+  pub after-one : i < length (set s p a)
+  after-one = lt-length-set s p a h
+
+  pub after-two : i < length (set (set s p a) (p + 1) b)
+  after-two = lt-length-set (set s p a) (p + 1) b after-one
+
+  pub after-three : i < length (set (set (set s p a) (p + 1) b) (p + 2) c)
+  after-three = lt-length-set (set (set s p a) (p + 1) b) (p + 2) c after-two
+
+  pub after-four : i < length (set (set (set (set s p a) (p + 1) b) (p + 2) c) (p + 3) d)
+  after-four = lt-length-set (set (set (set s p a) (p + 1) b) (p + 2) c) (p + 3) d after-three
 
 -- ---- a list laid piece by piece: what is left of it, the place that comes next, and the numbers so far
 pub record Laying (s : List ℕ) (p : ℕ) (all rest : List ℕ) (q : ℕ) (now : List ℕ) : Type 0 where

@@ -41,8 +41,7 @@ mul-numbers c =
     let l = c .before .before .before .before in
     let start = l .before .before .before .before .before .before in
     let h = chunks-fit _ _ _ _ _ _ (l .before .before .wide .ensures .0) (l .before .wide2 .ensures .0) _ _ (start .pre .2) _ _ _ (l .loop .inv) (chunks-in _ _ _ _ _ _ _ (c .before .before .before .loop-test .taken) _ (c .before .before .box-read .ensures) _ (c .before .stands-in .ensures) (c .if1 .taken)) in
-    let e = laying-same _ _ _ _ _ _ (l .loop .inv) in
-    search needs
+    record { fits = omega (arith, h, laying-same _ _ _ _ _ _ (l .loop .inv), start .good .1 .1 .1 .1 .0 .1) }
 
 slice-write-numbers : tie.Need-slice-write-numbers Inv-loop μ-loop
 slice-write-numbers c =
@@ -59,8 +58,7 @@ add-at c =
     let l = c .before .before .before .before in
     let start = l .before .before .before .before .before .before in
     let h = chunks-fit _ _ _ _ _ _ (l .before .before .wide .ensures .0) (l .before .wide2 .ensures .0) _ _ (start .pre .2) _ _ _ (l .loop .inv) (chunks-in _ _ _ _ _ _ _ (c .before .before .before .loop-test .taken) _ (c .before .before .box-read .ensures) _ (c .before .stands-in .ensures) (c .if1 .taken)) in
-    let e = laying-same _ _ _ _ _ _ (l .loop .inv) in
-    search needs
+    record { fits = omega (arith, h, laying-same _ _ _ _ _ _ (l .loop .inv), start .good .1 .1 .1 .1 .0 .1) }
 
 add-j : tie.Need-add-j Inv-loop μ-loop
 add-j c = search needs

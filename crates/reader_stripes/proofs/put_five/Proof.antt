@@ -1,7 +1,7 @@
 -- `put_five` meets its contract: stores in a row.
 -- Assumes nothing.
-use lib.ListN.{length-set}
-use Rattle.reader_stripes.proofs.Laying.{five}
+use Prim.Native.Nat.{_+_}
+use Rattle.reader_stripes.proofs.Laying.{five, after-one, after-two, after-three, after-four}
 use native.Mathlib.Omega.{arith}
 use borrow.Author.Needs.{needs}
 use Rattle.reader_stripes.proofs.put_five.Statement.{statement}
@@ -27,7 +27,9 @@ mul-numbers-2 c = search needs
 
 -- src/lib.rt:201:5
 slice-write-numbers-2 : tie.Need-slice-write-numbers-2
-slice-write-numbers-2 c = simp length-set (omega arith)
+slice-write-numbers-2 c =
+    let g = c .args in
+    after-one (g .numbers .now) (g .at) (g .a) (g .b) (g .c) (g .d) (g .at + 1) (omega arith)
 
 -- src/lib.rt:202:13
 add-numbers-2 : tie.Need-add-numbers-2
@@ -39,7 +41,9 @@ mul-numbers-3 c = search needs
 
 -- src/lib.rt:202:5
 slice-write-numbers-3 : tie.Need-slice-write-numbers-3
-slice-write-numbers-3 c = simp length-set (omega arith)
+slice-write-numbers-3 c =
+    let g = c .args in
+    after-two (g .numbers .now) (g .at) (g .a) (g .b) (g .c) (g .d) (g .at + 2) (omega arith)
 
 -- src/lib.rt:203:13
 add-numbers-3 : tie.Need-add-numbers-3
@@ -51,7 +55,9 @@ mul-numbers-4 c = search needs
 
 -- src/lib.rt:203:5
 slice-write-numbers-4 : tie.Need-slice-write-numbers-4
-slice-write-numbers-4 c = simp length-set (omega arith)
+slice-write-numbers-4 c =
+    let g = c .args in
+    after-three (g .numbers .now) (g .at) (g .a) (g .b) (g .c) (g .d) (g .at + 3) (omega arith)
 
 -- src/lib.rt:204:13
 add-numbers-4 : tie.Need-add-numbers-4
@@ -63,7 +69,9 @@ mul-numbers-5 c = search needs
 
 -- src/lib.rt:204:5
 slice-write-numbers-5 : tie.Need-slice-write-numbers-5
-slice-write-numbers-5 c = simp length-set (omega arith)
+slice-write-numbers-5 c =
+    let g = c .args in
+    after-four (g .numbers .now) (g .at) (g .a) (g .b) (g .c) (g .d) (g .at + 4) (omega arith)
 
 -- src/lib.rt:196:1
 same-length : tie.Need-same-length

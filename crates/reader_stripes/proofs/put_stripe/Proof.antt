@@ -1,10 +1,10 @@
 -- `put_stripe` meets its contract: stores in a row.
 -- Assumes nothing.
 use mathlib.Core.Path.{ap, _∙_}
-use lib.ListN.{length-set}
+use Prim.Native.Nat.{_+_}
 use Rattle.geojson.specs.Over.{over}
 use Rattle.reader_stripes.proofs.BuildingLaws.{stripe-is}
-use Rattle.reader_stripes.proofs.Laying.{three}
+use Rattle.reader_stripes.proofs.Laying.{three, after-one, after-two}
 use native.Mathlib.Omega.{arith}
 use borrow.Author.Needs.{needs}
 use Rattle.reader_stripes.proofs.put_stripe.Statement.{statement}
@@ -40,7 +40,9 @@ mul-numbers-2 c = search needs
 
 -- src/lib.rt:225:5
 slice-write-numbers-2 : tie.Need-slice-write-numbers-2
-slice-write-numbers-2 c = simp length-set (omega arith)
+slice-write-numbers-2 c =
+    let g = c .before .before .before .args in
+    after-one (g .numbers .now) (g .at) (c .before .low-half .result) (c .high-half .result) 0 0 (g .at + 1) (omega arith)
 
 -- src/lib.rt:226:24
 sub-numbers : tie.Need-sub-numbers
@@ -60,7 +62,9 @@ mul-numbers-3 c = search needs
 
 -- src/lib.rt:226:5
 slice-write-numbers-3 : tie.Need-slice-write-numbers-3
-slice-write-numbers-3 c = simp length-set (omega arith)
+slice-write-numbers-3 c =
+    let g = c .before .before .before .args in
+    after-two (g .numbers .now) (g .at) (c .before .low-half .result) (c .high-half .result) 0 0 (g .at + 2) (omega arith)
 
 -- src/lib.rt:220:1
 same-length : tie.Need-same-length
