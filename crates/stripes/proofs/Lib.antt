@@ -3,3 +3,4 @@ pub mod Heights
 pub mod StripesLaws
 pub mod NeedLaws
 pub mod Determined
+pub mod Worked

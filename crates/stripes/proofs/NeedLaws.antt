@@ -3,13 +3,12 @@
 use Prim.Native.Nat.{ℕ, zero, suc, _+_, _-_, _*_, _/_, _≤_, _<_, min, max}
 use native.Mathlib.Omega.{arith}
 use native.Mathlib.Nat.{mul-le-mul}
-use mathlib.Core.Path.{_≡_, refl, sym, ap, _∙_}
+use mathlib.Core.Path.{_≡_, refl, ap, _∙_}
 use mathlib.Core.Bool.{Bool, true, false, cond, _&&_}
 use mathlib.Core.List.{List, [], _∷_, _++_}
 use borrow.Author.Tests.{ltb-true, ltb-false, leb-true, leb-false}
 use lib.Dec.{leb, ltb}
 use lib.ListN.{length, length-append}
-use lib.IntN.{ℤ}
 use Rattle.basics.specs.Total.{total}
 use Rattle.boxes.specs.declared.BBox.{BBox}
 use Rattle.stripes.specs.declared.Striping.{Striping}
@@ -22,28 +21,28 @@ five : (t : Bool) (a b c d e : ℕ) → length (cond t (a ∷ b ∷ c ∷ d ∷ 
 five true a b c d e = refl
 five false a b c d e = refl
 
-entry-length : (t : Striping) (place : ℕ) → length (groupEntry t place) ≡ groupNumbers
+pub entry-length : (t : Striping) (place : ℕ) → length (groupEntry t place) ≡ groupNumbers
 unfolding groupEntry
 entry-length t place = five (ltb 0 (t .k)) _ _ _ _ _
 
-entries-length : (l : List Boxed) (place : ℕ) → length (groupEntries l place) ≡ groupNumbers * length l
+pub entries-length : (l : List Boxed) (place : ℕ) → length (groupEntries l place) ≡ groupNumbers * length l
 unfolding groupEntries
 entries-length [] place = refl
 entries-length (g ∷ l) place =
     length-append (groupEntry (stripingIn g) place) _ ∙ omega (arith, entry-length (stripingIn g) place, entries-length l (place + stripeNumbers * stripingIn g .k))
 
-stripe-entries-length : (l : List (List ℕ)) (place : ℕ) → length (stripeEntries l place) ≡ stripeNumbers * length l
+pub stripe-entries-length : (l : List (List ℕ)) (place : ℕ) → length (stripeEntries l place) ≡ stripeNumbers * length l
 unfolding stripeEntries
 stripe-entries-length [] place = refl
 stripe-entries-length (t ∷ l) place = omega (arith, stripe-entries-length l (place + length t))
 
 -- ---- the stripes of a group are k
-stripes-length : (t : Striping) (l : List BBox) (n s : ℕ) → length (stripesFrom t l n s) ≡ n
+pub stripes-length : (t : Striping) (l : List BBox) (n s : ℕ) → length (stripesFrom t l n s) ≡ n
 unfolding stripesFrom
 stripes-length t l zero s = refl
 stripes-length t l (suc n) s = ap suc (stripes-length t l n (s + 1))
 
-group-length : (g : Boxed) → length (groupStripes g) ≡ stripingIn g .k
+pub group-length : (g : Boxed) → length (groupStripes g) ≡ stripingIn g .k
 unfolding groupStripes
 group-length g = stripes-length (stripingIn g) (g .chunks) (stripingIn g .k) 0
 
@@ -51,7 +50,7 @@ none-together : length (together []) ≡ 0
 unfolding together
 none-together = refl
 
-together-append : (a b : List (List ℕ)) → length (together (a ++ b)) ≡ length (together a) + length (together b)
+pub together-append : (a b : List (List ℕ)) → length (together (a ++ b)) ≡ length (together a) + length (together b)
 unfolding together
 together-append [] b = omega arith
 together-append (t ∷ a) b = length-append t _ ∙ omega (arith, length-append t (together a), together-append a b)
@@ -124,17 +123,17 @@ module _ (t : Striping) where
         ∙ total-sum (λ s. one (standsIn t s b)) (λ s. length (chunksIn t s (i + 1) l)) (t .k) 0
         ∙ omega (arith, stands b, by-chunks l (i + 1))
 
-    depth-most : (b : BBox) → depth t b ≤ t .k
+    pub depth-most : (b : BBox) → depth t b ≤ t .k
     unfolding depth
     depth-most b = omega (arith, stripe-below t (b .maxy) p)
 
-    depths-most : (l : List BBox) → depths t l ≤ length l * t .k
+    pub depths-most : (l : List BBox) → depths t l ≤ length l * t .k
     unfolding depths
     depths-most [] = omega arith
     depths-most (b ∷ l) = omega (arith, depth-most b, depths-most l)
 
 -- ---- a group
-written : (g : Boxed) → length (together (groupStripes g)) ≡ cond (ltb 0 (stripingIn g .k)) (depths (stripingIn g) (g .chunks)) 0
+pub written : (g : Boxed) → length (together (groupStripes g)) ≡ cond (ltb 0 (stripingIn g .k)) (depths (stripingIn g) (g .chunks)) 0
 unfolding groupStripes
 written g = by-stripes (stripingIn g) (g .chunks) (stripingIn g .k) 0 ∙ go (ltb 0 (stripingIn g .k)) refl
   where
@@ -143,7 +142,7 @@ written g = by-stripes (stripingIn g) (g .chunks) (stripingIn g .k) 0 ∙ go (lt
     go false e = no-total _ _ (omega (arith, ltb-false 0 (stripingIn g .k) e)) 0
 
 -- ---- all groups
-entries-need : (l : List Boxed) → groupNumbers * length l + stripeNumbers * length (allStripes l) + length (together (allStripes l)) ≡ needOf l
+pub entries-need : (l : List Boxed) → groupNumbers * length l + stripeNumbers * length (allStripes l) + length (together (allStripes l)) ≡ needOf l
 unfolding allStripes groupNeed needOf
 entries-need [] = omega (arith, none-together)
 entries-need (g ∷ l) =
@@ -171,7 +170,7 @@ need-is l =
     )
 
 -- ---- how many they are at most: 256 stripes a group, and each chunk in each of them
-count-most : (n : ℕ) → stripeCount n ≤ 256
+pub count-most : (n : ℕ) → stripeCount n ≤ 256
 unfolding stripeCount
 count-most n = go (ltb n 2)
   where
@@ -179,7 +178,7 @@ count-most n = go (ltb n 2)
     go true = omega arith
     go false = omega arith
 
-k-most : (g : Boxed) → stripingIn g .k ≤ 256
+pub k-most : (g : Boxed) → stripingIn g .k ≤ 256
 unfolding stripingOf
 k-most g = count-most (length (g .chunks))
 

@@ -2,11 +2,10 @@
 -- Assumes nothing.
 use Prim.Native.Nat.{ℕ, zero, suc, _+_, _-_, _*_, _/_, _≤_, _<_, min, max}
 use native.Mathlib.Omega.{arith}
-use native.Mathlib.Nat.{div-zero, div-mul-le-self, le-div-iff-mul-le, div-lt-iff-lt-mul, mul-le-mul-right, mul-le-mul-left, mul-lt-mul-of-pos-right, min-eq-left, min-eq-right, mul-comm, mul-le-mul}
-use mathlib.Core.Path.{_≡_, refl, sym, ap, ap₂, _∙_}
-use mathlib.Core.Bool.{true, false, cond, _&&_}
+use native.Mathlib.Nat.{div-zero, div-mul-le-self, le-div-iff-mul-le, div-lt-iff-lt-mul, mul-le-mul-right, mul-lt-mul-of-pos-right, min-eq-left, min-eq-right, mul-comm, mul-le-mul}
+use mathlib.Core.Path.{_≡_, refl, sym, ap₂, _∙_}
+use mathlib.Core.Bool.{true}
 use borrow.Author.Tests.{lt-ltb, le-ltb, le-leb}
-use lib.Dec.{ltb, leb}
 use lib.IntN.{ℤ}
 use lib.Signed.{leZ}
 use Rattle.basics.specs.Truth.{and-i}
@@ -71,6 +70,19 @@ some-stripes n r h e = rw (le-ltb n 2 h) (e, omega arith)
 pub striping-is : (b : BBox) (n : ℕ) (least : ℤ) (up height k : ℕ) → least ≡ b .miny → up ≡ above (b .miny) (b .maxy) → height ≡ max 1 up → k ≡ stripeCount n → record { least = least; height = height; k = k } ≡ stripingOf b n
 unfolding stripingOf
 striping-is b n least up height k e f g h = rw (h, g, f, e)
+
+-- its height is never 0, and it has stripes exactly where it has two chunks or more
+pub height-some : (b : BBox) (n : ℕ) → 0 < stripingOf b n .height
+unfolding stripingOf
+height-some b n = omega arith
+
+pub stripes-some : (b : BBox) (n : ℕ) → 2 ≤ n → 0 < stripingOf b n .k
+unfolding stripingOf
+stripes-some b n h = omega (arith, some-stripes n (max 1 (min (n / 4) 256)) h refl .0)
+
+pub stripes-none : (b : BBox) (n : ℕ) → n < 2 → stripingOf b n .k ≡ 0
+unfolding stripingOf
+stripes-none b n h = sym (no-stripes n h .0)
 
 -- ---- in how many stripes a chunk stands
 pub depth-is : (t : Striping) (b : BBox) (first last r : ℕ) → first ≡ stripeOf t (b .miny) → last ≡ stripeOf t (b .maxy) → last < t .k → r ≡ last + 1 - first → (r ≡ depth t b) × (r ≤ t .k)

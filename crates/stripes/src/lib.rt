@@ -5,7 +5,7 @@ ghost use Rattle.stripes.specs.Stripes.{stripeCount, above, stripingOf, 
 ghost use Rattle.stripes.specs.Numbers.{depth};
 use boxes::BBox;
 
-// How a group is cut into stripes, and which stripe a height lies in.
+// How a group is cut: its least y, its height, how many stripes.
 pub struct Striping {
     pub least: i32,
     pub height: u32,
@@ -26,11 +26,7 @@ fn height_above(least: i32, y: i32) -> u32
 fn at_least_one(x: u32) -> u32
     ensures { λ r. ⌜ r ≡ max 1 x ⌝ }
 {
-    if x < 1 {
-        1
-    } else {
-        x
-    }
+    if x < 1 { 1 } else { x }
 }
 
 fn wide(x: u32) -> u64
@@ -72,7 +68,11 @@ pub fn striping_of(b: BBox, chunks: u16) -> Striping
     ensures { λ r. ⌜ r ≡ stripingOf b chunks ⌝ }
 {
     let height = at_least_one(height_above(b.miny, b.maxy));
-    Striping { least: b.miny, height: height, k: stripe_count(chunks) }
+    Striping {
+        least: b.miny,
+        height: height,
+        k: stripe_count(chunks),
+    }
 }
 
 // The chunk's box lies in the group's in y.
@@ -97,9 +97,5 @@ pub fn depth(t: Striping, b: BBox) -> u32
 {
     let first = stripe_of(t, b.miny);
     let past = stripe_of(t, b.maxy) + 1;
-    if past < first {
-        0
-    } else {
-        past - first
-    }
+    if past < first { 0 } else { past - first }
 }

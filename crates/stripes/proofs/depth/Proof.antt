@@ -1,6 +1,5 @@
 -- `depth` meets its contract: from the stripe of the box's least y to that of its greatest.
 -- Assumes nothing.
-use Prim.Native.Nat.{ℕ}
 use native.Mathlib.Omega.{arith}
 use mathlib.Core.Path.{_≡_, ap, _∙_}
 use mir.Syntax.{w32}

@@ -4,7 +4,6 @@ use mathlib.Core.Path.{ap, ap₂, _∙_}
 use mathlib.Core.Bool.{_&&_}
 use Prim.Native.Nat.{ℕ}
 use lib.Dec.{leb}
-use lib.IntN.{ℤ}
 use mir.Syntax.{w32}
 use borrow.Author.Needs.{needs}
 use Rattle.basics.specs.Signed.{back}

@@ -1,6 +1,5 @@
 -- `stripe_of` meets its contract: the last stripe at the group's height and above, and below it a share of the stripes.
 -- Assumes nothing.
-use Prim.Native.Nat.{_<_}
 use native.Mathlib.Omega.{arith}
 use mathlib.Core.Path.{_≡_, ap₂, _∙_}
 use mir.Syntax.{w32}
