@@ -4,50 +4,35 @@ use Prim.Native.Nat.{ℕ, zero, suc, _+_, _-_, _*_, _≤_, _<_, max, min, _/_}
 use native.Mathlib.Omega.{arith}
 use mathlib.Core.Path.{_≡_, refl, sym, ap, ap₂, _∙_}
 use mathlib.Core.Bool.{Bool, true, false, not, _||_, cond}
-use mathlib.Core.List.{List, [], _∷_, _++_, append-assoc, append-nil}
-use borrow.Author.Tests.{lt-ltb, le-leb, lt-leb}
-use lib.Dec.{ltb, leb}
+use mathlib.Core.List.{List, [], _∷_}
+use borrow.Author.Tests.{lt-ltb}
+use lib.Dec.{ltb}
 use lib.IntN.{pos}
-use lib.ListN.{length, drop, length-append}
+use lib.ListN.{length}
 use mir.Syntax.{w32}
 use mir.Val.{ofZ}
 use Rattle.plane.specs.Runs.{run}
-use Rattle.basics.specs.Picked.{yes-is, no-is}
 use Rattle.answer.specs.declared.Refusal.{Refusal}
-use Rattle.answer.specs.Answers.{Answer, ok, refused, no, _then_, need, howMany, left}
-use Rattle.answer.proofs.AnswersLaws.{then-ok, then-no, then-inv, need-met, need-not, need-inv, ok-inv, zero-one}
+use Rattle.answer.specs.Answers.{Answer, ok, refused, no, _then_, need}
+use Rattle.answer.proofs.AnswersLaws.{then-ok, then-inv, need-inv, ok-inv, zero-one}
 use Rattle.boxes.specs.declared.BBox.{BBox}
-use Rattle.geojson.specs.Over.{over}
-use Rattle.geojson.proofs.OverLaws.{Written, over-on, over-all}
 use Rattle.opened.specs.declared.Opened.{Opened}
 use Rattle.reader_records.specs.declared.GroupRecord.{GroupRecord}
 use Rattle.reader_records.specs.declared.ChunkRecord.{ChunkRecord}
 use Rattle.reader_records.specs.Records.{chunkAt, groupAt}
 use Rattle.stripes.specs.declared.Striping.{Striping}
-use Rattle.stripes.specs.Stripes.{Boxed, stripeCount, stripingOf, stripingIn, withinHeight, stripesFrom, chunksIn, groupStripes, above}
-use Rattle.stripes.specs.Numbers.{low, high, groupEntry, groupEntries, stripeEntries, allStripes, together, numbers, depth, depths, groupNeed, needOf}
-use Rattle.reader_stripes.specs.declared.Places.{Places}
-use Rattle.reader_stripes.specs.declared.Cut.{Cut}
-use Rattle.reader_stripes.specs.Building.{boxesFrom, boxedAt, boxedFrom, boxedGroups, stripesNeed, stripesOf}
-use Rattle.reader_stripes.specs.Steps.{gathered, weigh, weighed, added, boxAt, depthIn, boxOr, boxRead, boxedOr, boxedRead, allRead, boxesOf, CutFrom, stripeEntry, Rooms, Striped}
+use Rattle.stripes.specs.Stripes.{Boxed, stripeCount, stripingOf, withinHeight}
+use Rattle.stripes.specs.Numbers.{low, high, groupEntry, depth, depths, groupNeed, needOf}
+use Rattle.stripes.proofs.StripesLaws.{height-some}
+use Rattle.stripes.proofs.NeedLaws.{count-most}
+use Rattle.reader_stripes.specs.Building.{boxesFrom, boxedAt, boxedFrom, boxedGroups, stripesNeed}
+use Rattle.reader_stripes.specs.Steps.{gathered, weigh, weighed, added, boxAt, depthIn, boxOr, boxRead, boxedOr, boxedRead, allRead, boxesOf, CutFrom, stripeEntry}
 use Rattle.reader_stripes.proofs.Reading.{length-run, length-gathered, gathered-run}
-use Rattle.reader_stripes.proofs.Laying.{length-entries}
 
 -- ---- how a group is cut
-high-enough : (b : BBox) (n : ℕ) → 0 < stripingOf b n .height
-unfolding stripingOf
-high-enough b n = omega arith
-
-few-stripes : (b : BBox) (n : ℕ) → stripingOf b n .k ≤ 256
-unfolding stripingOf stripeCount
-few-stripes b n = go (ltb n 2)
-  where
-    go : (t : Bool) → cond t 0 (max 1 (min (n / 4) 256)) ≤ 256
-    go true = omega arith
-    go false = omega arith
-
 pub cut-well : (t : Striping) (b : BBox) (n : ℕ) → t ≡ stripingOf b n → (0 < t .height) × (t .k ≤ 256)
-cut-well t b n e = rw e (high-enough b n, few-stripes b n)
+unfolding stripingOf
+cut-well t b n e = rw e (height-some b n, count-most n)
 
 -- a group of one chunk has no stripes, any other has
 none-of-one : (b : BBox) (n : ℕ) → ltb n 2 ≡ not (ltb 0 (stripingOf b n .k))

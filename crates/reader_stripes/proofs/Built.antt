@@ -3,36 +3,25 @@
 use Prim.Native.Nat.{ℕ, _+_, _*_, _≤_, _<_}
 use native.Mathlib.Omega.{arith}
 use mathlib.Core.Path.{_≡_, refl, sym, ap, ap₂, _∙_}
-use mathlib.Core.Bool.{true, false}
 use mathlib.Core.List.{List, _++_}
 use borrow.Author.Tests.{le-leb, lt-leb}
 use lib.Dec.{leb}
-use lib.ListN.{length, drop, length-append}
+use lib.ListN.{length, length-append}
 use Rattle.answer.specs.declared.Refusal.{Refusal}
-use Rattle.answer.specs.Answers.{Answer, ok, refused, no, _then_, need, howMany, left}
+use Rattle.answer.specs.Answers.{Answer, ok, refused, _then_, need, howMany, left}
 use Rattle.answer.specs.Refusals.{refusal}
-use Rattle.answer.proofs.AnswersLaws.{then-ok, then-no, then-inv, need-met, need-not, ok-inv, zero-one, many-no, many-is, left-no, left-is}
+use Rattle.answer.proofs.AnswersLaws.{then-ok, then-inv, need-met, need-not, ok-inv, zero-one, many-no, many-is, left-no, left-is}
 use Rattle.geojson.specs.Over.{over}
 use Rattle.geojson.proofs.OverLaws.{over-on, over-all, length-over}
 use Rattle.opened.specs.declared.Opened.{Opened}
 use Rattle.stripes.specs.Stripes.{Boxed}
 use Rattle.stripes.specs.Numbers.{groupEntries, stripeEntries, allStripes, together, numbers, needOf}
-use Rattle.stripes.proofs.NeedLaws.{need-is}
+use Rattle.stripes.proofs.NeedLaws.{entries-length, stripe-entries-length, entries-need, need-is}
 use Rattle.reader_stripes.specs.declared.Places.{Places}
 use Rattle.reader_stripes.specs.Building.{boxedGroups, stripesNeed, stripesOf}
 use Rattle.reader_stripes.specs.Steps.{boxedRead, allRead, allNumbers, Rooms, Striped}
 use Rattle.reader_stripes.proofs.Reading.{length-run}
-use Rattle.reader_stripes.proofs.Laying.{length-entries}
 use Rattle.reader_stripes.proofs.BuildingLaws.{all-again}
-use Rattle.reader_stripes.proofs.Loops.{length-groups}
-
--- how many numbers there are of each kind
-sizes : (l : List Boxed) → 5 * length l + 3 * length (allStripes l) + length (together (allStripes l)) ≡ needOf l
-unfolding numbers
-sizes l =
-    let a = groupEntries l (5 * length l) in
-    let b = stripeEntries (allStripes l) (5 * length l + 3 * length (allStripes l)) in
-    omega (arith, need-is l, length-append (a ++ b) (together (allStripes l)), length-append a b, length-groups l (5 * length l), length-entries (allStripes l) (5 * length l + 3 * length (allStripes l)))
 
 -- the three kinds, one behind the other
 in-a-row : (l : List Boxed) (m mid after : List ℕ) (x y : ℕ) → mid ≡ over m 0 (groupEntries l x) → x ≡ 5 * length l → y ≡ x + 3 * length (allStripes l) → after ≡ over (over mid x (stripeEntries (allStripes l) y)) y (together (allStripes l)) → after ≡ over m 0 (numbers l)
@@ -41,8 +30,8 @@ in-a-row l m mid after x y a b c d =
     let ga = groupEntries l x in
     let sa = stripeEntries (allStripes l) y in
     let ta = together (allStripes l) in
-    let gx : x ≡ 0 + length ga = omega (arith, length-groups l x) in
-    let sy : y ≡ 0 + length (ga ++ sa) = omega (arith, length-groups l x, length-entries (allStripes l) y, length-append ga sa) in
+    let gx : x ≡ 0 + length ga = omega (arith, entries-length l x) in
+    let sy : y ≡ 0 + length (ga ++ sa) = omega (arith, entries-length l x, stripe-entries-length (allStripes l) y, length-append ga sa) in
     d
     ∙ ap (λ (t : List ℕ). over (over t x sa) y ta) a
     ∙ ap₂ (λ (i j : ℕ). over (over (over m 0 ga) i sa) j ta) gx sy
@@ -58,11 +47,11 @@ module _ (o : Opened) (s : List ℕ) where
   -- ---- all numbers are put
   module _ (m : List ℕ) (h : needOf (allRead o s) ≤ length m) where
     pub groups-room : 5 * o .groups .count ≤ length m
-    groups-room = omega (arith, sizes (allRead o s), many-read)
+    groups-room = omega (arith, entries-need (allRead o s), many-read)
 
     module _ (p : Places) (n : ℕ) (d : n ≡ o .groups .count) (f : p .stripe ≡ 5 * n) (g : p .chunk ≡ 5 * o .groups .count + 3 * length (allStripes (allRead o s))) (mid : List ℕ) (k : mid ≡ over m 0 (groupEntries (allRead o s) (5 * o .groups .count))) where
       pub stripes-room : Rooms mid p (allStripes (allRead o s))
-      stripes-room = record { stripes = omega arith; chunks = omega (arith, sizes (allRead o s), many-read, ap length k, length-over m 0 (groupEntries (allRead o s) (5 * o .groups .count))) }
+      stripes-room = record { stripes = omega arith; chunks = omega (arith, entries-need (allRead o s), many-read, ap length k, length-over m 0 (groupEntries (allRead o s) (5 * o .groups .count))) }
 
       pub all-put : (q : Places) (after : List ℕ) → Striped mid p (allStripes (allRead o s)) q after → after ≡ over m 0 (allNumbers o s)
       unfolding allNumbers

@@ -9,6 +9,7 @@ use lib.Seq.{lt-length-set}
 use Rattle.geojson.specs.Over.{over}
 use Rattle.geojson.proofs.OverLaws.{Written, wrote, _behind_, over-none, over-on, over-one, length-over}
 use Rattle.stripes.specs.Numbers.{low, high, stripeEntries, together}
+use Rattle.stripes.proofs.NeedLaws.{stripe-entries-length}
 use Rattle.reader_stripes.specs.declared.Places.{Places}
 use Rattle.reader_stripes.specs.Steps.{stripeEntry, Rooms, Striped}
 
@@ -93,11 +94,6 @@ module _ (s : List ℕ) (p : ℕ) (all : List ℕ) where
         rw d at (g .laid)
 
 -- ---- stripes
-pub length-entries : (l : List (List ℕ)) (place : ℕ) → length (stripeEntries l place) ≡ 3 * length l
-unfolding stripeEntries
-length-entries [] place = refl
-length-entries (t ∷ l) place = omega (arith, length-entries l (place + length t))
-
 pub together-append : (a b : List (List ℕ)) → together (a ++ b) ≡ together a ++ together b
 unfolding together
 together-append [] b = refl
@@ -144,8 +140,8 @@ module _ (m : List ℕ) (p : Places) where
         is =
             g .is
             ∙ ap (λ (l : List ℕ). over (over l (q .stripe) eb) (q .chunk) tb) (f .is)
-            ∙ ap (λ (l : List ℕ). over l (q .chunk) tb) (over-apart (over m (p .stripe) ea) (q .stripe) (p .chunk) eb ta (omega (arith, f .stripe, length-entries b (q .chunk))))
-            ∙ ap₂ (λ (j k : ℕ). over (over (over (over m (p .stripe) ea) j eb) (p .chunk) ta) k tb) (f .stripe ∙ ap (λ (j : ℕ). p .stripe + j) (sym (length-entries a (p .chunk)))) (f .chunk)
+            ∙ ap (λ (l : List ℕ). over l (q .chunk) tb) (over-apart (over m (p .stripe) ea) (q .stripe) (p .chunk) eb ta (omega (arith, f .stripe, stripe-entries-length b (q .chunk))))
+            ∙ ap₂ (λ (j k : ℕ). over (over (over (over m (p .stripe) ea) j eb) (p .chunk) ta) k tb) (f .stripe ∙ ap (λ (j : ℕ). p .stripe + j) (sym (stripe-entries-length a (p .chunk)))) (f .chunk)
             ∙ over-on (over (over m (p .stripe) ea) (p .stripe + length ea) eb) (p .chunk) ta tb
             ∙ ap (λ (l : List ℕ). over l (p .chunk) (ta ++ tb)) (over-on m (p .stripe) ea eb)
             ∙ ap₂ (λ (x y : List ℕ). over (over m (p .stripe) x) (p .chunk) y) (sym (entries-append a b (p .chunk) (q .chunk) (f .chunk))) (sym (together-append a b));
