@@ -128,7 +128,7 @@ module _ (o : Opened) (s : List ℕ) where
               let many : length l ≡ g .count = length-gathered (boxAt o s (g .bbox) t) (g .count) (g .first) l (sym k) in
               let u : t ≡ stripingOf (g .bbox) (length l) = f ∙ ap (stripingOf (g .bbox)) (sym many) in
               let all : 5 + 3 * t .k + weigh (depthIn t) l ≡ 5 + 3 * stripingOf (g .bbox) (length l) .k + cond (ltb 0 (stripingOf (g .bbox) (length l) .k)) (depths (stripingOf (g .bbox) (length l)) l) 0 =
-                  ap (λ (j : ℕ). 5 + 3 * t .k + j) (weigh-depths t l) ∙ ap (λ (u : Striping). 5 + 3 * u .k + cond (ltb 0 (u .k)) (depths u l) 0) u in
+              ap (λ (j : ℕ). 5 + 3 * t .k + j) (weigh-depths t l) ∙ ap (λ (u : Striping). 5 + 3 * u .k + cond (ltb 0 (u .k)) (depths u l) 0) u in
               rw (boxed-as, k) (ap ok all)
 
   -- ---- all groups

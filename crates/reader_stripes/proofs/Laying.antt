@@ -160,18 +160,18 @@ module _ (m : List ℕ) (p : Places) where
       tb = together b
 
 -- ---- stripes laid piece by piece
-pub record Striping-on (m : List ℕ) (p : Places) (all rest : List (List ℕ)) (q : Places) (now : List ℕ) : Type 0 where
+pub record Going (m : List ℕ) (p : Places) (all rest : List (List ℕ)) (q : Places) (now : List ℕ) : Type 0 where
   pub done : List (List ℕ)
   pub whole : done ++ rest ≡ all
   pub laid : Striped m p done q now
 
 module _ (m : List ℕ) (p : Places) (all : List (List ℕ)) where
-  pub on-start : (rest : List (List ℕ)) → rest ≡ all → Striping-on m p all rest p m
-  on-start rest e = record { done = []; whole = e; laid = striped-none m p }
+  pub going-start : (rest : List (List ℕ)) → rest ≡ all → Going m p all rest p m
+  going-start rest e = record { done = []; whole = e; laid = striped-none m p }
 
-  module _ (rest : List (List ℕ)) (q : Places) (now : List ℕ) (g : Striping-on m p all rest q now) where
-    pub on-same : length now ≡ length m
-    on-same = ap length (g .laid .is) ∙ length-over (over m (p .stripe) (stripeEntries (g .done) (p .chunk))) (p .chunk) (together (g .done)) ∙ length-over m (p .stripe) (stripeEntries (g .done) (p .chunk))
+  module _ (rest : List (List ℕ)) (q : Places) (now : List ℕ) (g : Going m p all rest q now) where
+    pub going-same : length now ≡ length m
+    going-same = ap length (g .laid .is) ∙ length-over (over m (p .stripe) (stripeEntries (g .done) (p .chunk))) (p .chunk) (together (g .done)) ∙ length-over m (p .stripe) (stripeEntries (g .done) (p .chunk))
 
     module _ (room : Rooms m p all) where
       many : length (g .done) + length rest ≡ length all
@@ -181,11 +181,11 @@ module _ (m : List ℕ) (p : Places) (all : List (List ℕ)) where
       long = sym (length-append (together (g .done)) (together rest)) ∙ ap length (sym (together-append (g .done) rest)) ∙ ap (λ (l : List (List ℕ)). length (together l)) (g .whole)
 
       -- room for what is left
-      pub on-room : Rooms now q rest
-      on-room = record { stripes = omega (arith, room .stripes, g .laid .stripe, g .laid .chunk, many); chunks = omega (arith, room .chunks, g .laid .chunk, long, on-same) }
+      pub going-room : Rooms now q rest
+      going-room = record { stripes = omega (arith, room .stripes, g .laid .stripe, g .laid .chunk, many); chunks = omega (arith, room .chunks, g .laid .chunk, long, going-same) }
 
-      pub on-on : (a more : List (List ℕ)) (r : Places) (after : List ℕ) → rest ≡ a ++ more → Striped now q a r after → Striping-on m p all more r after
-      on-on a more r after e k =
+      pub going-on : (a more : List (List ℕ)) (r : Places) (after : List ℕ) → rest ≡ a ++ more → Striped now q a r after → Going m p all more r after
+      going-on a more r after e k =
           record {
             done = g .done ++ a;
             whole = append-assoc (g .done) a more ∙ ap (λ (t : List (List ℕ)). g .done ++ t) (sym e) ∙ g .whole;
@@ -193,8 +193,8 @@ module _ (m : List ℕ) (p : Places) (all : List (List ℕ)) where
           }
 
     -- none is left
-    pub on-end : rest ≡ [] → Striped m p all q now
-    on-end e =
+    pub going-end : rest ≡ [] → Striped m p all q now
+    going-end e =
         let d : g .done ≡ all = sym (append-nil (g .done)) ∙ ap (λ (t : List (List ℕ)). g .done ++ t) (sym e) ∙ g .whole in
         rw d at (g .laid)
 

@@ -1,4 +1,5 @@
 // The stripes of an opened file, built into lent numbers. First all is read and the numbers needed are added up, with every refusal; then it is read again and written.
+// A group takes at most 16,777,733 numbers (5, 3 for each of 256 stripes, and each of 65,535 chunks in each of them), and there are fewer than 2^32 groups: no sum and no place wraps.
 ghost use mathlib.Core.Path.{_≡_};
 ghost use mathlib.Core.List.{[], _∷_};
 ghost use Prim.Native.Nat.{_+_, _*_, _≤_, _<_};
@@ -206,7 +207,15 @@ fn put_group(numbers: &mut [u32], at: usize, t: Striping, place: usize)
     ensures { λ _. ⌜ now (numbers .exit) ≡ over (now (numbers .entry)) at (groupEntry t place) ⌝ }
 {
     if 0 < t.k {
-        put_five(numbers, at, bits32(t.least), t.height, t.k, low_half(place), high_half(place));
+        put_five(
+            numbers,
+            at,
+            bits32(t.least),
+            t.height,
+            t.k,
+            low_half(place),
+            high_half(place),
+        );
         return;
     }
     put_five(numbers, at, 0, 0, 0, 0, 0);
@@ -243,14 +252,7 @@ fn put_groups(o: Opened, s: &[u8], numbers: &mut [u32]) -> usize
 }
 
 // The numbers of a group's chunks that stand in a stripe; the place behind them.
-fn put_chunks(
-    o: Opened,
-    s: &[u8],
-    c: Cut,
-    stripe: u32,
-    numbers: &mut [u32],
-    from: usize,
-) -> usize
+fn put_chunks(o: Opened, s: &[u8], c: Cut, stripe: u32, numbers: &mut [u32], from: usize) -> usize
     requires { ⌜ (0 < c .striping .height) × (0 < c .striping .k) × (from + length (chunksIn (c .striping) stripe 0 (boxesOf o (now s) c)) ≤ length (now numbers)) ⌝ }
     ensures { λ r. ⌜ (r ≡ from + length (chunksIn (c .striping) stripe 0 (boxesOf o (now (s .entry)) c))) × (r < from + 0x1_0000_0000) × (now (numbers .exit) ≡ over (now (numbers .entry)) from (chunksIn (c .striping) stripe 0 (boxesOf o (now (s .entry)) c))) ⌝ }
 {
@@ -271,14 +273,7 @@ fn put_chunks(
 }
 
 // A stripe: its chunk numbers and its entry.
-fn put_one(
-    o: Opened,
-    s: &[u8],
-    c: Cut,
-    stripe: u32,
-    numbers: &mut [u32],
-    p: Places,
-) -> Places
+fn put_one(o: Opened, s: &[u8], c: Cut, stripe: u32, numbers: &mut [u32], p: Places) -> Places
     requires { ⌜ (0 < c .striping .height) × (0 < c .striping .k) × Rooms (now numbers) p (chunksIn (c .striping) stripe 0 (boxesOf o (now s) c) ∷ []) ⌝ }
     ensures { λ r. ⌜ Striped (now (numbers .entry)) p (chunksIn (c .striping) stripe 0 (boxesOf o (now (s .entry)) c) ∷ []) r (now (numbers .exit)) ⌝ }
 {
