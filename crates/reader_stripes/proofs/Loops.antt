@@ -21,6 +21,10 @@ use Rattle.reader_stripes.proofs.Laying.{Laying, laying-start, laying-s
 use Rattle.reader_stripes.proofs.Reading.{length-run}
 use Rattle.reader_stripes.proofs.BuildingLaws.{cut-well}
 
+-- one is left less
+pub less : (n i : ℕ) → i < n → n - (i + 1) < n - i
+less n i h = omega arith
+
 -- ---- what stands at the places that are left
 module _ {A : Type 0} (f : ℕ → A) (n i : ℕ) where
   run-on : (b c d : ℕ) → c ≡ b + i → d ≡ b + (i + 1) → i < n → run f (n - i) c ≡ f c ∷ run f (n - (i + 1)) d

@@ -12,6 +12,10 @@ use Rattle.answer.specs.Answers.{Answer, ok, refused, _then_}
 use Rattle.answer.proofs.AnswersLaws.{then-ok, then-inv, ok-inv, zero-one}
 use Rattle.reader_stripes.specs.Steps.{gathered, weigh, weighed, added, upTo}
 
+-- one is left less
+pub one-fewer : (n : ℕ) → 0 < n → n - 1 < n
+one-fewer n h = omega arith
+
 -- a bound of what was told
 pub up-to : (most d : ℕ) (x : Answer ℕ) → x ≡ ok d → upTo most x → d ≤ most
 up-to most d x e h = rw e at h

@@ -5,7 +5,7 @@ use mathlib.Core.Path.{refl, sym, ap, _∙_}
 use native.Mathlib.Omega.{arith}
 use Rattle.replies.specs.Replies.{neededTold}
 use Rattle.reader_stripes.specs.Steps.{boxAt, depthIn}
-use Rattle.reader_stripes.proofs.Reading.{up-to, Adding, adding-start, adding-small, adding-no, adding-on, adding-end, adding-most}
+use Rattle.reader_stripes.proofs.Reading.{one-fewer, up-to, Adding, adding-start, adding-small, adding-no, adding-on, adding-end, adding-most}
 use borrow.Author.Needs.{needs}
 use Rattle.reader_stripes.proofs.chunks_need.Statement.{statement}
 use Rattle.reader_stripes.proofs.chunks_need.Tie as tie
@@ -63,7 +63,7 @@ sub-left : tie.Need-sub-left Inv-loop μ-loop
 sub-left c = search needs
 
 loop-less : tie.Need-loop-less Inv-loop μ-loop
-loop-less c = search needs
+loop-less c = one-fewer _ (c .before .before .before .before .loop-test .taken)
 
 loop-again : tie.Need-loop-again Inv-loop μ-loop
 loop-again c =

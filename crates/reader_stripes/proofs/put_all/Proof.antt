@@ -7,7 +7,7 @@ use Rattle.stripes.specs.Numbers.{allStripes}
 use Rattle.reader_stripes.specs.Steps.{allRead}
 use Rattle.reader_stripes.proofs.Laying.{Going, going-start, going-same, going-room, going-on, going-end, room-first}
 use Rattle.reader_stripes.proofs.Built.{groups-room, stripes-room, all-put}
-use Rattle.reader_stripes.proofs.Loops.{groupsLeft, groups-all, stripes-cut, stripes-none, cut-high}
+use Rattle.reader_stripes.proofs.Loops.{less, groupsLeft, groups-all, stripes-cut, stripes-none, cut-high}
 use borrow.Author.Needs.{needs}
 use Rattle.reader_stripes.proofs.put_all.Statement.{statement}
 use Rattle.reader_stripes.proofs.put_all.Tie as tie
@@ -49,7 +49,7 @@ add-i : tie.Need-add-i Inv-loop μ-loop
 add-i c = search needs
 
 loop-less : tie.Need-loop-less Inv-loop μ-loop
-loop-less c = search needs
+loop-less c = less _ _ (c .before .before .before .before .before .loop-test .taken)
 
 loop-again : tie.Need-loop-again Inv-loop μ-loop
 loop-again c =

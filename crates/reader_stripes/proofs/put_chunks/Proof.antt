@@ -5,7 +5,7 @@ use mathlib.Core.Path.{refl}
 use mathlib.Core.Logic.{⊎-elim}
 use native.Mathlib.Omega.{arith}
 use Rattle.reader_stripes.proofs.Laying.{Laying, laying-start, laying-same}
-use Rattle.reader_stripes.proofs.Loops.{chunksLeft, chunks-in, chunks-took, chunks-passed, chunks-fit, chunks-put}
+use Rattle.reader_stripes.proofs.Loops.{less, chunksLeft, chunks-in, chunks-took, chunks-passed, chunks-fit, chunks-put}
 use borrow.Author.Needs.{needs}
 use Rattle.reader_stripes.proofs.put_chunks.Statement.{statement}
 use Rattle.reader_stripes.proofs.put_chunks.Tie as tie
@@ -64,7 +64,7 @@ add-j : tie.Need-add-j Inv-loop μ-loop
 add-j c = search needs
 
 loop-less : tie.Need-loop-less Inv-loop μ-loop
-loop-less c = search needs
+loop-less c = less _ _ (c .before .before .before .loop-test .taken)
 
 loop-again : tie.Need-loop-again Inv-loop μ-loop
 loop-again c =

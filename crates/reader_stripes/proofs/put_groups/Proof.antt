@@ -2,7 +2,7 @@
 -- Assumes nothing.
 use Prim.Native.Nat.{ℕ, _-_, _*_}
 use mathlib.Core.Path.{ap}
-use Rattle.reader_stripes.proofs.Loops.{Entering, entering-start, entering-same, entering-on, entering-place, entering-end, cut-high}
+use Rattle.reader_stripes.proofs.Loops.{less, Entering, entering-start, entering-same, entering-on, entering-place, entering-end, cut-high}
 use native.Mathlib.Omega.{arith}
 use borrow.Author.Needs.{needs}
 use Rattle.reader_stripes.proofs.put_groups.Statement.{statement}
@@ -50,7 +50,7 @@ add-i : tie.Need-add-i Inv-loop μ-loop
 add-i c = search needs
 
 loop-less : tie.Need-loop-less Inv-loop μ-loop
-loop-less c = search needs
+loop-less c = less _ _ (c .before .before .before .before .before .before .before .loop-test .taken)
 
 loop-again : tie.Need-loop-again Inv-loop μ-loop
 loop-again c =

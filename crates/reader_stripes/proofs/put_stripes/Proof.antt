@@ -6,7 +6,7 @@ use native.Mathlib.Omega.{arith}
 use Rattle.stripes.specs.Stripes.{stripesFrom}
 use Rattle.reader_stripes.specs.Steps.{boxesOf}
 use Rattle.reader_stripes.proofs.Laying.{Going, going-start, going-same, going-room, going-on, going-end, room-first}
-use Rattle.reader_stripes.proofs.Loops.{stripes-all, stripes-on, stripes-off}
+use Rattle.reader_stripes.proofs.Loops.{less, stripes-all, stripes-on, stripes-off}
 use borrow.Author.Needs.{needs}
 use Rattle.reader_stripes.proofs.put_stripes.Statement.{statement}
 use Rattle.reader_stripes.proofs.put_stripes.Tie as tie
@@ -36,7 +36,7 @@ add-i : tie.Need-add-i Inv-loop μ-loop
 add-i c = search needs
 
 loop-less : tie.Need-loop-less Inv-loop μ-loop
-loop-less c = search needs
+loop-less c = less _ _ (c .before .before .before .before .loop-test .taken)
 
 loop-again : tie.Need-loop-again Inv-loop μ-loop
 loop-again c =

@@ -5,7 +5,7 @@ use native.Mathlib.Omega.{arith}
 use Rattle.replies.specs.Replies.{neededTold}
 use Rattle.stripes.specs.Numbers.{groupNeed}
 use Rattle.reader_stripes.specs.Building.{boxedAt}
-use Rattle.reader_stripes.proofs.Reading.{up-to, Adding, adding-start, adding-small, adding-no, adding-on, adding-end}
+use Rattle.reader_stripes.proofs.Reading.{one-fewer, up-to, Adding, adding-start, adding-small, adding-no, adding-on, adding-end}
 use Rattle.reader_stripes.proofs.BuildingLaws.{need-sum}
 use borrow.Author.Needs.{needs}
 use Rattle.reader_stripes.proofs.stripes_need.Statement.{statement}
@@ -53,7 +53,7 @@ sub-left : tie.Need-sub-left Inv-loop μ-loop
 sub-left c = search needs
 
 loop-less : tie.Need-loop-less Inv-loop μ-loop
-loop-less c = search needs
+loop-less c = one-fewer _ (c .before .before .before .before .loop-test .taken)
 
 loop-again : tie.Need-loop-again Inv-loop μ-loop
 loop-again c =
