@@ -2,7 +2,7 @@
 -- Assumes nothing.
 use Prim.Native.Nat.{ℕ, zero, suc, _+_, _≤_, _<_}
 use native.Mathlib.Omega.{arith}
-use mathlib.Core.Path.{_≡_, refl, sym, _∙_}
+use mathlib.Core.Path.{_≡_, refl, sym, ap, _∙_}
 use mathlib.Core.Bool.{Bool, true, false, _||_}
 use mathlib.Core.List.{List, []}
 use lib.Dec.{leb, ltb}
@@ -88,7 +88,10 @@ only-need false x h k e = cc
 
 only-then : {A B : Type 0} (x : Answer A) (f : A → Answer B) → Only49 x → ((a : A) → ok a ≡ x → Only49 (f a)) → Only49 (x then f)
 only-then (ok a) f h g k e = g a refl k e
-only-then (refused r) f h g k e = h k e
+only-then {A} {B} (refused r) f h g k e = h k (again r k e)
+  where
+    again : (r k : Refusal) → _≡_ {A = Answer B} (refused k) (refused r) → _≡_ {A = Answer A} (refused k) (refused r)
+    again r k e = let z : k ≡ r = cc in ap refused z
 
 module _ (o : Opened) (s : List ℕ) where
   boxes-only : (g : GroupRecord) → ((c : ℕ) → c < g .count → Given (chunkAt o s (g .first + c))) → (n c : ℕ) → c + n ≤ g .count → Only49 (boxesFrom o s g n c)

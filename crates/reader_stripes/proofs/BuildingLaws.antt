@@ -4,50 +4,35 @@ use Prim.Native.Nat.{ℕ, zero, suc, _+_, _-_, _*_, _≤_, _<_, max, min, _/_}
 use native.Mathlib.Omega.{arith}
 use mathlib.Core.Path.{_≡_, refl, sym, ap, ap₂, _∙_}
 use mathlib.Core.Bool.{Bool, true, false, not, _||_, cond}
-use mathlib.Core.List.{List, [], _∷_, _++_, append-assoc, append-nil}
-use borrow.Author.Tests.{lt-ltb, le-leb, lt-leb}
-use lib.Dec.{ltb, leb}
+use mathlib.Core.List.{List, [], _∷_}
+use borrow.Author.Tests.{lt-ltb}
+use lib.Dec.{ltb}
 use lib.IntN.{pos}
-use lib.ListN.{length, drop, length-append}
+use lib.ListN.{length}
 use mir.Syntax.{w32}
 use mir.Val.{ofZ}
 use Rattle.plane.specs.Runs.{run}
-use Rattle.basics.specs.Picked.{yes-is, no-is}
 use Rattle.answer.specs.declared.Refusal.{Refusal}
-use Rattle.answer.specs.Answers.{Answer, ok, refused, no, _then_, need, howMany, left}
-use Rattle.answer.proofs.AnswersLaws.{then-ok, then-no, then-inv, need-met, need-not, need-inv, ok-inv, zero-one}
+use Rattle.answer.specs.Answers.{Answer, ok, refused, no, _then_, need}
+use Rattle.answer.proofs.AnswersLaws.{then-ok, then-inv, need-inv, ok-inv, zero-one}
 use Rattle.boxes.specs.declared.BBox.{BBox}
-use Rattle.answer.specs.Over.{over}
-use Rattle.answer.proofs.OverLaws.{Written, over-on, over-all}
 use Rattle.opened.specs.declared.Opened.{Opened}
 use Rattle.reader_records.specs.declared.GroupRecord.{GroupRecord}
 use Rattle.reader_records.specs.declared.ChunkRecord.{ChunkRecord}
 use Rattle.reader_records.specs.Records.{chunkAt, groupAt}
 use Rattle.stripes.specs.declared.Striping.{Striping}
-use Rattle.stripes.specs.Stripes.{Boxed, stripeCount, stripingOf, stripingIn, withinHeight, stripesFrom, chunksIn, groupStripes, above}
-use Rattle.stripes.specs.Numbers.{low, high, groupEntry, groupEntries, stripeEntries, allStripes, together, numbers, depth, depths, groupNeed, needOf}
-use Rattle.reader_stripes.specs.declared.Places.{Places}
-use Rattle.reader_stripes.specs.declared.Cut.{Cut}
-use Rattle.reader_stripes.specs.Building.{boxesFrom, boxedAt, boxedFrom, boxedGroups, stripesNeed, stripesOf}
-use Rattle.reader_stripes.specs.Steps.{gathered, weigh, weighed, added, boxAt, depthIn, boxOr, boxRead, boxedOr, boxedRead, allRead, boxesOf, CutFrom, stripeEntry, Rooms, Striped}
+use Rattle.stripes.specs.Stripes.{Boxed, stripeCount, stripingOf, withinHeight}
+use Rattle.stripes.specs.Numbers.{low, high, groupEntry, depth, depths, groupNeed, needOf}
+use Rattle.stripes.proofs.StripesLaws.{height-some}
+use Rattle.stripes.proofs.NeedLaws.{count-most}
+use Rattle.reader_stripes.specs.Building.{boxesFrom, boxedAt, boxedFrom, boxedGroups, stripesNeed}
+use Rattle.reader_stripes.specs.Steps.{gathered, weigh, weighed, added, boxAt, depthIn, boxOr, boxRead, boxedOr, boxedRead, allRead, boxesOf, CutFrom, stripeEntry}
 use Rattle.reader_stripes.proofs.Reading.{length-run, length-gathered, gathered-run}
-use Rattle.reader_stripes.proofs.Laying.{length-entries}
 
 -- ---- how a group is cut
-high-enough : (b : BBox) (n : ℕ) → 0 < stripingOf b n .height
-unfolding stripingOf
-high-enough b n = omega arith
-
-few-stripes : (b : BBox) (n : ℕ) → stripingOf b n .k ≤ 256
-unfolding stripingOf stripeCount
-few-stripes b n = go (ltb n 2)
-  where
-    go : (t : Bool) → cond t 0 (max 1 (min (n / 4) 256)) ≤ 256
-    go true = omega arith
-    go false = omega arith
-
 pub cut-well : (t : Striping) (b : BBox) (n : ℕ) → t ≡ stripingOf b n → (0 < t .height) × (t .k ≤ 256)
-cut-well t b n e = rw e (high-enough b n, few-stripes b n)
+unfolding stripingOf
+cut-well t b n e = rw e (height-some b n, count-most n)
 
 -- a group of one chunk has no stripes, any other has
 none-of-one : (b : BBox) (n : ℕ) → ltb n 2 ≡ not (ltb 0 (stripingOf b n .k))
@@ -132,25 +117,18 @@ module _ (o : Opened) (s : List ℕ) where
           sym (then-ok (groupAt o s i) (λ (g : GroupRecord). boxesFrom o s g (g .count) 0 then λ l. ok (record { bbox = g .bbox; chunks = l })) g e)
           ∙ ap (λ (x : Answer (List BBox)). x then λ l. ok (record { bbox = g .bbox; chunks = l })) (boxes-gathered g (g .count) 0 (g .first) (omega arith) ∙ ap (λ (u : Striping). gathered (boxAt o s (g .bbox) u) (g .count) (g .first)) (sym f))
 
-      pub group-bad : (r : Refusal) → refused r ≡ added (depthIn t) 0 (gathered (boxAt o s (g .bbox) t) (g .count) (g .first)) → refused r ≡ weighed groupNeed (boxedAt o s i)
-      unfolding weighed added
-      group-bad r h = go (gathered (boxAt o s (g .bbox) t) (g .count) (g .first)) refl h
-        where
-          go : (x : Answer (List BBox)) → gathered (boxAt o s (g .bbox) t) (g .count) (g .first) ≡ x → refused r ≡ added (depthIn t) 0 x → refused r ≡ weighed groupNeed (boxedAt o s i)
-          go (ok l) k h = let z : _≡_ {A = ℕ} 0 1 = cc in absurd (zero-one z)
-          go (refused r') k h = rw (boxed-as, k) h
-
-      pub group-is : (d : ℕ) → ok d ≡ added (depthIn t) 0 (gathered (boxAt o s (g .bbox) t) (g .count) (g .first)) → (n : ℕ) → n ≡ 5 + 3 * t .k + d → ok n ≡ weighed groupNeed (boxedAt o s i)
+      -- its own numbers, behind its entries
+      pub group-is : (x : Answer ℕ) → x ≡ added (depthIn t) (5 + 3 * t .k) (gathered (boxAt o s (g .bbox) t) (g .count) (g .first)) → x ≡ weighed groupNeed (boxedAt o s i)
       unfolding weighed added groupNeed
-      group-is d h n w = go (gathered (boxAt o s (g .bbox) t) (g .count) (g .first)) refl h
+      group-is x h = h ∙ go (gathered (boxAt o s (g .bbox) t) (g .count) (g .first)) refl
         where
-          go : (x : Answer (List BBox)) → gathered (boxAt o s (g .bbox) t) (g .count) (g .first) ≡ x → ok d ≡ added (depthIn t) 0 x → ok n ≡ weighed groupNeed (boxedAt o s i)
-          go (refused r) k h = let z : _≡_ {A = ℕ} 0 1 = cc in absurd (zero-one z)
-          go (ok l) k h =
+          go : (y : Answer (List BBox)) → gathered (boxAt o s (g .bbox) t) (g .count) (g .first) ≡ y → added (depthIn t) (5 + 3 * t .k) y ≡ weighed groupNeed (boxedAt o s i)
+          go (refused r) k = rw (boxed-as, k)
+          go (ok l) k =
               let many : length l ≡ g .count = length-gathered (boxAt o s (g .bbox) t) (g .count) (g .first) l (sym k) in
               let u : t ≡ stripingOf (g .bbox) (length l) = f ∙ ap (stripingOf (g .bbox)) (sym many) in
-              let sum : d ≡ cond (ltb 0 (t .k)) (depths t l) 0 = ok-inv d (0 + weigh (depthIn t) l) h ∙ omega arith ∙ weigh-depths t l in
-              let all : n ≡ 5 + 3 * stripingOf (g .bbox) (length l) .k + cond (ltb 0 (stripingOf (g .bbox) (length l) .k)) (depths (stripingOf (g .bbox) (length l)) l) 0 = w ∙ ap₂ (λ (u : Striping) (j : ℕ). 5 + 3 * u .k + j) u (sum ∙ ap (λ (u : Striping). cond (ltb 0 (u .k)) (depths u l) 0) u) in
+              let all : 5 + 3 * t .k + weigh (depthIn t) l ≡ 5 + 3 * stripingOf (g .bbox) (length l) .k + cond (ltb 0 (stripingOf (g .bbox) (length l) .k)) (depths (stripingOf (g .bbox) (length l)) l) 0 =
+              ap (λ (j : ℕ). 5 + 3 * t .k + j) (weigh-depths t l) ∙ ap (λ (u : Striping). 5 + 3 * u .k + cond (ltb 0 (u .k)) (depths u l) 0) u in
               rw (boxed-as, k) (ap ok all)
 
   -- ---- all groups

@@ -5,9 +5,11 @@ use native.Mathlib.Omega.{arith}
 use mathlib.Core.Path.{_≡_, refl, sym, ap, ap₂, _∙_}
 use mathlib.Core.List.{List, [], _∷_, _++_, append-assoc, append-nil}
 use lib.ListN.{length, set, length-append, length-set}
+use lib.Seq.{lt-length-set}
 use Rattle.answer.specs.Over.{over}
 use Rattle.answer.proofs.OverLaws.{Written, wrote, _behind_, over-none, over-on, over-one, length-over}
 use Rattle.stripes.specs.Numbers.{low, high, stripeEntries, together}
+use Rattle.stripes.proofs.NeedLaws.{stripe-entries-length}
 use Rattle.reader_stripes.specs.declared.Places.{Places}
 use Rattle.reader_stripes.specs.Steps.{stripeEntry, Rooms, Striped}
 
@@ -46,6 +48,20 @@ module _ (s : List ℕ) (p a b c : ℕ) where
       ∙ over-next t (p + 3) (p + 4) d (e ∷ []) (omega arith) (omega arith)
       ∙ three-and (p + 3) (d ∷ e ∷ []) refl (omega arith)
 
+-- there is room for each
+module _ (s : List ℕ) (p a b c d i : ℕ) (h : i < length s) where
+  pub after-one : i < length (set s p a)
+  after-one = lt-length-set s p a h
+
+  pub after-two : i < length (set (set s p a) (p + 1) b)
+  after-two = lt-length-set (set s p a) (p + 1) b after-one
+
+  pub after-three : i < length (set (set (set s p a) (p + 1) b) (p + 2) c)
+  after-three = lt-length-set (set (set s p a) (p + 1) b) (p + 2) c after-two
+
+  pub after-four : i < length (set (set (set (set s p a) (p + 1) b) (p + 2) c) (p + 3) d)
+  after-four = lt-length-set (set (set (set s p a) (p + 1) b) (p + 2) c) (p + 3) d after-three
+
 -- ---- a list laid piece by piece: what is left of it, the place that comes next, and the numbers so far
 pub record Laying (s : List ℕ) (p : ℕ) (all rest : List ℕ) (q : ℕ) (now : List ℕ) : Type 0 where
   pub done : List ℕ
@@ -78,11 +94,6 @@ module _ (s : List ℕ) (p : ℕ) (all : List ℕ) where
         rw d at (g .laid)
 
 -- ---- stripes
-pub length-entries : (l : List (List ℕ)) (place : ℕ) → length (stripeEntries l place) ≡ 3 * length l
-unfolding stripeEntries
-length-entries [] place = refl
-length-entries (t ∷ l) place = omega (arith, length-entries l (place + length t))
-
 pub together-append : (a b : List (List ℕ)) → together (a ++ b) ≡ together a ++ together b
 unfolding together
 together-append [] b = refl
@@ -129,8 +140,8 @@ module _ (m : List ℕ) (p : Places) where
         is =
             g .is
             ∙ ap (λ (l : List ℕ). over (over l (q .stripe) eb) (q .chunk) tb) (f .is)
-            ∙ ap (λ (l : List ℕ). over l (q .chunk) tb) (over-apart (over m (p .stripe) ea) (q .stripe) (p .chunk) eb ta (omega (arith, f .stripe, length-entries b (q .chunk))))
-            ∙ ap₂ (λ (j k : ℕ). over (over (over (over m (p .stripe) ea) j eb) (p .chunk) ta) k tb) (f .stripe ∙ ap (λ (j : ℕ). p .stripe + j) (sym (length-entries a (p .chunk)))) (f .chunk)
+            ∙ ap (λ (l : List ℕ). over l (q .chunk) tb) (over-apart (over m (p .stripe) ea) (q .stripe) (p .chunk) eb ta (omega (arith, f .stripe, stripe-entries-length b (q .chunk))))
+            ∙ ap₂ (λ (j k : ℕ). over (over (over (over m (p .stripe) ea) j eb) (p .chunk) ta) k tb) (f .stripe ∙ ap (λ (j : ℕ). p .stripe + j) (sym (stripe-entries-length a (p .chunk)))) (f .chunk)
             ∙ over-on (over (over m (p .stripe) ea) (p .stripe + length ea) eb) (p .chunk) ta tb
             ∙ ap (λ (l : List ℕ). over l (p .chunk) (ta ++ tb)) (over-on m (p .stripe) ea eb)
             ∙ ap₂ (λ (x y : List ℕ). over (over m (p .stripe) x) (p .chunk) y) (sym (entries-append a b (p .chunk) (q .chunk) (f .chunk))) (sym (together-append a b));
@@ -149,18 +160,18 @@ module _ (m : List ℕ) (p : Places) where
       tb = together b
 
 -- ---- stripes laid piece by piece
-pub record Striping-on (m : List ℕ) (p : Places) (all rest : List (List ℕ)) (q : Places) (now : List ℕ) : Type 0 where
+pub record Going (m : List ℕ) (p : Places) (all rest : List (List ℕ)) (q : Places) (now : List ℕ) : Type 0 where
   pub done : List (List ℕ)
   pub whole : done ++ rest ≡ all
   pub laid : Striped m p done q now
 
 module _ (m : List ℕ) (p : Places) (all : List (List ℕ)) where
-  pub on-start : (rest : List (List ℕ)) → rest ≡ all → Striping-on m p all rest p m
-  on-start rest e = record { done = []; whole = e; laid = striped-none m p }
+  pub going-start : (rest : List (List ℕ)) → rest ≡ all → Going m p all rest p m
+  going-start rest e = record { done = []; whole = e; laid = striped-none m p }
 
-  module _ (rest : List (List ℕ)) (q : Places) (now : List ℕ) (g : Striping-on m p all rest q now) where
-    pub on-same : length now ≡ length m
-    on-same = ap length (g .laid .is) ∙ length-over (over m (p .stripe) (stripeEntries (g .done) (p .chunk))) (p .chunk) (together (g .done)) ∙ length-over m (p .stripe) (stripeEntries (g .done) (p .chunk))
+  module _ (rest : List (List ℕ)) (q : Places) (now : List ℕ) (g : Going m p all rest q now) where
+    pub going-same : length now ≡ length m
+    going-same = ap length (g .laid .is) ∙ length-over (over m (p .stripe) (stripeEntries (g .done) (p .chunk))) (p .chunk) (together (g .done)) ∙ length-over m (p .stripe) (stripeEntries (g .done) (p .chunk))
 
     module _ (room : Rooms m p all) where
       many : length (g .done) + length rest ≡ length all
@@ -170,11 +181,11 @@ module _ (m : List ℕ) (p : Places) (all : List (List ℕ)) where
       long = sym (length-append (together (g .done)) (together rest)) ∙ ap length (sym (together-append (g .done) rest)) ∙ ap (λ (l : List (List ℕ)). length (together l)) (g .whole)
 
       -- room for what is left
-      pub on-room : Rooms now q rest
-      on-room = record { stripes = omega (arith, room .stripes, g .laid .stripe, g .laid .chunk, many); chunks = omega (arith, room .chunks, g .laid .chunk, long, on-same) }
+      pub going-room : Rooms now q rest
+      going-room = record { stripes = omega (arith, room .stripes, g .laid .stripe, g .laid .chunk, many); chunks = omega (arith, room .chunks, g .laid .chunk, long, going-same) }
 
-      pub on-on : (a more : List (List ℕ)) (r : Places) (after : List ℕ) → rest ≡ a ++ more → Striped now q a r after → Striping-on m p all more r after
-      on-on a more r after e k =
+      pub going-on : (a more : List (List ℕ)) (r : Places) (after : List ℕ) → rest ≡ a ++ more → Striped now q a r after → Going m p all more r after
+      going-on a more r after e k =
           record {
             done = g .done ++ a;
             whole = append-assoc (g .done) a more ∙ ap (λ (t : List (List ℕ)). g .done ++ t) (sym e) ∙ g .whole;
@@ -182,8 +193,8 @@ module _ (m : List ℕ) (p : Places) (all : List (List ℕ)) where
           }
 
     -- none is left
-    pub on-end : rest ≡ [] → Striped m p all q now
-    on-end e =
+    pub going-end : rest ≡ [] → Striped m p all q now
+    going-end e =
         let d : g .done ≡ all = sym (append-nil (g .done)) ∙ ap (λ (t : List (List ℕ)). g .done ++ t) (sym e) ∙ g .whole in
         rw d at (g .laid)
 

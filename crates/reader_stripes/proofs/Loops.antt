@@ -1,25 +1,29 @@
 -- What the loops that write keep: the chunks of a stripe, the stripes of a group, the entries and the stripes of all groups. Nothing here need be believed.
 -- Assumes nothing.
-use Prim.Native.Nat.{ℕ, zero, suc, _+_, _-_, _*_, _≤_, _<_}
+use Prim.Native.Nat.{ℕ, suc, _+_, _-_, _*_, _≤_, _<_}
 use native.Mathlib.Omega.{arith}
 use mathlib.Core.Path.{_≡_, refl, sym, ap, ap₂, _∙_}
 use mathlib.Core.Bool.{Bool, true, false, cond}
 use mathlib.Core.List.{List, [], _∷_, _++_}
-use lib.Dec.{ltb}
 use lib.ListN.{length, set, length-append}
 use Rattle.plane.specs.Runs.{run}
 use Rattle.boxes.specs.declared.BBox.{BBox}
 use Rattle.answer.specs.Over.{over}
-use Rattle.answer.proofs.OverLaws.{Written, over-one, over-none}
+use Rattle.answer.proofs.OverLaws.{over-one, over-none}
 use Rattle.opened.specs.declared.Opened.{Opened}
 use Rattle.stripes.specs.declared.Striping.{Striping}
-use Rattle.stripes.specs.Stripes.{Boxed, stripingOf, stripingIn, standsIn, chunksIn, stripesFrom, groupStripes}
-use Rattle.stripes.specs.Numbers.{low, high, groupEntry, groupEntries, allStripes}
+use Rattle.stripes.specs.Stripes.{Boxed, stripingIn, standsIn, chunksIn, stripesFrom, groupStripes}
+use Rattle.stripes.specs.Numbers.{groupEntry, groupEntries, allStripes}
+use Rattle.stripes.proofs.NeedLaws.{entry-length, group-length}
 use Rattle.reader_stripes.specs.declared.Cut.{Cut}
 use Rattle.reader_stripes.specs.Steps.{boxRead, boxedRead, allRead, boxesOf, CutFrom}
 use Rattle.reader_stripes.proofs.Laying.{Laying, laying-start, laying-same, laying-room, laying-on, laying-end}
 use Rattle.reader_stripes.proofs.Reading.{length-run}
 use Rattle.reader_stripes.proofs.BuildingLaws.{cut-well}
+
+-- one is left less
+pub less : (n i : ℕ) → i < n → n - (i + 1) < n - i
+less n i h = omega arith
 
 -- ---- what stands at the places that are left
 module _ {A : Type 0} (f : ℕ → A) (n i : ℕ) where
@@ -125,28 +129,6 @@ pub cut-high : (o : Opened) (s : List ℕ) (i : ℕ) (c : Cut) → CutFrom o s i
 cut-high o s i c e = cut-well (c .striping) _ _ (e .striping)
 
 -- ---- all groups, from group i on
-length-stripes : (t : Striping) (l : List BBox) (n i : ℕ) → length (stripesFrom t l n i) ≡ n
-unfolding stripesFrom
-length-stripes t l zero i = refl
-length-stripes t l (suc n) i = ap suc (length-stripes t l n (i + 1))
-
-length-group : (g : Boxed) → length (groupStripes g) ≡ stripingIn g .k
-unfolding groupStripes
-length-group g = length-stripes (stripingIn g) (g .chunks) (stripingIn g .k) 0
-
-length-entry : (t : Striping) (place : ℕ) → length (groupEntry t place) ≡ 5
-unfolding groupEntry
-length-entry t place = go (ltb 0 (t .k)) _ _ _ _ _
-  where
-    go : (b : Bool) (v w x y z : ℕ) → length (cond b (v ∷ w ∷ x ∷ y ∷ z ∷ []) (0 ∷ 0 ∷ 0 ∷ 0 ∷ 0 ∷ [])) ≡ 5
-    go true v w x y z = refl
-    go false v w x y z = refl
-
-pub length-groups : (l : List Boxed) (place : ℕ) → length (groupEntries l place) ≡ 5 * length l
-unfolding groupEntries
-length-groups [] place = refl
-length-groups (g ∷ l) place = omega (arith, length-append (groupEntry (stripingIn g) place) (groupEntries l (place + 3 * stripingIn g .k)), length-entry (stripingIn g) place, length-groups l (place + 3 * stripingIn g .k))
-
 module _ (o : Opened) (s : List ℕ) where
   unfoldable pub groupsLeft : ℕ → List Boxed
   groupsLeft i = run (boxedRead o s) (o .groups .count - i) i
@@ -207,7 +189,7 @@ module _ (o : Opened) (s : List ℕ) where
       entering-on h c e after f k d =
           let t : c .striping ≡ stripingIn (boxedRead o s i) = e .striping in
           let same : k ≡ stripingIn (boxedRead o s i) .k = d ∙ ap (λ (u : Striping). u .k) t in
-          let many : length (allStripes (groupsLeft i)) ≡ stripingIn (boxedRead o s i) .k + length (allStripes (groupsLeft (i + 1))) = ap length (stripes-one i h) ∙ length-append (groupStripes (boxedRead o s i)) (allStripes (groupsLeft (i + 1))) ∙ ap (λ (j : ℕ). j + length (allStripes (groupsLeft (i + 1)))) (length-group (boxedRead o s i)) in
+          let many : length (allStripes (groupsLeft i)) ≡ stripingIn (boxedRead o s i) .k + length (allStripes (groupsLeft (i + 1))) = ap length (stripes-one i h) ∙ length-append (groupStripes (boxedRead o s i)) (allStripes (groupsLeft (i + 1))) ∙ ap (λ (j : ℕ). j + length (allStripes (groupsLeft (i + 1)))) (group-length (boxedRead o s i)) in
           record {
             few = omega (arith, g .few, cut-high o s i c e .1);
             place-on = omega (arith, g .place-on);
@@ -218,7 +200,7 @@ module _ (o : Opened) (s : List ℕ) where
                 (5 * (i + 1))
                 after
                 (entries-one i h place ∙ ap (λ (j : ℕ). groupEntry (stripingIn (boxedRead o s i)) place ++ groupEntries (groupsLeft (i + 1)) (place + 3 * j)) (sym same))
-                (omega (arith, length-entry (stripingIn (boxedRead o s i)) place))
+                (omega (arith, entry-length (stripingIn (boxedRead o s i)) place))
                 (f ∙ ap (λ (u : Striping). over now (5 * i) (groupEntry u place)) t);
           }
 

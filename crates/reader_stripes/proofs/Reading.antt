@@ -12,6 +12,10 @@ use Rattle.answer.specs.Answers.{Answer, ok, refused, _then_}
 use Rattle.answer.proofs.AnswersLaws.{then-ok, then-inv, ok-inv, zero-one}
 use Rattle.reader_stripes.specs.Steps.{gathered, weigh, weighed, added, upTo}
 
+-- one is left less
+pub one-fewer : (n : ℕ) → 0 < n → n - 1 < n
+one-fewer n h = omega arith
+
 -- a bound of what was told
 pub up-to : (most d : ℕ) (x : Answer ℕ) → x ≡ ok d → upTo most x → d ≤ most
 up-to most d x e h = rw e at h
@@ -62,30 +66,31 @@ module _ {A : Type 0} (at : ℕ → Answer A) where
       let q = then-inv (gathered at n (i + 1)) (λ t. ok (p .0 ∷ t)) l (p .2) in
       ok-inv l (p .0 ∷ q .0) (q .2) ∙ ap₂ (λ (a : A) (t : List A). a ∷ t) (h i (p .0) (p .1)) (gathered-run f h n (i + 1) (q .0) (q .1))
 
-  -- ---- a sum: of n from `first` on `left` from i on are left, and m was added up; each gives at most `most`
-  module _ (w : A → ℕ) (most n first : ℕ) where
+  -- ---- a sum that starts at `base`: of n from `first` on `left` from i on are left, and m was added up; each gives at most `most`
+  module _ (w : A → ℕ) (base most n first : ℕ) where
     pub record Adding (m i left : ℕ) : Type 0 where
       pub place : i + left ≡ first + n
-      pub small : m + left * most ≤ n * most
-      pub sum : added w m (gathered at left i) ≡ added w 0 (gathered at n first)
+      pub small : m + left * most ≤ base + n * most
+      pub sum : added w m (gathered at left i) ≡ added w base (gathered at n first)
 
-    pub adding-start : (i left : ℕ) → i ≡ first → left ≡ n → Adding 0 i left
-    adding-start i left e f = record { place = ap₂ (λ (j k : ℕ). j + k) e f; small = rw f (omega arith); sum = ap₂ (λ (j k : ℕ). added w 0 (gathered at k j)) e f }
+    pub adding-start : (m i left : ℕ) → m ≡ base → i ≡ first → left ≡ n → Adding m i left
+    adding-start m i left d e f =
+        record { place = ap₂ (λ (j k : ℕ). j + k) e f; small = rw (d, f) (omega arith); sum = ap (λ (j : ℕ). added w j (gathered at left i)) d ∙ ap₂ (λ (j k : ℕ). added w base (gathered at k j)) e f }
 
     module _ (m i left : ℕ) (g : Adding m i left) where
-      -- what is added stays small
-      pub adding-small : 0 < left → m + most ≤ n * most
-      adding-small h =
-          let e : left ≡ suc (left - 1) = omega arith in
-          let k : left * most ≡ (left - 1) * most + most = ap (λ (j : ℕ). j * most) e ∙ suc-mul (left - 1) most in
-          omega (arith, g .small)
-
       module _ (h : 0 < left) where
-        pub adding-no : (r : Refusal) → refused r ≡ weighed w (at i) → refused r ≡ added w 0 (gathered at n first)
+        one-less : left * most ≡ (left - 1) * most + most
+        one-less =
+            let e : left ≡ suc (left - 1) = omega arith in
+            ap (λ (j : ℕ). j * most) e ∙ suc-mul (left - 1) most
+
+        -- what is added stays small
+        pub adding-small : m + most ≤ base + n * most
+        adding-small = omega (arith, g .small, one-less)
+
+        pub adding-no : (r : Refusal) → refused r ≡ weighed w (at i) → refused r ≡ added w base (gathered at n first)
         unfolding added
-        adding-no r e =
-            let k = weighed-no w (at i) r e in
-            here k ∙ g .sum
+        adding-no r e = here (weighed-no w (at i) r e) ∙ g .sum
           where
             here : refused r ≡ at i → refused r ≡ added w m (gathered at left i)
             here k = rw (gathered-one left i h, ← k)
@@ -96,16 +101,10 @@ module _ {A : Type 0} (at : ℕ → Answer A) where
             let a = weighed-ok w (at i) d e in
             record {
               place = omega (arith, g .place);
-              small = less;
+              small = omega (arith, g .small, one-less);
               sum = here (a .0) (a .1) (a .2) ∙ g .sum;
             }
           where
-            less : m + d + (left - 1) * most ≤ n * most
-            less =
-                let e : left ≡ suc (left - 1) = omega arith in
-                let k : left * most ≡ (left - 1) * most + most = ap (λ (j : ℕ). j * most) e ∙ suc-mul (left - 1) most in
-                omega (arith, g .small)
-
             rest : (a : A) → d ≡ w a → (x : Answer (List A)) → added w (m + d) x ≡ added w m (x then λ l. ok (a ∷ l))
             rest a k (ok l) =
                 let z : m + d + weigh w l ≡ m + (w a + weigh w l) = omega arith in
@@ -118,7 +117,7 @@ module _ {A : Type 0} (at : ℕ → Answer A) where
                 ∙ ap (added w m) (then-ok (at i) (λ b. gathered at (left - 1) (i + 1) then λ t. ok (b ∷ t)) a k ∙ sym (gathered-one left i h))
 
       module _ (h : left ≤ 0) where
-        pub adding-end : ok m ≡ added w 0 (gathered at n first)
+        pub adding-end : ok m ≡ added w base (gathered at n first)
         unfolding added weigh
         adding-end = here ∙ g .sum
           where
@@ -127,5 +126,5 @@ module _ {A : Type 0} (at : ℕ → Answer A) where
                 let z : m ≡ m + 0 = omega arith in
                 rw (gathered-none left i h) (ap ok z)
 
-        pub adding-most : m ≤ n * most
+        pub adding-most : m ≤ base + n * most
         adding-most = omega (arith, g .small)

@@ -3,10 +3,10 @@
 -- Assumes nothing.
 use Prim.Native.Nat.{ℕ, zero, suc, _+_, _*_, _-_, _≤_}
 use mathlib.Core.Path.{_≡_}
-use mathlib.Core.Bool.{Bool, not, _||_, cond}
+use mathlib.Core.Bool.{not, _||_, cond}
 use mathlib.Core.List.{List, [], _∷_}
 use lib.Dec.{ltb}
-use lib.IntN.{ℤ, pos}
+use lib.IntN.{pos}
 use lib.ListN.{length}
 use Rattle.plane.specs.Runs.{run}
 use Rattle.answer.specs.Answers.{Answer, ok, refused, _then_, need}
@@ -18,7 +18,7 @@ use Rattle.reader_records.specs.declared.GroupRecord.{GroupRecord}
 use Rattle.reader_records.specs.Records.{chunkAt, groupAt}
 use Rattle.stripes.specs.declared.Striping.{Striping}
 use Rattle.stripes.specs.Stripes.{Boxed, withinHeight, stripingIn}
-use Rattle.stripes.specs.Numbers.{low, high, depth, stripeEntries, together, stripeNumbers}
+use Rattle.stripes.specs.Numbers.{low, high, depth, stripeEntries, together, numbers, stripeNumbers}
 use Rattle.reader_stripes.specs.declared.Places.{Places}
 use Rattle.reader_stripes.specs.declared.Cut.{Cut}
 
@@ -74,6 +74,10 @@ boxedRead o s i = boxedOr o s (groupAt o s i)
 unfoldable pub allRead : Opened → List ℕ → List Boxed
 allRead o s = run (boxedRead o s) (o .groups .count) 0
 
+-- all numbers of them
+unfoldable pub allNumbers : Opened → List ℕ → List ℕ
+allNumbers o s = numbers (allRead o s)
+
 -- the boxes of a group that is cut
 unfoldable pub boxesOf : Opened → List ℕ → Cut → List BBox
 boxesOf o s c = run (boxRead o s) (c .count) (c .first)
@@ -82,10 +86,6 @@ boxesOf o s c = run (boxRead o s) (c .count) (c .first)
 pub record CutFrom (o : Opened) (s : List ℕ) (i : ℕ) (c : Cut) : Type 0 where
   pub striping : c .striping ≡ stripingIn (boxedRead o s i)
   pub boxes : boxesOf o s c ≡ boxedRead o s i .chunks
-
--- how many stripes there are
-abbrev pub cuts : Boxed → ℕ
-cuts g = stripingIn g .k
 
 -- ---- a stripe's entry by where its chunk numbers start and end
 unfoldable pub stripeEntry : ℕ → ℕ → List ℕ

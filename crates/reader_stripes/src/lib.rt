@@ -1,4 +1,5 @@
 // The stripes of an opened file, built into lent numbers. First all is read and the numbers needed are added up, with every refusal; then it is read again and written.
+// A group takes at most 16,777,733 numbers (5, 3 for each of 256 stripes, and each of 65,535 chunks in each of them), and there are fewer than 2^32 groups: no sum and no place wraps.
 ghost use mathlib.Core.Path.{_≡_};
 ghost use mathlib.Core.List.{[], _∷_};
 ghost use Prim.Native.Nat.{_+_, _*_, _≤_, _<_};
@@ -9,9 +10,9 @@ ghost use Rattle.answer.specs.Answers.{howMany, left};
 ghost use Rattle.answer.specs.Over.{over};
 ghost use Rattle.replies.specs.Replies.{neededTold};
 ghost use Rattle.stripes.specs.Stripes.{chunksIn, stripesFrom};
-ghost use Rattle.stripes.specs.Numbers.{low, high, groupEntry, groupEntries, allStripes, groupNeed};
+ghost use Rattle.stripes.specs.Numbers.{low, high, groupEntry, groupEntries, allStripes, groupNeed, needOf};
 ghost use Rattle.reader_stripes.specs.Building.{boxedAt, stripesNeed, stripesOf};
-ghost use Rattle.reader_stripes.specs.Steps.{gathered, weighed, added, upTo, boxAt, depthIn, boxRead, allRead, boxesOf, CutFrom, stripeEntry, Rooms, Striped};
+ghost use Rattle.reader_stripes.specs.Steps.{gathered, weighed, added, upTo, boxAt, depthIn, boxRead, allRead, allNumbers, boxesOf, CutFrom, stripeEntry, Rooms, Striped};
 use boxes::BBox;
 use opened::Opened;
 use reader_records::ChunkAt;
@@ -61,12 +62,12 @@ fn chunk_need(o: Opened, s: &[u8], group: BBox, t: Striping, i: usize) -> Needed
     }
 }
 
-// The same of `count` chunks from `first` on.
+// How many numbers a group takes that has `count` chunks from `first` on: its entry, its stripes' and all chunk numbers.
 fn chunks_need(o: Opened, s: &[u8], group: BBox, t: Striping, first: u32, count: u16) -> Needed
     requires { ⌜ (0 < t .height) × (t .k ≤ 256) ⌝ }
-    ensures { λ r. ⌜ (neededTold r ≡ added (depthIn t) 0 (gathered (boxAt o (now (s .entry)) group t) count first)) × upTo 16_776_960 (neededTold r) ⌝ }
+    ensures { λ r. ⌜ (neededTold r ≡ added (depthIn t) (5 + 3 * t .k) (gathered (boxAt o (now (s .entry)) group t) count first)) × upTo 16_777_733 (neededTold r) ⌝ }
 {
-    let mut sum: u64 = 0;
+    let mut sum = 5 + 3 * long(t.k);
     let mut i = fields::wide(first);
     let mut left = count;
     while 0 < left {
@@ -95,11 +96,7 @@ fn group_need(o: Opened, s: &[u8], i: usize) -> Needed
         GroupAt::At(g) => {
             let b = g.bbox;
             let t = stripes::striping_of(b, g.count);
-            let d = chunks_need(o, s, b, t, g.first, g.count);
-            match d {
-                Needed::Refused(k) => Needed::Refused(k),
-                Needed::Numbers(n) => Needed::Numbers(5 + 3 * long(t.k) + n),
-            }
+            chunks_need(o, s, b, t, g.first, g.count)
         }
     }
 }
@@ -210,7 +207,15 @@ fn put_group(numbers: &mut [u32], at: usize, t: Striping, place: usize)
     ensures { λ _. ⌜ now (numbers .exit) ≡ over (now (numbers .entry)) at (groupEntry t place) ⌝ }
 {
     if 0 < t.k {
-        put_five(numbers, at, bits32(t.least), t.height, t.k, low_half(place), high_half(place));
+        put_five(
+            numbers,
+            at,
+            bits32(t.least),
+            t.height,
+            t.k,
+            low_half(place),
+            high_half(place),
+        );
         return;
     }
     put_five(numbers, at, 0, 0, 0, 0, 0);
@@ -247,14 +252,7 @@ fn put_groups(o: Opened, s: &[u8], numbers: &mut [u32]) -> usize
 }
 
 // The numbers of a group's chunks that stand in a stripe; the place behind them.
-fn put_chunks(
-    o: Opened,
-    s: &[u8],
-    c: Cut,
-    stripe: u32,
-    numbers: &mut [u32],
-    from: usize,
-) -> usize
+fn put_chunks(o: Opened, s: &[u8], c: Cut, stripe: u32, numbers: &mut [u32], from: usize) -> usize
     requires { ⌜ (0 < c .striping .height) × (0 < c .striping .k) × (from + length (chunksIn (c .striping) stripe 0 (boxesOf o (now s) c)) ≤ length (now numbers)) ⌝ }
     ensures { λ r. ⌜ (r ≡ from + length (chunksIn (c .striping) stripe 0 (boxesOf o (now (s .entry)) c))) × (r < from + 0x1_0000_0000) × (now (numbers .exit) ≡ over (now (numbers .entry)) from (chunksIn (c .striping) stripe 0 (boxesOf o (now (s .entry)) c))) ⌝ }
 {
@@ -275,14 +273,7 @@ fn put_chunks(
 }
 
 // A stripe: its chunk numbers and its entry.
-fn put_one(
-    o: Opened,
-    s: &[u8],
-    c: Cut,
-    stripe: u32,
-    numbers: &mut [u32],
-    p: Places,
-) -> Places
+fn put_one(o: Opened, s: &[u8], c: Cut, stripe: u32, numbers: &mut [u32], p: Places) -> Places
     requires { ⌜ (0 < c .striping .height) × (0 < c .striping .k) × Rooms (now numbers) p (chunksIn (c .striping) stripe 0 (boxesOf o (now s) c) ∷ []) ⌝ }
     ensures { λ r. ⌜ Striped (now (numbers .entry)) p (chunksIn (c .striping) stripe 0 (boxesOf o (now (s .entry)) c) ∷ []) r (now (numbers .exit)) ⌝ }
 {
@@ -310,20 +301,22 @@ fn put_stripes(o: Opened, s: &[u8], c: Cut, numbers: &mut [u32], p: Places) -> P
     q
 }
 
-// The stripes of all groups.
-fn put_all(o: Opened, s: &[u8], numbers: &mut [u32], p: Places) -> Places
-    requires { ⌜ Rooms (now numbers) p (allStripes (allRead o (now s))) ⌝ }
-    ensures { λ r. ⌜ Striped (now (numbers .entry)) p (allStripes (allRead o (now (s .entry)))) r (now (numbers .exit)) ⌝ }
+// All numbers: the groups' entries, then the stripes' and the chunk numbers, group by group.
+fn put_all(o: Opened, s: &[u8], numbers: &mut [u32])
+    requires { ⌜ needOf (allRead o (now s)) ≤ length (now numbers) ⌝ }
+    ensures { λ _. ⌜ now (numbers .exit) ≡ over (now (numbers .entry)) 0 (allNumbers o (now (s .entry))) ⌝ }
 {
     let n = fields::wide(o.groups.count);
-    let mut q = p;
+    let mut q = Places {
+        stripe: 5 * n,
+        chunk: put_groups(o, s, numbers),
+    };
     let mut i = 0;
     while i < n {
         let c = cut_at(o, s, i);
         q = put_stripes(o, s, c, numbers, q);
         i += 1;
     }
-    q
 }
 
 // The stripes of the file into lent numbers: how many were written. A refusal leaves the lent numbers as they were; those behind are never touched: all is read and added up before the first is written.
@@ -338,9 +331,7 @@ pub fn stripes(o: Opened, s: &[u8], numbers: &mut [u32]) -> Needed
             if (numbers.len() as u64) < n {
                 return Needed::Refused(answer::refuse(46));
             }
-            let stripe = 5 * fields::wide(o.groups.count);
-            let chunk = put_groups(o, s, numbers);
-            put_all(o, s, numbers, Places { stripe: stripe, chunk: chunk });
+            put_all(o, s, numbers);
             Needed::Numbers(n)
         }
     }

@@ -3,40 +3,28 @@
 use mathlib.Core.Path.{sym, ap, _∙_}
 use Rattle.reader_records.specs.Records.{toldGroup}
 use Rattle.reader_stripes.proofs.BuildingLaws.{cut-none, cut-is}
-use native.Mathlib.Omega.{arith}
 use borrow.Author.Needs.{needs}
 use Rattle.reader_stripes.proofs.cut_at.Statement.{statement}
 use Rattle.reader_stripes.proofs.cut_at.Tie as tie
-use Rattle.reader_stripes.proofs.cut_at.Reads as reads
-use Rattle.reader_stripes.proofs.cut_at.Lts as lts
-use Rattle.reader_records.proofs.group_at.Reads as group-at-reads
-use Rattle.stripes.proofs.striping_of.Reads as striping-of-reads
 
--- src/lib.rt:150:9
 group-at-requires : tie.Need-group-at-requires
 group-at-requires c κs = search needs
 
--- src/lib.rt:155:23
 enum-told : tie.Need-enum-told
 enum-told c = search needs
 
--- src/lib.rt:161:21
 enum-known-a : tie.Need-enum-known-a
 enum-known-a c = search needs
 
--- src/lib.rt:163:20
 cast-t8 : tie.Need-cast-t8
 cast-t8 c = search needs
 
--- src/lib.rt:164:23
 striping-of-requires : tie.Need-striping-of-requires
 striping-of-requires c κs = search needs
 
--- src/lib.rt:147:1
 returns : tie.Need-returns
 returns c = cut-none _ _ _ _ (sym (ap toldGroup (c .enum-told .given .1)) ∙ c .before .before .group-at .ensures)
 
--- src/lib.rt:147:1
 returns-2 : tie.Need-returns-2
 returns-2 c =
     let a = c .before .before .before in

@@ -5,7 +5,7 @@ use mathlib.Core.Path.{refl}
 use mathlib.Core.Logic.{⊎-elim}
 use native.Mathlib.Omega.{arith}
 use Rattle.reader_stripes.proofs.Laying.{Laying, laying-start, laying-same}
-use Rattle.reader_stripes.proofs.Loops.{chunksLeft, chunks-in, chunks-took, chunks-passed, chunks-fit, chunks-put}
+use Rattle.reader_stripes.proofs.Loops.{less, chunksLeft, chunks-in, chunks-took, chunks-passed, chunks-fit, chunks-put}
 use borrow.Author.Needs.{needs}
 use Rattle.reader_stripes.proofs.put_chunks.Statement.{statement}
 use Rattle.reader_stripes.proofs.put_chunks.Tie as tie
@@ -41,8 +41,7 @@ mul-numbers c =
     let l = c .before .before .before .before in
     let start = l .before .before .before .before .before .before in
     let h = chunks-fit _ _ _ _ _ _ (l .before .before .wide .ensures .0) (l .before .wide2 .ensures .0) _ _ (start .pre .2) _ _ _ (l .loop .inv) (chunks-in _ _ _ _ _ _ _ (c .before .before .before .loop-test .taken) _ (c .before .before .box-read .ensures) _ (c .before .stands-in .ensures) (c .if1 .taken)) in
-    let e = laying-same _ _ _ _ _ _ (l .loop .inv) in
-    search needs
+    record { fits = omega (arith, h, laying-same _ _ _ _ _ _ (l .loop .inv), start .good .1 .1 .1 .1 .0 .1) }
 
 slice-write-numbers : tie.Need-slice-write-numbers Inv-loop μ-loop
 slice-write-numbers c =
@@ -59,14 +58,13 @@ add-at c =
     let l = c .before .before .before .before in
     let start = l .before .before .before .before .before .before in
     let h = chunks-fit _ _ _ _ _ _ (l .before .before .wide .ensures .0) (l .before .wide2 .ensures .0) _ _ (start .pre .2) _ _ _ (l .loop .inv) (chunks-in _ _ _ _ _ _ _ (c .before .before .before .loop-test .taken) _ (c .before .before .box-read .ensures) _ (c .before .stands-in .ensures) (c .if1 .taken)) in
-    let e = laying-same _ _ _ _ _ _ (l .loop .inv) in
-    search needs
+    record { fits = omega (arith, h, laying-same _ _ _ _ _ _ (l .loop .inv), start .good .1 .1 .1 .1 .0 .1) }
 
 add-j : tie.Need-add-j Inv-loop μ-loop
 add-j c = search needs
 
 loop-less : tie.Need-loop-less Inv-loop μ-loop
-loop-less c = search needs
+loop-less c = less _ _ (c .before .before .before .loop-test .taken)
 
 loop-again : tie.Need-loop-again Inv-loop μ-loop
 loop-again c =

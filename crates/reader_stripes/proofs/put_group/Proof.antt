@@ -6,52 +6,36 @@ use mir.Val.{ofZ}
 use mir.ValLaws.{toZ-ofZ}
 use Rattle.answer.specs.Over.{over}
 use Rattle.reader_stripes.proofs.BuildingLaws.{entry-is, entry-none}
-use native.Mathlib.Omega.{arith}
 use borrow.Author.Needs.{needs}
 use Rattle.reader_stripes.proofs.put_group.Statement.{statement}
 use Rattle.reader_stripes.proofs.put_group.Tie as tie
-use Rattle.reader_stripes.proofs.put_group.Reads as reads
-use Rattle.reader_stripes.proofs.put_group.Lts as lts
-use Rattle.reader_stripes.proofs.bits32.Reads as bits32-reads
-use Rattle.reader_stripes.proofs.high_half.Reads as high-half-reads
-use Rattle.reader_stripes.proofs.low_half.Reads as low-half-reads
-use Rattle.reader_stripes.proofs.put_five.Reads as put-five-reads
 
--- src/lib.rt:213:31
 bits32-requires : tie.Need-bits32-requires
 bits32-requires c κs = search needs
 
--- src/lib.rt:213:63
 low-half-requires : tie.Need-low-half-requires
 low-half-requires c κs = search needs
 
--- src/lib.rt:213:80
 high-half-requires : tie.Need-high-half-requires
 high-half-requires c κs = search needs
 
--- src/lib.rt:213:9
 put-five-requires : tie.Need-put-five-requires
 put-five-requires c κs = search needs
 
--- src/lib.rt:214:9
 same-length : tie.Need-same-length
 same-length c = search needs
 
--- src/lib.rt:214:9
 returns : tie.Need-returns
 returns c =
     let b = c .before .before .before .before .before in
     c .before .before .put-five .ensures ∙ ap (over _ _) (entry-is _ _ (b .before .before .before .if1 .taken) _ _ _ (b .bits32 .ensures ∙ ap (ofZ w32) (toZ-ofZ w32 (c .before .before .before .before .before .before .before .before .before .before .before .args .t .least) (record { sfits = b .before .struct-told .given .0 .1 }))) (c .before .before .before .before .low-half .ensures) (c .before .before .before .high-half .ensures))
 
--- src/lib.rt:216:5
 put-five-requires-2 : tie.Need-put-five-requires-2
 put-five-requires-2 c κs = search needs
 
--- src/lib.rt:208:1
 same-length-2 : tie.Need-same-length-2
 same-length-2 c = search needs
 
--- src/lib.rt:208:1
 returns-2 : tie.Need-returns-2
 returns-2 c = c .before .before .put-five2 .ensures ∙ ap (over _ _) (entry-none _ _ (c .before .before .before .before .if1 .left))
 

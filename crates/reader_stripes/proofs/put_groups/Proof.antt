@@ -1,17 +1,12 @@
 -- `put_groups` meets its contract: what is left, laid from here on.
 -- Assumes nothing.
 use Prim.Native.Nat.{ℕ, _-_, _*_}
-use mathlib.Core.Path.{refl, sym, ap, _∙_}
-use Rattle.reader_stripes.proofs.Loops.{Entering, entering-start, entering-same, entering-on, entering-place, entering-end, cut-high}
+use mathlib.Core.Path.{ap}
+use Rattle.reader_stripes.proofs.Loops.{less, Entering, entering-start, entering-same, entering-on, entering-place, entering-end, cut-high}
 use native.Mathlib.Omega.{arith}
 use borrow.Author.Needs.{needs}
 use Rattle.reader_stripes.proofs.put_groups.Statement.{statement}
 use Rattle.reader_stripes.proofs.put_groups.Tie as tie
-use Rattle.reader_stripes.proofs.put_groups.Reads as reads
-use Rattle.reader_stripes.proofs.put_groups.Lts as lts
-use Rattle.fields.proofs.wide.Reads as wide-reads
-use Rattle.reader_stripes.proofs.cut_at.Reads as cut-at-reads
-use Rattle.reader_stripes.proofs.put_group.Reads as put-group-reads
 
 abbrev Inv-loop : tie.InvT-loop
 Inv-loop o s numbers₀ n place₀ i₀ numbers place i = Entering o s numbers₀ place i numbers
@@ -19,67 +14,53 @@ Inv-loop o s numbers₀ n place₀ i₀ numbers place i = Entering o s numbers�
 abbrev μ-loop : tie.MeasureT-loop
 μ-loop o s numbers₀ n place₀ i₀ numbers place i = n - i
 
--- src/lib.rt:236:9
 wide-requires : tie.Need-wide-requires Inv-loop μ-loop
 wide-requires c κs = search needs
 
--- src/lib.rt:237:21
 mul-place : tie.Need-mul-place Inv-loop μ-loop
 mul-place c = search needs
 
--- src/lib.rt:239:5
 loop-holds : tie.Need-loop-holds Inv-loop μ-loop
 loop-holds c = entering-start _ _ _ _ (ap (λ (n : ℕ). 5 * n) (c .wide .ensures .0))
 
--- src/lib.rt:240:13
 cut-at-requires : tie.Need-cut-at-requires Inv-loop μ-loop
 cut-at-requires c κs = search needs
 
--- src/lib.rt:242:28
 mul-put-group : tie.Need-mul-put-group Inv-loop μ-loop
 mul-put-group c = search needs
 
--- src/lib.rt:242:9
 put-group-requires : tie.Need-put-group-requires Inv-loop μ-loop
 put-group-requires c κs =
     let l = c .before .before .before .before in
     omega (arith, entering-same _ _ _ _ _ _ (l .loop .inv), l .before .wide .ensures, c .before .before .before .loop-test .taken, l .before .before .before .before .pre)
 
--- src/lib.rt:243:22
 wide-requires-2 : tie.Need-wide-requires-2 Inv-loop μ-loop
 wide-requires-2 c κs = search needs
 
--- src/lib.rt:243:18
 mul-place-2 : tie.Need-mul-place-2 Inv-loop μ-loop
 mul-place-2 c = search needs
 
--- src/lib.rt:243:9
 add-place : tie.Need-add-place Inv-loop μ-loop
 add-place c =
     let t = c .before .before .before .before .before .before in
     let l = t .before .before in
     record { fits = omega (arith, l .loop .inv .few, l .before .wide .ensures, t .before .loop-test .taken, c .wide2 .ensures, cut-high _ _ _ _ (t .cut-at .ensures)) }
 
--- src/lib.rt:244:9
 add-i : tie.Need-add-i Inv-loop μ-loop
 add-i c = search needs
 
--- src/lib.rt:239:5
 loop-less : tie.Need-loop-less Inv-loop μ-loop
-loop-less c = search needs
+loop-less c = less _ _ (c .before .before .before .before .before .before .before .loop-test .taken)
 
--- src/lib.rt:239:5
 loop-again : tie.Need-loop-again Inv-loop μ-loop
 loop-again c =
     let t = c .before .before .before .before .before .before in
     let l = t .before .before in
     entering-on _ _ _ _ _ _ (l .loop .inv) (omega (arith, l .before .wide .ensures, t .before .loop-test .taken)) _ (t .cut-at .ensures) _ (c .before .before .before .put-group .ensures) _ (c .wide2 .ensures .0)
 
--- src/lib.rt:232:1
 same-length : tie.Need-same-length Inv-loop μ-loop
 same-length c = entering-same _ _ _ _ _ _ (c .before .loop .inv)
 
--- src/lib.rt:232:1
 returns : tie.Need-returns Inv-loop μ-loop
 returns c =
     let l = c .before in

@@ -6,18 +6,12 @@ use native.Mathlib.Omega.{arith}
 use borrow.Author.Needs.{needs}
 use Rattle.reader_stripes.proofs.put_one.Statement.{statement}
 use Rattle.reader_stripes.proofs.put_one.Tie as tie
-use Rattle.reader_stripes.proofs.put_one.Reads as reads
-use Rattle.reader_stripes.proofs.put_one.Lts as lts
-use Rattle.reader_stripes.proofs.put_chunks.Reads as put-chunks-reads
-use Rattle.reader_stripes.proofs.put_stripe.Reads as put-stripe-reads
 
--- src/lib.rt:290:9
 put-chunks-requires : tie.Need-put-chunks-requires
 put-chunks-requires c κs =
     let start = c .before .before .before in
     (start .pre .0, start .pre .1, room-one _ _ _ (start .pre .2) .1)
 
--- src/lib.rt:291:5
 put-stripe-requires : tie.Need-put-stripe-requires
 put-stripe-requires c κs =
     let w = c .before .before .before in
@@ -25,15 +19,12 @@ put-stripe-requires c κs =
     let r = room-one _ _ _ (start .pre .2) in
     (omega (arith, r, w .put-chunks .kept .1 .1 .1 .1 .0), omega (arith, w .put-chunks .ensures .0), w .put-chunks .ensures .1)
 
--- src/lib.rt:293:17
 add-t14 : tie.Need-add-t14
 add-t14 c = search needs
 
--- src/lib.rt:278:1
 same-length : tie.Need-same-length
 same-length c = search needs
 
--- src/lib.rt:278:1
 returns : tie.Need-returns
 returns c =
     let u = c .before .before .before in

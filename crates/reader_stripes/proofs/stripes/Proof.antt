@@ -1,9 +1,8 @@
 -- `stripes` meets its contract: a refusal of the need, then 46, then all numbers.
 -- Assumes nothing.
-use Prim.Native.Nat.{ℕ, _*_}
 use mathlib.Core.Path.{sym, ap, _∙_}
 use Rattle.replies.specs.Replies.{neededTold}
-use Rattle.reader_stripes.proofs.Built.{build-no, build-full, build-is, groups-room, stripes-room}
+use Rattle.reader_stripes.proofs.Built.{build-no, build-full, build-room, build-is}
 use borrow.Author.Needs.{needs}
 use Rattle.reader_stripes.proofs.stripes.Statement.{statement}
 use Rattle.reader_stripes.proofs.stripes.Tie as tie
@@ -25,23 +24,10 @@ returns c =
     let a = c .before .before .before in
     build-full _ _ _ (sym (ap neededTold (a .a2 .given .1)) ∙ a .before .before .stripes-need .ensures) _ (c .before .if1 .taken) _ (c .refuse .ensures)
 
-wide-requires : tie.Need-wide-requires
-wide-requires c κs = search needs
-
-mul-stripe : tie.Need-mul-stripe
-mul-stripe c = search needs
-
-put-groups-requires : tie.Need-put-groups-requires
-put-groups-requires c κs =
-    let a = c .before .before .before .before in
-    groups-room _ _ _ (sym (ap neededTold (a .a2 .given .1)) ∙ a .before .before .stripes-need .ensures) (a .before .before .before .before .before .args .numbers .now) (c .before .before .if1 .left)
-
 put-all-requires : tie.Need-put-all-requires
 put-all-requires c κs =
-    let g = c .before .before .before in
-    let w = g .before .before in
-    let a = w .before .before .before in
-    stripes-room _ _ _ (sym (ap neededTold (a .a2 .given .1)) ∙ a .before .before .stripes-need .ensures) _ (w .before .if1 .left) _ (ap (λ (n : ℕ). 5 * n) (w .wide .ensures .0)) (g .put-groups .ensures .0) _ (g .put-groups .ensures .1) (g .put-groups .kept .1 .1 .0)
+    let a = c .before .before .before in
+    build-room _ _ _ (sym (ap neededTold (a .a2 .given .1)) ∙ a .before .before .stripes-need .ensures) (a .before .before .before .before .before .args .numbers .now) (c .before .if1 .left)
 
 returns-2 : tie.Need-returns-2
 returns-2 c = build-no _ _ _ _ (sym (ap neededTold (c .before .a .given .1)) ∙ c .before .before .before .stripes-need .ensures)
@@ -52,10 +38,9 @@ same-length c = search needs
 returns-3 : tie.Need-returns-3
 returns-3 c =
     let u = c .before .before in
-    let g = u .before .before .before .before in
-    let w = g .before .before in
-    let a = w .before .before .before in
-    build-is _ _ _ (sym (ap neededTold (a .a2 .given .1)) ∙ a .before .before .stripes-need .ensures) _ (w .before .if1 .left) _ (ap (λ (n : ℕ). 5 * n) (w .wide .ensures .0)) (g .put-groups .ensures .0) _ (g .put-groups .ensures .1) _ _ (u .put-all .ensures)
+    let f = u .before .before in
+    let a = f .before .before in
+    build-is _ _ _ (sym (ap neededTold (a .a2 .given .1)) ∙ a .before .before .stripes-need .ensures) _ (f .if1 .left) _ (u .put-all .ensures)
 
 pub stripes-spec : {M : Type 1} → statement M
 stripes-spec =
@@ -66,9 +51,6 @@ stripes-spec =
     enum-known-a-2
     refuse-requires
     returns
-    wide-requires
-    mul-stripe
-    put-groups-requires
     put-all-requires
     returns-2
     same-length
