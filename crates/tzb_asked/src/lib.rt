@@ -163,7 +163,15 @@ pub fn lookup_into_by(
     let a = tzb_record::read_record(record);
     match a {
         RecordRead::Refused(k) => Listing::Refused(k),
-        RecordRead::Is(o) => reader_listing::lookup_into_by(striped, numbers, o, file, lng, lat, zones),
+        RecordRead::Is(o) => reader_listing::lookup_into_by(
+            striped,
+            numbers,
+            o,
+            file,
+            lng,
+            lat,
+            zones,
+        ),
     }
 }
 
