@@ -30,6 +30,7 @@ oracle compare exact [SECONDS [SEED]]
 oracle compare exact FILE.tzb [SECONDS [SEED]]
 oracle compare wide [SECONDS [SEED]]
 oracle compare map [SECONDS [SEED]]
+oracle compare striped [SECONDS [SEED]]
 oracle load [INPUTS [SEED]] [--from NUMBER]
 oracle stack [SEED]
 oracle short [SECONDS [SEED]]
@@ -65,6 +66,13 @@ fn main() {
         ["compare", "map"] => compare::map::run(60, random::fresh_seed()),
         ["compare", "map", seconds] => compare::map::run(number(seconds), random::fresh_seed()),
         ["compare", "map", seconds, seed] => compare::map::run(number(seconds), number(seed)),
+        ["compare", "striped"] => compare::striped::run(60, random::fresh_seed()),
+        ["compare", "striped", seconds] => {
+            compare::striped::run(number(seconds), random::fresh_seed())
+        }
+        ["compare", "striped", seconds, seed] => {
+            compare::striped::run(number(seconds), number(seed))
+        }
         ["compare", "wide"] => compare::wide::run(60, random::fresh_seed()),
         ["compare", "wide", seconds] => compare::wide::run(number(seconds), random::fresh_seed()),
         ["compare", "wide", seconds, seed] => compare::wide::run(number(seconds), number(seed)),
@@ -106,6 +114,7 @@ fn short(seconds: u64, seed: u64) {
     compare::wide::short(seconds, seed);
     compare::asking::short(seconds, seed);
     compare::map::short(seconds, seed);
+    compare::striped::short(seconds, seed);
     load::short(5000 * seconds, seed);
     stack::short(seed);
 }

@@ -58,7 +58,7 @@ pub fn run(file: &[u8]) {
         .collect();
     let degrees = |n: i32| f64::from(n) / 100_000.0;
     let borders: Positions = beside.iter().map(|&(x, y)| (degrees(x), degrees(y))).collect();
-    let judge = Judge { opened, original: &[] };
+    let judge = Judge::plain(opened, &[]);
     let places: Places = beside
         .iter()
         .flat_map(|&(x, y)| {

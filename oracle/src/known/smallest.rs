@@ -62,7 +62,7 @@ fn all(file: &[u8], lent: &[u8], q: Question) -> [Result<Answer, u32>; 3] {
     let opened = rules::open(file, &[]).ok().unwrap().asked_with(lent);
     let port = port::opening::open(file).ok().unwrap().asked_with(lent);
     let original = original(file).ok().unwrap().asked_with(lent);
-    let judge = Judge { opened, original: &[] };
+    let judge = Judge::plain(opened, &[]);
     [judge.ask(q), port.ask(q), original.ask(q)].map(Option::unwrap)
 }
 
