@@ -20,7 +20,7 @@ use crate::{original, port};
 use std::collections::BTreeMap;
 
 /// Where stripes take more numbers than this they are not built, but asked for with too little room.
-const MOST: u64 = 1 << 22;
+const MOST: u64 = 1 << 17;
 /// How many places beside boxes are asked of a file: with the numbers that were built, and with each kind of others.
 const MANY: usize = 120;
 const FEW: usize = 6;
@@ -345,8 +345,7 @@ impl Run {
             let lent = if lent.len() < 5000 { hex(lent) } else { format!("{} bytes", lent.len()) };
             format!("{why}\nasked with the record {} and the bytes {lent}", hex(record))
         };
-        self.put(subject, None, right, FEW).map_err(told)?;
-        Ok(())
+        self.put(subject, None, right, FEW).map(|_| ()).map_err(told)
     }
 
     /// One or two fields set, or now and then another length.
@@ -380,6 +379,7 @@ impl Run {
         files.extend(file::broken::files().into_iter().map(|(_, file)| file));
         files.extend(file::departing().into_iter().map(|(_, file)| file));
         files.extend(file::chunks().into_iter().map(|(_, file)| file));
+        files.extend(striped::cases().into_iter().map(|case| case.file));
         for file in files {
             self.tally.add("kept files", 1);
             self.file(&file, &[], MANY).map_err(|why| (file.clone(), why))?;
@@ -441,3 +441,6 @@ mod with_the_archive {
 }
 
 pub use with_the_archive::{run, short};
+
+#[cfg(test)]
+mod tests;

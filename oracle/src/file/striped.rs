@@ -1,5 +1,9 @@
 //! Files for stripes (document 02, 2026-02): groups of up to more than a thousand chunks, tall and flat, and boxes that leave their group's.
 
+mod cases;
+
+pub use cases::{Case, cases};
+
 use super::*;
 
 type Point = (i32, i32);
@@ -158,6 +162,22 @@ fn share(random: &mut Random, draft: &mut Draft) {
     part(draft, GROUPDIR).extend(words.flat_map(i32::to_le_bytes));
 }
 
+/// The least file with a group of so many chunks, all of them a point at 0, 0. The last one's box reaches one below its group's, or above.
+#[cfg(test)]
+pub fn leaving(chunks: usize, above: bool) -> Vec<u8> {
+    let mut draft = one_zone(Chunks(vec![vec![(0, 0)]; chunks]), chunks, false);
+    let records = part(&mut draft, CHUNKDIR);
+    for i in 0..chunks {
+        put(records, 24 * i, i as u32);
+    }
+    let last = 24 * (chunks - 1);
+    match above {
+        true => put(records, last + 20, 1),
+        false => put(records, last + 12, -1i32 as u32),
+    }
+    draft.lay()
+}
+
 /// A box's least or greatest y, of a group or a chunk, set beside its group's. The sum is repaired. With it, 49 may come.
 pub fn moved(random: &mut Random, file: &[u8]) -> Vec<u8> {
     let section = |typ: u32| entries(file).into_iter().find(|entry| entry[0] == typ).unwrap();
@@ -184,6 +204,21 @@ pub fn moved(random: &mut Random, file: &[u8]) -> Vec<u8> {
 mod tests {
     use super::*;
     use crate::rules;
+
+    /// What is read off document 02 by hand is what the rules say, and where there are numbers what the original has.
+    #[test]
+    fn the_cases_are_as_the_rules_say() {
+        for Case { what, file, numbers } in cases() {
+            let opened = rules::open(&file, &[]).ok().expect(what);
+            assert_eq!(opened.stripes(u64::MAX), numbers, "{what}");
+            assert_eq!(opened.stripes_need(), numbers.as_ref().map(|all| all.len() as u64).map_err(|&n| n), "{what}");
+            let original = crate::original::opening::open(&file).ok().expect(what);
+            if let Ok(numbers) = numbers {
+                assert_eq!(original.stripes(), numbers, "{what}");
+                assert_eq!(opened.stripes(numbers.len() as u64 - 1), Err(46), "{what}");
+            }
+        }
+    }
 
     #[test]
     fn the_files_open_and_have_stripes() {

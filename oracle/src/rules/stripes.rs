@@ -4,6 +4,7 @@
 use super::questions::floor;
 use super::records::Bounds;
 use super::{Opened, Said, need};
+use std::ops::{Range, RangeInclusive};
 
 /// How a group's chunks are walked: plainly, or by the stripes that these numbers say.
 #[derive(Debug, Clone, Copy, Default)]
@@ -30,42 +31,36 @@ impl Striping {
         Self { least: group.miny, height, k }
     }
 
-    /// The stripe of a whole-number height.
+    /// The stripe of a whole-number height. Both factors are below 2^32.
     fn stripe(self, y: i64) -> u64 {
-        let above = (y - self.least).max(0) as u128;
-        let stripe = above * u128::from(self.k) / u128::from(self.height);
-        stripe.min(u128::from(self.k) - 1) as u64
-    }
-
-    /// From the stripe of a box's least y to that of its greatest.
-    fn stripes(self, chunk: Bounds) -> std::ops::RangeInclusive<u64> {
-        self.stripe(chunk.miny)..=self.stripe(chunk.maxy)
+        let above = (y - self.least).max(0) as u64;
+        (above * self.k / self.height).min(self.k - 1)
     }
 }
 
-/// A group as its stripes are made of it: how it is cut, and its chunks' boxes.
-struct Boxed {
+/// A group as it is built: how it is cut, and for each of its chunks the stripes in which it stands, where there are stripes.
+struct Built {
     striping: Striping,
-    chunks: Vec<Bounds>,
+    chunks: Vec<RangeInclusive<u64>>,
 }
 
-impl Boxed {
+impl Built {
+    /// A chunk stands in every stripe from that of its box's least y to that of its greatest.
+    fn of(group: Bounds, boxes: &[Bounds]) -> Self {
+        let striping = Striping::of(group, boxes.len() as u64);
+        let stands = |b: &Bounds| striping.stripe(b.miny)..=striping.stripe(b.maxy);
+        let boxes = if striping.k == 0 { &[] } else { boxes };
+        Self { striping, chunks: boxes.iter().map(stands).collect() }
+    }
+
     /// How many chunk numbers its stripes have.
     fn chunk_numbers(&self) -> u64 {
-        if self.striping.k == 0 {
-            return 0;
-        }
-        let in_stripes = |&chunk: &Bounds| {
-            let stripes = self.striping.stripes(chunk);
-            stripes.end() + 1 - stripes.start()
-        };
-        self.chunks.iter().map(in_stripes).sum()
+        self.chunks.iter().map(|stripes| stripes.end() + 1 - stripes.start()).sum()
     }
 
     /// The chunk numbers of one of its stripes.
     fn chunks_in(&self, stripe: u64) -> Vec<u32> {
-        let stands = |chunk: Bounds| self.striping.stripes(chunk).contains(&stripe);
-        (0..).zip(&self.chunks).filter(|&(_, &chunk)| stands(chunk)).map(|(i, _)| i).collect()
+        (0..).zip(&self.chunks).filter(|(_, of)| of.contains(&stripe)).map(|(i, _)| i).collect()
     }
 }
 
@@ -80,23 +75,23 @@ pub fn halves(place: u64) -> [u32; 2] {
 
 impl Opened<'_> {
     /// Group by group and chunk by chunk the first of 34, 44, 49: a box that leaves its group's in y, in a group of two chunks or more.
-    fn boxed(&self, index: u64) -> Said<Boxed> {
+    fn built(&self, index: u64) -> Said<Built> {
         let group = self.group_at(index)?;
-        let mut chunks = Vec::new();
+        let mut boxes = Vec::new();
         for i in group.first..group.first + group.count {
             let chunk = self.chunk_at(i)?.bounds;
             let within = chunk.miny >= group.bounds.miny && chunk.maxy <= group.bounds.maxy;
             need(49, group.count < 2 || within)?;
-            chunks.push(chunk);
+            boxes.push(chunk);
         }
-        Ok(Boxed { striping: Striping::of(group.bounds, group.count), chunks })
+        Ok(Built::of(group.bounds, &boxes))
     }
 
-    /// 5 × groups + 3 × stripes + chunk numbers. Groups may share their chunks, so the boxes of one group alone are kept at a time.
+    /// 5 × groups + 3 × stripes + chunk numbers. Groups may share their chunks, so one group alone is kept at a time.
     pub fn stripes_need(&self) -> Said<u64> {
         let mut need = 0;
         for i in 0..self.groups() {
-            let group = self.boxed(i)?;
+            let group = self.built(i)?;
             need += OF_GROUP + OF_STRIPE * group.striping.k + group.chunk_numbers();
         }
         Ok(need)
@@ -105,7 +100,7 @@ impl Opened<'_> {
     /// The numbers, or 46 after every other refusal.
     pub fn stripes(&self, room: u64) -> Said<Vec<u32>> {
         need(46, self.stripes_need()? <= room)?;
-        let groups: Vec<Boxed> = (0..self.groups()).map(|i| self.boxed(i)).collect::<Said<_>>()?;
+        let groups: Vec<Built> = (0..self.groups()).map(|i| self.built(i)).collect::<Said<_>>()?;
         let stripes: u64 = groups.iter().map(|group| group.striping.k).sum();
         let (mut stripe_at, mut chunk_at) =
             (OF_GROUP * self.groups(), OF_GROUP * self.groups() + OF_STRIPE * stripes);
@@ -144,7 +139,7 @@ impl Numbers<'_> {
 
     /// The places of the chunk numbers of a group's stripe at a float height, which lies in the group's box; none where the group is walked
     /// plainly.
-    pub fn places(self, group: u64, y: f64) -> Said<Option<std::ops::Range<u128>>> {
+    pub fn places(self, group: u64, y: f64) -> Said<Option<Range<u128>>> {
         let [least, height, k, low, high] = self.at(u128::from(OF_GROUP * group))?;
         if k == 0 {
             return Ok(None);

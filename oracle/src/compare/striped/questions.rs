@@ -49,7 +49,6 @@ pub fn of(o: &Opened, random: &mut Random, most: usize) -> Vec<Question> {
     let boxes = boxes(o);
     let ways = 2 * BESIDE.len();
     let mut out = Vec::new();
-    let chosen = random.pick(&[0, 1, 2, 3]);
     for i in 0..most.min(ways * boxes.len()) {
         let (of, which) = match most < ways * boxes.len() {
             true => (random.below(boxes.len()), random.below(ways)),
@@ -58,7 +57,7 @@ pub fn of(o: &Opened, random: &mut Random, most: usize) -> Vec<Question> {
         let place = beside(random, boxes[of], which);
         at(o, random, place, &mut out);
     }
-    for _ in 0..4 + chosen {
+    for _ in 0..2 {
         let (x, y) = (random.pick(&SPECIAL), random.pick(&SPECIAL));
         out.extend([Question::Lookup(x, y), Question::LookupInto(x, y, 16)]);
         let anywhere = (random.part() * 3.6e7 - 1.8e7, random.part() * 1.8e7 - 9e6);
@@ -72,8 +71,9 @@ fn at(o: &Opened, random: &mut Random, (x, y): (f64, f64), out: &mut Vec<Questio
     let (lng, lat) = (x / 100_000.0, y / 100_000.0);
     out.push(Question::Lookup(lng, lat));
     out.push(Question::LookupInto(lng, lat, random.pick(&[0, 1, 2, 16, 16])));
-    let zones = o.zones.clamp(1, 1 << 20) as usize;
-    let zone = if random.below(16) == 0 { random.bits() } else { random.below(zones + 1) as u64 };
-    out.push(Question::Contains(zone as u32, x.floor() as i32, y.floor() as i32));
-    out.push(Question::ContainsAt(random.below(zones) as u32, x, y));
+    let zone = random.below(o.zones.clamp(1, 1 << 20) as usize) as u32;
+    let past = (o.zones as u32).wrapping_add(random.pick(&[0, 0, 1, u32::MAX]));
+    let asked = if random.below(32) == 0 { past } else { zone };
+    out.push(Question::Contains(asked, x.floor() as i32, y.floor() as i32));
+    out.push(Question::ContainsAt(zone, x, y));
 }
