@@ -36,6 +36,7 @@ oracle stack [SEED]
 oracle short [SECONDS [SEED]]
 oracle lists FOLDER
 oracle bench [FILE.tzb [ROWS]]
+oracle bench large [ROWS]
 oracle bench sections
 oracle bench zones
 oracle bench map FILE.tzb";
@@ -88,6 +89,8 @@ fn main() {
         ["short", seconds, seed] => short(number(seconds), number(seed)),
         ["lists", folder] => lists::write(folder.as_ref()),
         ["bench"] => bench::run(None, ""),
+        ["bench", "large"] => bench::large(""),
+        ["bench", "large", rows] => bench::large(rows),
         ["bench", "sections"] => bench::hostile::run(),
         ["bench", "zones"] => bench::zones::run(),
         ["bench", "map", file] => bench::map::run(file.as_ref()),

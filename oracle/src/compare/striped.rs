@@ -2,13 +2,13 @@
 //! questions by stripes, with the numbers that were built and with others, against the rules. Where stripes can be built, the answers with
 //! them are those of the plain walk: the rules', the port's and the original's. Lent memory is looked at to its last number.
 
-mod numbers;
 mod questions;
 mod stand_in;
 
 use super::Tally;
 use crate::bytes::hex;
 use crate::file::damage::{Aim, TELLING};
+use crate::file::striped::numbers;
 use crate::file::{self, put, striped, word};
 use crate::known::{ALL, BUT_STRIPES};
 use crate::port::opening::{SIZE, open_into};

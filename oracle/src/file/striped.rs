@@ -1,6 +1,7 @@
 //! Files for stripes (document 02, 2026-02): groups of up to more than a thousand chunks, tall and flat, and boxes that leave their group's.
 
 mod cases;
+pub mod numbers;
 
 pub use cases::{Case, cases};
 

@@ -28,11 +28,13 @@ unsafe fn lay(answer: Said<Vec<u32>>, to: *mut u32, room: usize) -> i64 {
     }))
 }
 
+#[cfg_attr(feature = "stand_in", unsafe(export_name = "tzb_stripes_need"))]
 pub unsafe extern "C" fn need(r: *const u8, size: usize, f: *const u8, length: usize) -> i64 {
     let opened = unsafe { opened(r, size, f, length) };
     code(opened.and_then(|o| o.stripes_need()).map(|need| need as i64))
 }
 
+#[cfg_attr(feature = "stand_in", unsafe(export_name = "tzb_stripes"))]
 pub unsafe extern "C" fn build(
     r: *const u8,
     size: usize,
@@ -55,6 +57,7 @@ unsafe fn striped<'a>(
 }
 
 #[allow(clippy::too_many_arguments)]
+#[cfg_attr(feature = "stand_in", unsafe(export_name = "tzb_contains_striped"))]
 pub unsafe extern "C" fn contains(
     r: *const u8,
     size: usize,
@@ -71,6 +74,7 @@ pub unsafe extern "C" fn contains(
 }
 
 #[allow(clippy::too_many_arguments)]
+#[cfg_attr(feature = "stand_in", unsafe(export_name = "tzb_ask_striped"))]
 pub unsafe extern "C" fn ask(
     r: *const u8,
     size: usize,
@@ -87,6 +91,7 @@ pub unsafe extern "C" fn ask(
 }
 
 #[allow(clippy::too_many_arguments)]
+#[cfg_attr(feature = "stand_in", unsafe(export_name = "tzb_ask_all_striped"))]
 pub unsafe extern "C" fn ask_all(
     r: *const u8,
     size: usize,

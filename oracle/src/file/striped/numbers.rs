@@ -1,4 +1,4 @@
-//! Other numbers than those that were built: cut, changed, another file's, any.
+//! Other numbers than those of a file's stripes: cut, changed, another file's, any.
 
 use crate::file::damage::TELLING;
 use crate::random::Random;
@@ -17,7 +17,7 @@ pub const KINDS: [&str; 9] = [
     "numbers that lead somewhere",
 ];
 
-/// Numbers of a kind, made from the right ones (or others, where there are none) and another file's. So many groups and chunks there are.
+/// Numbers of a kind, made from the right ones, or others where there are none, and another file's. So many groups there are.
 pub fn some(
     random: &mut Random,
     kind: usize,
