@@ -20,7 +20,7 @@ pub fn run(file: &[u8], anywhere: &Positions, borders: &Positions, places: &Plac
     both.lookup("near borders", borders);
     both.lookup_into("random positions", anywhere);
     both.lookup_into("near borders", borders);
-    both.contains("near borders, the zones there", places);
+    both.contains("near borders", places);
     both.build(need);
 }
 

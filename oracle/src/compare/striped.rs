@@ -2,7 +2,7 @@
 //! questions by stripes, with the numbers that were built and with others, against the rules. Where stripes can be built, the answers with
 //! them are those of the plain walk: the rules', the port's and the original's. Lent memory is looked at to its last number.
 
-mod questions;
+pub mod questions;
 mod stand_in;
 
 use super::Tally;

@@ -2,8 +2,10 @@
 
 mod cases;
 pub mod numbers;
+mod walks;
 
 pub use cases::{Case, cases};
+pub use walks::{OF_SQUARE, square, walks};
 
 use super::*;
 
@@ -205,6 +207,7 @@ pub fn moved(random: &mut Random, file: &[u8]) -> Vec<u8> {
 mod tests {
     use super::*;
     use crate::rules;
+    use crate::voice::Voice;
 
     /// What is read off document 02 by hand is what the rules say, and where there are numbers what the original has.
     #[test]
@@ -218,6 +221,18 @@ mod tests {
                 assert_eq!(original.stripes(), numbers, "{what}");
                 assert_eq!(opened.stripes(numbers.len() as u64 - 1), Err(46), "{what}");
             }
+        }
+    }
+
+    #[test]
+    fn the_walks_are_as_the_rules_say() {
+        let file = square();
+        let opened = rules::open(&file, &[]).ok().unwrap();
+        assert_eq!(opened.stripes(u64::MAX), Ok(OF_SQUARE.to_vec()));
+        for walk in walks() {
+            let judge = rules::Judge::striped(opened, &walk.numbers);
+            let (what, question) = (walk.what, walk.question);
+            assert_eq!(judge.ask(question), Some(walk.answer), "{what}: {question:?}");
         }
     }
 
