@@ -18,7 +18,12 @@ pub(super) extern "C" fn original_ask(file: &Original, lng: f64, lat: f64) -> i6
 }
 
 #[inline(never)]
-pub(super) extern "C" fn original_ask_all(file: &Original, lng: f64, lat: f64, zones: &mut Vec<u32>) -> i64 {
+pub(super) extern "C" fn original_ask_all(
+    file: &Original,
+    lng: f64,
+    lat: f64,
+    zones: &mut Vec<u32>,
+) -> i64 {
     file.zones(lng, lat, zones)
 }
 

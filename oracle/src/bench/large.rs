@@ -61,8 +61,7 @@ fn coast(random: &mut Random, (x, y): Point) -> Vec<Point> {
 
 fn between(random: &mut Random, a: Point, b: Point) -> Point {
     let far = (a.0.abs_diff(b.0)).max(a.1.abs_diff(b.1)) as i32 / 4;
-    let mut middle = |a: i32, b: i32, end: i32| {
-        (a + (b - a) / 2 + random.from_to(-far, far)).clamp(-end, end)
-    };
+    let mut middle =
+        |a: i32, b: i32, end: i32| (a + (b - a) / 2 + random.from_to(-far, far)).clamp(-end, end);
     (middle(a.0, b.0, EAST), middle(a.1, b.1, NORTH))
 }

@@ -2,9 +2,9 @@
 
 use super::asking::{Places, Positions, original_ask, original_ask_all, original_contains};
 use super::{ROUNDS, is_wanted, row, time};
+use crate::original;
 use crate::port::opening::{SIZE, open_into};
 use crate::port::striped::{Asked, PORT};
-use crate::original;
 use std::time::Duration;
 
 pub fn run(file: &[u8], anywhere: &Positions, borders: &Positions, places: &Places) {

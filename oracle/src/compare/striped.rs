@@ -247,9 +247,9 @@ impl Run {
         let built = self.build(subject)?;
         let opened = subject.opened();
         let questions = |random: &mut Random, most| {
-            opened.as_ref().map_or(vec![Question::Lookup(0.0, 0.0)], |o| {
-                questions::of(o, random, most)
-            })
+            opened
+                .as_ref()
+                .map_or(vec![Question::Lookup(0.0, 0.0)], |o| questions::of(o, random, most))
         };
         if let Ok(numbers) = &built {
             if let Some(original) = original {
@@ -436,7 +436,9 @@ mod with_the_archive {
         let mut run = Run::new(PORT, seed);
         for_seconds(&mut run, seconds, seed);
         let (files, questions) = (run.tally.total(), run.met.questions());
-        println!("compare striped: {files} files and records, {questions} questions by stripes, 0 differences");
+        println!(
+            "compare striped: {files} files and records, {questions} questions by stripes, 0 differences"
+        );
     }
 }
 

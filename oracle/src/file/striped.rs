@@ -61,8 +61,7 @@ fn ring(random: &mut Random, shape: &mut Shape) -> Vec<Op> {
     let counts = if groups > 3 { &COUNTS[..FEW] } else { &COUNTS };
     let mut ring = Vec::new();
     for _ in 0..groups {
-        let chunks =
-            if random.below(60) == 0 { random.pick(&MANY) } else { random.pick(counts) };
+        let chunks = if random.below(60) == 0 { random.pick(&MANY) } else { random.pick(counts) };
         let each = random.pick(&[1, 1, 2, 3]).max(if chunks == 1 { 3 } else { 1 });
         let points = line(random, chunks * each);
         let chunks = points.chunks(each).map(<[Point]>::to_vec).collect();
@@ -215,7 +214,11 @@ mod tests {
         for Case { what, file, numbers } in cases() {
             let opened = rules::open(&file, &[]).ok().expect(what);
             assert_eq!(opened.stripes(u64::MAX), numbers, "{what}");
-            assert_eq!(opened.stripes_need(), numbers.as_ref().map(|all| all.len() as u64).map_err(|&n| n), "{what}");
+            assert_eq!(
+                opened.stripes_need(),
+                numbers.as_ref().map(|all| all.len() as u64).map_err(|&n| n),
+                "{what}"
+            );
             let original = crate::original::opening::open(&file).ok().expect(what);
             if let Ok(numbers) = numbers {
                 assert_eq!(original.stripes(), numbers, "{what}");

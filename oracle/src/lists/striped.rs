@@ -180,7 +180,8 @@ fn of_file(random: &mut Random, file: &[u8], opened: &Opened, i: usize) -> Vec<S
     let mut out = vec![Set { lent: file.to_vec(), numbers: right.clone(), asked }];
     for turn in 0..2 {
         let kind = (2 * i + turn) % numbers::KINDS.len();
-        let mut other = numbers::some(random, kind, &right, &right[..right.len() / 2], opened.groups());
+        let mut other =
+            numbers::some(random, kind, &right, &right[..right.len() / 2], opened.groups());
         other.truncate(HELD);
         let asked = some(random, opened, 5);
         out.push(Set { lent: file.to_vec(), numbers: other, asked });

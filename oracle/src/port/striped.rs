@@ -110,13 +110,6 @@ impl Asked<'_> {
     /// A pointer and a length of each, for the calls.
     pub fn parts(self) -> (*const u8, usize, *const u32, usize, *const u8, usize) {
         let Self { record, file, numbers } = self;
-        (
-            record.as_ptr(),
-            record.len(),
-            numbers.as_ptr(),
-            numbers.len(),
-            file.as_ptr(),
-            file.len(),
-        )
+        (record.as_ptr(), record.len(), numbers.as_ptr(), numbers.len(), file.as_ptr(), file.len())
     }
 }

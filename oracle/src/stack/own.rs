@@ -123,12 +123,7 @@ mod tests {
     }
 
     fn call(export: extern "C" fn(u64) -> u64) -> Call {
-        Call {
-            export: export as *const (),
-            words: [7; WORDS],
-            floats: [0.0; 2],
-            takes_more: false,
-        }
+        Call { export: export as *const (), words: [7; WORDS], floats: [0.0; 2], takes_more: false }
     }
 
     #[test]

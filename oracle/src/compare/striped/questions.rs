@@ -1,8 +1,8 @@
 //! Where it is asked: beside every box in y, and at the floats that tell.
 
 use crate::random::Random;
-use crate::rules::Opened;
 use crate::rules::Bounds;
+use crate::rules::Opened;
 use crate::voice::Question;
 
 /// Beside a box's least and greatest y, in hundred-thousandths of a degree.

@@ -87,11 +87,7 @@ fn built() -> Vec<Case> {
         case(
             "eight chunks, two stripes",
             one(&[0, 1, 2, 3, 4, 5, 6, 7]),
-            numbers(
-                &[[0, 7, 2, 5, 0]],
-                &[[11, 0, 4], [15, 0, 5]],
-                &[0, 1, 2, 3, 3, 4, 5, 6, 7],
-            ),
+            numbers(&[[0, 7, 2, 5, 0]], &[[11, 0, 4], [15, 0, 5]], &[0, 1, 2, 3, 3, 4, 5, 6, 7]),
         ),
         // (y + 11) · 3 / 11: from -7 on it is 1, from -3 on 2.
         case(
@@ -122,11 +118,7 @@ fn built() -> Vec<Case> {
         case(
             "lower than it has stripes",
             one(&[0, 0, 0, 0, 1, 1, 1, 1]),
-            numbers(
-                &[[0, 1, 2, 5, 0]],
-                &[[11, 0, 4], [15, 0, 5]],
-                &[0, 1, 2, 3, 3, 4, 5, 6, 7],
-            ),
+            numbers(&[[0, 1, 2, 5, 0]], &[[11, 0, 4], [15, 0, 5]], &[0, 1, 2, 3, 3, 4, 5, 6, 7]),
         ),
         case(
             "boxes as high as the group's",
@@ -138,8 +130,16 @@ fn built() -> Vec<Case> {
             ),
         ),
         // A group of one chunk is not looked at in y.
-        case("one chunk, below its group's box", low(ring_of(vec![triangle()]), 0, -1), Ok(vec![0; 5])),
-        case("one chunk, above its group's box", high(ring_of(vec![triangle()]), 0, 5), Ok(vec![0; 5])),
+        case(
+            "one chunk, below its group's box",
+            low(ring_of(vec![triangle()]), 0, -1),
+            Ok(vec![0; 5]),
+        ),
+        case(
+            "one chunk, above its group's box",
+            high(ring_of(vec![triangle()]), 0, 5),
+            Ok(vec![0; 5]),
+        ),
     ]
 }
 

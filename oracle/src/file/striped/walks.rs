@@ -22,8 +22,7 @@ pub fn square() -> Vec<u8> {
 }
 
 /// Two stripes, below 4 and from there on. The first has chunks 0 to 2, the second 2 to 7.
-pub const OF_SQUARE: [u32; 20] =
-    [0, 8, 2, 5, 0, 11, 0, 3, 14, 0, 6, 0, 1, 2, 2, 3, 4, 5, 6, 7];
+pub const OF_SQUARE: [u32; 20] = [0, 8, 2, 5, 0, 11, 0, 3, 14, 0, 6, 0, 1, 2, 2, 3, 4, 5, 6, 7];
 
 /// The square's numbers with some set.
 fn with(set: &[(usize, u32)]) -> Vec<u32> {
@@ -70,7 +69,11 @@ fn in_the_first() -> Vec<(&'static str, Vec<u32>, Said<bool>)> {
         ("the stripes' place at 2^64 - 1", with(&[(3, FAR), (4, FAR)]), Err(44)),
         ("the stripes' place at 2^64 - 3", with(&[(3, FAR - 2), (4, FAR)]), Err(44)),
         ("the stripes' place at 2^32 and 5", with(&[(4, 1)]), Err(44)),
-        ("the stripes' place at 2^64 - 1, the second one", with(&[(0, 0x8000_0000), (3, FAR), (4, FAR)]), Err(44)),
+        (
+            "the stripes' place at 2^64 - 1, the second one",
+            with(&[(0, 0x8000_0000), (3, FAR), (4, FAR)]),
+            Err(44),
+        ),
         // Other heights than the group's: 2 is held to the first stripe, and to the last.
         ("a least y far above", with(&[(0, 0x7fff_ffff)]), YES),
         ("a least y far below: the second stripe", with(&[(0, 0x8000_0000)]), YES),
