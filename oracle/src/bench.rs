@@ -4,7 +4,7 @@ mod asking;
 pub mod hostile;
 mod large;
 pub mod map;
-#[cfg(feature = "striped")]
+#[cfg(striped)]
 mod striped;
 pub mod zones;
 

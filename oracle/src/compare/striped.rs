@@ -3,6 +3,7 @@
 //! them are those of the plain walk: the rules', the port's and the original's. Lent memory is looked at to its last number.
 
 pub mod questions;
+#[cfg(any(test, not(striped), feature = "stand_in"))]
 mod stand_in;
 
 use super::Tally;
@@ -393,9 +394,9 @@ mod with_the_archive {
     use crate::compare::stop;
     use std::time::{Duration, Instant};
 
-    #[cfg(feature = "striped")]
+    #[cfg(striped)]
     use crate::port::striped::PORT;
-    #[cfg(not(feature = "striped"))]
+    #[cfg(not(striped))]
     use stand_in::STAND_IN as PORT;
 
     const SAMPLE: &str = concat!(env!("CARGO_MANIFEST_DIR"), "/../sample/real-ne.tzb");
@@ -417,7 +418,7 @@ mod with_the_archive {
     /// The kept files and the sample; then random files until the time is over.
     pub fn run(seconds: u64, seed: u64) {
         println!("seed {seed}, random files for {seconds} s");
-        if cfg!(not(feature = "striped")) {
+        if cfg!(not(striped)) {
             println!("the archive has no stripes: the rules stand in its place");
         }
         let mut run = Run::new(PORT, seed);

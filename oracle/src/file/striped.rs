@@ -4,8 +4,8 @@ mod cases;
 pub mod numbers;
 mod walks;
 
-pub use cases::{Case, cases};
-pub use walks::{OF_SQUARE, square, walks};
+pub use cases::cases;
+pub use walks::{square, walks};
 
 use super::*;
 
@@ -204,6 +204,8 @@ pub fn moved(random: &mut Random, file: &[u8]) -> Vec<u8> {
 
 #[cfg(test)]
 mod tests {
+    use super::cases::Case;
+    use super::walks::OF_SQUARE;
     use super::*;
     use crate::rules;
     use crate::voice::Voice;

@@ -15,7 +15,7 @@ pub struct Lent {
     ends: Vec<u64>,
     points: Vec<i32>,
     zones: Vec<u32>,
-    #[cfg(feature = "striped")]
+    #[cfg(striped)]
     numbers: Vec<u32>,
     text: Vec<u8>,
 }
@@ -28,7 +28,7 @@ impl Lent {
             ends: vec![0; 2],
             points: vec![0; 2 * 65_535],
             zones: vec![0; 65_535],
-            #[cfg(feature = "striped")]
+            #[cfg(striped)]
             numbers: vec![0; 0x10_0000],
             text: vec![0; 0x40_0000],
         }
@@ -162,7 +162,7 @@ fn of_file(
     call(Export::Utf8, utf8 as *const (), &[f, length], none);
     call(Export::Open, open as *const (), &[f, length, record, 0], none);
     call(Export::Open, open as *const (), &[f, length, record, SIZE as u64], none);
-    #[cfg(feature = "striped")]
+    #[cfg(striped)]
     build([record, SIZE as u64, f, length], lent, &mut call);
     for turn in 0..turns {
         let at = position(random, turn);
@@ -170,13 +170,13 @@ fn of_file(
             call(Export::Lookup, lookup as *const (), &[f, length], at);
         }
         questions(random, [record, SIZE as u64, f, length], at, lent, &mut call);
-        #[cfg(feature = "striped")]
+        #[cfg(striped)]
         by_stripes(random, [record, SIZE as u64, f, length], at, lent, &mut call);
     }
 }
 
 /// The stripes' numbers. Where they are refused, those of a file before stay.
-#[cfg(feature = "striped")]
+#[cfg(striped)]
 fn build(
     [r, size, f, length]: [u64; 4],
     lent: &mut Lent,
@@ -191,7 +191,7 @@ fn build(
 }
 
 /// The walks' questions with the numbers that were built last, whole or cut.
-#[cfg(feature = "striped")]
+#[cfg(striped)]
 fn by_stripes(
     random: &mut Random,
     [r, size, f, length]: [u64; 4],

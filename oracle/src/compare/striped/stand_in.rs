@@ -1,9 +1,11 @@
 //! The rules behind the exports' forms, for tests that change one thing, and wherever the archive does not have the exports.
 
+#[cfg(any(test, not(striped)))]
 use crate::port::striped::Stripes;
 use crate::rules::{Judge, Opened, Said};
 use std::slice::{from_raw_parts, from_raw_parts_mut};
 
+#[cfg(any(test, not(striped)))]
 pub const STAND_IN: Stripes = Stripes { need, build, contains, ask, ask_all };
 
 fn code(said: Said<i64>) -> i64 {

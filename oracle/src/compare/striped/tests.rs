@@ -17,7 +17,7 @@ fn the_rules_are_not_found_fault_with() {
     assert_eq!(found(STAND_IN), None);
 }
 
-#[cfg(feature = "striped")]
+#[cfg(striped)]
 #[test]
 fn the_port_is_not_found_fault_with() {
     assert_eq!(found(crate::port::striped::PORT), None);
