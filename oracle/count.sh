@@ -2,6 +2,7 @@
 # Counts the instructions that each side runs for each row of the benchmark, once through the row's inputs, and prints the ratio
 # original / port. It takes qemu's user emulation and a C compiler. The archive has to stand, as for every run of the oracle.
 #   sh oracle/count.sh FILE.tzb [ROWS]    ROWS is a part of a row's name: only such rows are counted
+#   sh oracle/count.sh large [ROWS]       the same of a file with large groups, which the oracle makes
 [ $# -gt 0 ] || { sed -n 's/^#   //p' "$0" >&2; exit 2; }
 cd "$(dirname "$0")/.." || exit 2
 mkdir -p target

@@ -2,7 +2,10 @@
 
 mod asking;
 pub mod hostile;
+mod large;
 pub mod map;
+#[cfg(striped)]
+mod striped;
 pub mod zones;
 
 use crate::bytes;
@@ -71,10 +74,9 @@ pub fn run(file: Option<&Path>, wanted: &str) {
     let names: Vec<Vec<u8>> =
         (0..20_000).map(|i| ascii[i * 20..i * 20 + 8 + i % 20].to_vec()).collect();
 
-    println!("{:<46}{:>12}{:>12}{:>8}", "item", "port", "original", "ratio");
+    head();
     if let Some(file) = &file {
-        of_bytes("opening", &[file.clone()], refusal, original_open);
-        asking::run(file);
+        of_file(file);
     }
     of_bytes("CRC-32", &[whole], tzb_crc32, original_crc32);
     of_bytes("CRC-32, messages of one byte", &vec![vec![0]; 2_000], tzb_crc32, original_crc32);
@@ -89,6 +91,22 @@ pub fn run(file: Option<&Path>, wanted: &str) {
     let far: Vec<Scene> =
         (0..50_000).map(|_| Scene { y: 9e6, ..KINDS[0].1(&mut random) }).collect();
     of_scenes("above the segment", &far, tzb_ray, original_ray);
+}
+
+/// Opening and asking a file with large groups.
+pub fn large(wanted: &str) {
+    WANTED.get_or_init(|| wanted.to_string());
+    head();
+    of_file(&large::file());
+}
+
+fn head() {
+    println!("{:<46}{:>12}{:>12}{:>8}", "item", "port", "original", "ratio");
+}
+
+fn of_file(file: &[u8]) {
+    of_bytes("opening", &[file.to_vec()], refusal, original_open);
+    asking::run(file);
 }
 
 fn of_bytes(name: &str, all: &[Vec<u8>], port: OfBytes, original: OfBytes) {

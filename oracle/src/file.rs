@@ -11,6 +11,7 @@ mod grid;
 pub mod maps;
 mod shape;
 pub mod smaller;
+pub mod striped;
 pub mod tables;
 
 pub use cases::cases;

@@ -78,6 +78,16 @@ pub const EVERY: [Departure; 7] = [
     Departure::Stripes,
 ];
 
+/// All but that of the stripes: none is met on a file whose stripes can be built.
+pub const BUT_STRIPES: [Departure; 6] = [
+    Departure::Type11,
+    Departure::EmptyInside,
+    Departure::ChunkRecord,
+    Departure::ShortGroup,
+    Departure::ShortRing,
+    Departure::ReadsOn,
+];
+
 /// The number by the rules, 0 where the file opens.
 pub fn number(file: &[u8], departures: &[Departure]) -> u32 {
     rules::open(file, departures).err().unwrap_or(0)

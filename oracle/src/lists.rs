@@ -4,6 +4,7 @@ mod asked;
 mod blocks;
 mod map;
 mod open;
+mod striped;
 mod walked;
 
 use crate::bytes::{self, OF_NUMBERS};
@@ -41,6 +42,21 @@ pub fn write(folder: &Path) {
     met("candidate", &[0, 30, 31, 44]);
     walked(folder);
     maps(folder);
+    stripes(folder);
+}
+
+fn stripes(folder: &Path) {
+    let (list, counts) = striped::list();
+    keep(folder, "striped.bin", &list, &counts);
+    let met = |kind, numbers: &[u32]| {
+        let met = |n| counts.get(&(kind, n)).is_some_and(|&count| count >= 2);
+        numbers.iter().for_each(|&n| assert!(met(n), "a {kind} with {n} is not met"));
+    };
+    met("need", &[0, 34, 44, 49]);
+    met("build", &[0, 34, 44, 46, 49]);
+    met("point", &[0, 34, 44, 45]);
+    met("lookup", &[0, 34, 44]);
+    met("list", &[0, 34, 44, 46]);
 }
 
 fn maps(folder: &Path) {

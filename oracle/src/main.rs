@@ -30,11 +30,13 @@ oracle compare exact [SECONDS [SEED]]
 oracle compare exact FILE.tzb [SECONDS [SEED]]
 oracle compare wide [SECONDS [SEED]]
 oracle compare map [SECONDS [SEED]]
+oracle compare striped [SECONDS [SEED]]
 oracle load [INPUTS [SEED]] [--from NUMBER]
 oracle stack [SEED]
 oracle short [SECONDS [SEED]]
 oracle lists FOLDER
 oracle bench [FILE.tzb [ROWS]]
+oracle bench large [ROWS]
 oracle bench sections
 oracle bench zones
 oracle bench map FILE.tzb";
@@ -65,6 +67,13 @@ fn main() {
         ["compare", "map"] => compare::map::run(60, random::fresh_seed()),
         ["compare", "map", seconds] => compare::map::run(number(seconds), random::fresh_seed()),
         ["compare", "map", seconds, seed] => compare::map::run(number(seconds), number(seed)),
+        ["compare", "striped"] => compare::striped::run(60, random::fresh_seed()),
+        ["compare", "striped", seconds] => {
+            compare::striped::run(number(seconds), random::fresh_seed())
+        }
+        ["compare", "striped", seconds, seed] => {
+            compare::striped::run(number(seconds), number(seed))
+        }
         ["compare", "wide"] => compare::wide::run(60, random::fresh_seed()),
         ["compare", "wide", seconds] => compare::wide::run(number(seconds), random::fresh_seed()),
         ["compare", "wide", seconds, seed] => compare::wide::run(number(seconds), number(seed)),
@@ -80,6 +89,8 @@ fn main() {
         ["short", seconds, seed] => short(number(seconds), number(seed)),
         ["lists", folder] => lists::write(folder.as_ref()),
         ["bench"] => bench::run(None, ""),
+        ["bench", "large"] => bench::large(""),
+        ["bench", "large", rows] => bench::large(rows),
         ["bench", "sections"] => bench::hostile::run(),
         ["bench", "zones"] => bench::zones::run(),
         ["bench", "map", file] => bench::map::run(file.as_ref()),
@@ -106,6 +117,7 @@ fn short(seconds: u64, seed: u64) {
     compare::wide::short(seconds, seed);
     compare::asking::short(seconds, seed);
     compare::map::short(seconds, seed);
+    compare::striped::short(seconds, seed);
     load::short(5000 * seconds, seed);
     stack::short(seed);
 }

@@ -2,6 +2,7 @@
 
 mod asking;
 pub mod opening;
+mod stripes;
 
 use crate::bytes::{Reading, refused};
 use crate::scene::{self, Scene};

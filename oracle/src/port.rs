@@ -6,6 +6,7 @@ pub mod exports;
 mod header;
 pub mod map;
 pub mod opening;
+pub mod striped;
 
 use crate::bytes::Reading;
 use crate::scene::Scene;

@@ -5,16 +5,20 @@ mod asking;
 mod bytes;
 mod chunk;
 mod full;
+mod kept;
 pub mod map;
 mod questions;
 mod ray;
 mod records;
+pub mod stripes;
 mod walk;
 
 pub use asking::Judge;
 pub use bytes::crc32;
 pub use full::{Broken, full_check};
 pub use questions::Candidates;
+pub use records::Bounds;
+pub use stripes::Way;
 
 use bytes::{i16_at, i32_at, u16_at, u32_at, utf8};
 

@@ -13,17 +13,22 @@ type Original<'a> = original::opening::Opened<'a>;
 // The original behind calls as costly as those of the port.
 
 #[inline(never)]
-extern "C" fn original_ask(file: &Original, lng: f64, lat: f64) -> i64 {
+pub(super) extern "C" fn original_ask(file: &Original, lng: f64, lat: f64) -> i64 {
     file.zone(lng, lat)
 }
 
 #[inline(never)]
-extern "C" fn original_ask_all(file: &Original, lng: f64, lat: f64, zones: &mut Vec<u32>) -> i64 {
+pub(super) extern "C" fn original_ask_all(
+    file: &Original,
+    lng: f64,
+    lat: f64,
+    zones: &mut Vec<u32>,
+) -> i64 {
     file.zones(lng, lat, zones)
 }
 
 #[inline(never)]
-extern "C" fn original_contains(file: &Original, zone: u32, x: i32, y: i32) -> i32 {
+pub(super) extern "C" fn original_contains(file: &Original, zone: u32, x: i32, y: i32) -> i32 {
     file.is_in(zone, x, y)
 }
 
@@ -38,10 +43,10 @@ extern "C" fn original_name(file: &Original, zone: u32) -> i64 {
 }
 
 /// Positions in degrees.
-type Positions = Vec<(f64, f64)>;
+pub(super) type Positions = Vec<(f64, f64)>;
 
 /// A zone and a whole-number point.
-type Places = Vec<(u32, i32, i32)>;
+pub(super) type Places = Vec<(u32, i32, i32)>;
 
 pub fn run(file: &[u8]) {
     let mut random = Random::new(2);
@@ -58,7 +63,7 @@ pub fn run(file: &[u8]) {
         .collect();
     let degrees = |n: i32| f64::from(n) / 100_000.0;
     let borders: Positions = beside.iter().map(|&(x, y)| (degrees(x), degrees(y))).collect();
-    let judge = Judge { opened, original: &[] };
+    let judge = Judge::plain(opened, &[]);
     let places: Places = beside
         .iter()
         .flat_map(|&(x, y)| {
@@ -84,6 +89,8 @@ pub fn run(file: &[u8]) {
     both.lookup_into("near borders", &borders);
     both.contains("near borders, the zones there", &places);
     both.contains("random zones and points", &far);
+    #[cfg(striped)]
+    super::striped::run(file, &anywhere, &borders, &places);
     both.decode(opened.chunks() as u32);
     both.names(opened.zones as u32);
     full_check(file);

@@ -151,7 +151,7 @@ pub fn one(path: &Path, seconds: u64, seed: u64) {
         Err(difference) => stop(&file, &difference.to_string(), |_| None),
     };
     ask((0..opened.chunks() as u32 + 1).map(|i| Question::Decode(i, u64::MAX)).collect());
-    let judge = rules::Judge { opened, original: &[] };
+    let judge = rules::Judge::plain(opened, &[]);
     let mut random = Random::new(seed);
     let chunks = opened.chunks();
     let (first, mut swept) = (random.below(chunks as usize) as u64, 0);

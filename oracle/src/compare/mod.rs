@@ -8,6 +8,7 @@ mod geometry;
 pub mod map;
 mod panel;
 mod sides;
+pub mod striped;
 mod utf8;
 mod varint;
 pub mod wide;

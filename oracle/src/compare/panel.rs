@@ -103,7 +103,7 @@ fn in_short(answer: &Said<Answer>) -> Said<&'static str> {
 
 /// What the rules say, with these departures.
 fn rules(opened: Opened, original: &[Departure], question: Question) -> Said<Answer> {
-    Judge { opened, original }.ask(question).expect("the rules can be asked all")
+    Judge::plain(opened, original).ask(question).expect("the rules can be asked all")
 }
 
 impl<'a> Panel<'a> {
@@ -285,7 +285,7 @@ pub mod tests {
     /// Lets a voice speak that says document 01's answers, changed.
     pub fn join(panel: &mut Panel, change: Change) {
         if let Some(opened) = panel.document {
-            panel.let_speak("another", Changed(Judge { opened, original: &[] }, change), false);
+            panel.let_speak("another", Changed(Judge::plain(opened, &[]), change), false);
         }
     }
 

@@ -110,6 +110,11 @@ fn encode(points: &[Point]) -> Vec<u8> {
 }
 
 impl Shape {
+    /// Without zones.
+    pub fn with_slack(slack: i32) -> Self {
+        Self { slack, ..Self::default() }
+    }
+
     pub fn add_group(&mut self, chunks: Chunks) -> usize {
         self.groups.push(chunks);
         self.groups.len() - 1

@@ -1,7 +1,7 @@
 //! The smallest input of each listed difference, put to document 01's rules, to the port and to the original. None may change its answer.
 
-use crate::file::{self, CHUNKDIR, POINTS, broken, entries, put, word};
-use crate::original::opening::open as original;
+use crate::file::{self, CHUNKDIR, POINTS, broken, entries, put, striped, word};
+use crate::original::opening::{PANIC, open as original};
 use crate::port;
 use crate::rules::{self, Judge};
 use crate::voice::{Answer, Question, Voice};
@@ -62,7 +62,7 @@ fn all(file: &[u8], lent: &[u8], q: Question) -> [Result<Answer, u32>; 3] {
     let opened = rules::open(file, &[]).ok().unwrap().asked_with(lent);
     let port = port::opening::open(file).ok().unwrap().asked_with(lent);
     let original = original(file).ok().unwrap().asked_with(lent);
-    let judge = Judge { opened, original: &[] };
+    let judge = Judge::plain(opened, &[]);
     [judge.ask(q), port.ask(q), original.ask(q)].map(Option::unwrap)
 }
 
@@ -101,6 +101,58 @@ fn of_a_chunk_below_its_group() {
     assert_eq!(file.len(), 545);
     let (inside, outside) = (Ok(Answer::Is(true)), Ok(Answer::Is(false)));
     differs(&file, &file, Question::Contains(0, 1, 1), inside, outside);
+}
+
+/// Whether sums that do not fit are told by a panic: so it is in a debug build, and with CARGO_PROFILE_RELEASE_OVERFLOW_CHECKS=true.
+fn sums_are_checked() -> bool {
+    std::panic::catch_unwind(|| std::hint::black_box(u8::MAX) + std::hint::black_box(1)).is_err()
+}
+
+/// In a group of two chunks or more a chunk's box below the group's: the original's difference is below zero, and is taken for a number near
+/// 2^64. With one stripe, up to seven chunks, that is held to it, and nothing is lost. From eight on the product does not fit: a panic where
+/// sums are checked, else the chunk's first stripe is the last one there is, and here it stands in none. Document 02: 49.
+#[test]
+fn of_a_box_below_its_groups() {
+    for (chunks, length) in [(2, 385), (7, 509), (8, 533), (9, 561)] {
+        let file = striped::leaving(chunks, false);
+        assert_eq!(file.len(), length);
+        assert_eq!(rules::open(&file, &[]).ok().unwrap().stripes_need(), Err(49));
+        let numbers = original(&file).map(|original| original.stripes());
+        let all: Vec<u32> = (0..chunks as u32).collect();
+        let kept = &all[..chunks - 1];
+        match chunks {
+            0..8 => {
+                let head = [0, 1, 1, 5, 0, 8, 0, chunks as u32];
+                assert_eq!(numbers, Ok([&head[..], &all].concat()));
+            }
+            _ if sums_are_checked() => assert_eq!(numbers, Err(PANIC)),
+            _ => {
+                let end = 11 + kept.len() as u32;
+                let head = [0, 1, 2, 5, 0, 11, 0, kept.len() as u32, end, 0, 0];
+                assert_eq!(numbers, Ok([&head[..], kept].concat()));
+            }
+        }
+    }
+}
+
+/// A box above the group's is held to the last stripe by the original, and nothing wraps; document 02 refuses it all the same, by 49.
+#[test]
+fn of_a_box_above_its_groups() {
+    for chunks in [2, 7, 8, 9] {
+        let file = striped::leaving(chunks, true);
+        assert_eq!(rules::open(&file, &[]).ok().unwrap().stripes_need(), Err(49));
+        let numbers = original(&file).ok().unwrap().stripes();
+        let all: Vec<u32> = (0..chunks as u32).collect();
+        let expected = match chunks {
+            0..8 => [&[0, 1, 1, 5, 0, 8, 0, chunks as u32][..], &all].concat(),
+            _ => {
+                let (count, end) = (chunks as u32, 11 + chunks as u32);
+                let head = [0, 1, 2, 5, 0, 11, 0, count, end, 0, 1];
+                [&head[..], &all, &all[chunks - 1..]].concat()
+            }
+        };
+        assert_eq!(numbers, expected);
+    }
 }
 
 /// No caller of the original gets there: its reader owns its bytes.

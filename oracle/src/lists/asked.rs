@@ -76,7 +76,7 @@ fn candidates(rules: &Opened, lng: f64, lat: f64) -> Said<[u64; 3]> {
 /// Where a name ends before it starts, the original's difference wraps and it says 44. A file that the original does not open is left out.
 fn hold_original(file: &[u8], lent: &[u8], questions: &[Question]) {
     let Ok(rules) = rules::open(file, &ALL) else { return };
-    let judge = Judge { opened: rules.asked_with(lent), original: &ALL };
+    let judge = Judge::plain(rules.asked_with(lent), &ALL);
     let original = original::opening::open(file).ok().expect("opened by the original");
     let original = original.asked_with(lent);
     for &q in questions {

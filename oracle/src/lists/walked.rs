@@ -41,7 +41,7 @@ pub fn list() -> (Vec<u8>, Counts) {
         for (k, bytes) in lent.iter().enumerate() {
             let questions = some_of(&opened, if k == 0 { MANY } else { FEW });
             block(&mut out, bytes, questions.len());
-            let judge = Judge { opened: opened.asked_with(bytes), original: &[] };
+            let judge = Judge::plain(opened.asked_with(bytes), &[]);
             for &q in &questions {
                 record(&mut out, q, judge.ask(q).unwrap(), &mut counts);
             }
@@ -163,6 +163,6 @@ fn hold_original(file: &[u8], questions: &[Question]) {
     else {
         return;
     };
-    let judge = Judge { opened, original: &EVERY };
+    let judge = Judge::plain(opened, &EVERY);
     questions.iter().for_each(|&q| assert_eq!(original.ask(q), judge.ask(q), "{q:?}"));
 }

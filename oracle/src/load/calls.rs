@@ -3,6 +3,8 @@
 use super::Tally;
 use super::fence::PAGE;
 use super::fence::{Lent, Room};
+#[cfg(striped)]
+use super::inputs::NUMBERS;
 use super::inputs::{Input, LONGEST, SHORT};
 use super::watch;
 use crate::port::exports::{Export, Exports, NAMES};
@@ -14,7 +16,9 @@ pub struct Caller {
     file: Lent,
     record: Lent,
     part: Lent,
-    rooms: [Room; 5],
+    #[cfg(striped)]
+    numbers: Lent,
+    rooms: [Room; 6],
     pub tally: Tally,
 }
 
@@ -22,6 +26,15 @@ type Slice = (*const u8, usize);
 
 /// An answer, or None where it was refused.
 type Answer = Option<i64>;
+
+/// What containment and the lookups say, and the bytes of the listed zones.
+#[derive(Debug, PartialEq)]
+struct Walked {
+    is: i32,
+    found: i64,
+    zones: i64,
+    list: Vec<u8>,
+}
 
 fn hold(holds: bool, what: impl FnOnce() -> String) -> Result<(), String> {
     if holds { Ok(()) } else { Err(what()) }
@@ -34,7 +47,9 @@ impl Caller {
             file: Lent::new(LONGEST),
             record: Lent::new(SHORT),
             part: Lent::new(SHORT),
-            rooms: [(); 5].map(|()| Room::new()),
+            #[cfg(striped)]
+            numbers: Lent::new(4 * NUMBERS),
+            rooms: [(); 6].map(|()| Room::new()),
             tally: Tally::new(),
         }
     }
@@ -49,7 +64,11 @@ impl Caller {
         let record = self.record.put(record, input.at_end[1]);
         self.names(input, record, file)?;
         self.candidates(input, record, file)?;
-        self.walks(input, record, file)?;
+        let walked = self.walks(input, record, file)?;
+        #[cfg(striped)]
+        self.stripes(input, record, file, &walked)?;
+        #[cfg(not(striped))]
+        let _ = walked;
         let part = self.part.put(&input.part, input.at_end[2]);
         self.parts(input, part)
     }
@@ -61,12 +80,17 @@ impl Caller {
         self.exports
     }
 
-    /// A code from `first` to `last` answers; -1001 to -1047 refuses, -1048 only where a zone's text is asked for.
+    /// A code from `first` to `last` answers; -1001 to -1047 refuses, -1048 only where a zone's text is asked for, -1049 only where stripes
+    /// are.
     fn said(&mut self, export: Export, code: i64, first: i64, last: i64) -> Result<Answer, String> {
         if (first..=last).contains(&code) {
             return Ok(Some(code));
         }
-        let last = if NAMES[export as usize].starts_with("tzb_map") { -1048 } else { -1047 };
+        let last = match NAMES[export as usize] {
+            name if name.starts_with("tzb_map") => -1048,
+            name if name.starts_with("tzb_stripes") => -1049,
+            _ => -1047,
+        };
         let refuses = (last..=-1001).contains(&code);
         hold(refuses, || format!("{code} is no answer and no refusal"))?;
         self.tally.refused[export as usize][(-1000 - code) as usize] += 1;
@@ -174,7 +198,12 @@ impl Caller {
         Ok(())
     }
 
-    fn walks(&mut self, input: &Input, (r, size): Slice, (f, length): Slice) -> Result<(), String> {
+    fn walks(
+        &mut self,
+        input: &Input,
+        (r, size): Slice,
+        (f, length): Slice,
+    ) -> Result<Walked, String> {
         let Input { zone, chunk, x, y, lng, lat, guard, rooms: [_, room, places], .. } = *input;
         let export = self.call(Export::Contains).contains;
         let is = unsafe { export(r, size, f, length, zone, x, y) };
@@ -193,8 +222,74 @@ impl Caller {
         let export = self.call(Export::AskAll).ask_all;
         let zones = unsafe { export(r, size, f, length, lng, lat, out, places) };
         let said = self.said(Export::AskAll, zones, 0, places as i64)?;
-        self.rooms[2].take(4 * said.unwrap_or(0) as usize)?;
-        Ok(())
+        let list = self.rooms[2].take(4 * said.unwrap_or(0) as usize)?;
+        Ok(Walked { is, found, zones, list })
+    }
+
+    /// The need, then the numbers, 46 exactly where the room is below it; then the walks' questions, with these numbers or others. With the
+    /// numbers that were built they are answered as without.
+    #[cfg(striped)]
+    fn stripes(
+        &mut self,
+        input: &Input,
+        (r, size): Slice,
+        (f, length): Slice,
+        plain: &Walked,
+    ) -> Result<(), String> {
+        let need = unsafe { (self.call(Export::StripesNeed).stripes_need)(r, size, f, length) };
+        let said = self.said(Export::StripesNeed, need, 0, i64::MAX)?;
+        let may = said.is_some() || [-1034, -1044, -1049].contains(&need);
+        hold(may, || format!("{need} is no answer of a need"))?;
+
+        // The guard chooses the room: none, a number short, just enough, all there is.
+        let most = PAGE / 4;
+        let needed = said.map_or(most, |need| most.min(need as usize));
+        let room = [0, needed.saturating_sub(1), needed, most][(input.guard >> 2) as usize % 4];
+        let lent = self.rooms[5].lend(4 * room, input.at_end[3], input.guard)?.cast();
+        let export = self.call(Export::Stripes).stripes;
+        let code = unsafe { export(r, size, f, length, lent, room) };
+        let written = self.said(Export::Stripes, code, 0, room as i64)?;
+        let built = self.rooms[5].take(4 * written.unwrap_or(0) as usize)?;
+        let may = match said {
+            Some(need) if (room as i64) < need => code == -1046,
+            _ => code == need,
+        };
+        hold(may, || format!("{code} with room for {room}, where the need is {need}"))?;
+        self.by_stripes(input, (r, size), (f, length), (written.is_some(), built), plain)
+    }
+
+    #[cfg(striped)]
+    fn by_stripes(
+        &mut self,
+        input: &Input,
+        (r, size): Slice,
+        (f, length): Slice,
+        (is_built, built): (bool, Vec<u8>),
+        plain: &Walked,
+    ) -> Result<(), String> {
+        let Input { zone, x, y, lng, lat, guard, rooms: [_, _, places], .. } = *input;
+        let other: Option<Vec<u8>> =
+            input.numbers.as_ref().map(|all| all.iter().flat_map(|n| n.to_le_bytes()).collect());
+        let alike = is_built && other.is_none();
+        let (n, bytes) = self.numbers.put(&other.unwrap_or(built), input.at_end[6]);
+        let (n, count) = (n.cast::<u32>(), bytes / 4);
+
+        let export = self.call(Export::ContainsStriped).contains_striped;
+        let is = unsafe { export(r, size, n, count, f, length, zone, x, y) };
+        self.said(Export::ContainsStriped, is.into(), 0, 1)?;
+
+        let export = self.call(Export::AskStriped).ask_striped;
+        let found = unsafe { export(r, size, n, count, f, length, lng, lat) };
+        self.said(Export::AskStriped, found, -1, u32::MAX.into())?;
+
+        let out = self.rooms[2].lend(4 * places, input.at_end[5], guard)?.cast();
+        let export = self.call(Export::AskAllStriped).ask_all_striped;
+        let zones = unsafe { export(r, size, n, count, f, length, lng, lat, out, places) };
+        let said = self.said(Export::AskAllStriped, zones, 0, places as i64)?;
+        let list = self.rooms[2].take(4 * said.unwrap_or(0) as usize)?;
+
+        let walked = Walked { is, found, zones, list };
+        hold(!alike || walked == *plain, || format!("by stripes {walked:?}, plainly {plain:?}"))
     }
 
     fn parts(&mut self, input: &Input, (p, length): Slice) -> Result<(), String> {

@@ -2,6 +2,7 @@
 
 use crate::bytes::{self, hex};
 use crate::file::damage::{Aim, TELLING};
+use crate::file::striped::{self, numbers};
 use crate::file::{self, put, repair, seal, word};
 use crate::port;
 use crate::random::Random;
@@ -64,6 +65,8 @@ pub struct Input {
     pub file: Vec<u8>,
     /// The record that questions are asked with. None: the one that opening writes, if it does.
     pub record: Option<Vec<u8>>,
+    /// The numbers of stripes that questions are asked with. None: those that building writes, if it does.
+    pub numbers: Option<Vec<u32>>,
     /// Bytes for a number, a sum and a text, and a place there.
     pub part: Vec<u8>,
     pub at: usize,
@@ -79,8 +82,9 @@ pub struct Input {
     pub scene: Scene,
     /// How much is lent for a record, in bytes; for points and zones, in numbers.
     pub rooms: [usize; 3],
-    /// Of the file, the record, the part and the three rooms: whether it ends where its pages end. Else it starts where they start.
-    pub at_end: [bool; 6],
+    /// Of the file, the record, the part, the three rooms and the numbers: whether it ends where its pages end. Else it starts where they
+    /// start.
+    pub at_end: [bool; 7],
     /// What lent memory holds before a call.
     pub guard: u64,
 }
@@ -93,6 +97,10 @@ impl fmt::Debug for Input {
             Some(record) => writeln!(f, "asked with the record {}", hex(record))?,
             None => writeln!(f, "asked with the record that opening writes")?,
         }
+        match &self.numbers {
+            Some(numbers) => writeln!(f, "and with the numbers {numbers:?}")?,
+            None => writeln!(f, "and with the numbers that building writes")?,
+        }
         writeln!(f, "bytes {}, place {at}", hex(&self.part))?;
         writeln!(f, "zone {zone}, chunk {chunk}, place {place}, point {x} {y}")?;
         let bits = [lng.to_bits(), lat.to_bits()];
@@ -102,10 +110,12 @@ impl fmt::Debug for Input {
     }
 }
 
-/// A valid file with its record, the fields to damage, points of it, and where they stand.
+/// A valid file with its record, its stripes' numbers, the fields to damage, points of it, and where they stand.
 struct Made {
     file: Vec<u8>,
     record: Vec<u8>,
+    numbers: Vec<u32>,
+    groups: u64,
     aim: Aim,
     points: Vec<(i32, i32)>,
     stored: Range<usize>,
@@ -117,6 +127,8 @@ const FILES: usize = 100;
 /// The longest file, and the longest record and part.
 pub const LONGEST: usize = 8192;
 pub const SHORT: usize = 4096;
+/// So many numbers are lent at the most.
+pub const NUMBERS: usize = 4096;
 
 pub struct Inputs {
     seed: u64,
@@ -132,12 +144,15 @@ fn stream(seed: u64, number: u64) -> Random {
 
 impl Made {
     fn some(random: &mut Random) -> Self {
-        let draft = match random.below(2) {
+        let draft = match random.below(3) {
             0 => file::some(random),
+            1 => striped::some(random),
             _ => file::on_lattice(random),
         };
         let file = draft.lay();
         let opened = rules::open(&file, &[]).ok().expect("a file of the builder");
+        let numbers = opened.stripes(NUMBERS as u64).unwrap_or_default();
+        let groups = opened.groups();
         let whole = |(x, y): (i64, i64)| (x as i32, y as i32);
         let chunks = opened.chunks().min(8);
         let points = (0..chunks).flat_map(|i| opened.readable(i)).map(whole).collect();
@@ -145,7 +160,7 @@ impl Made {
         let record = record.expect("a file of the builder");
         let section = file::entries(&file).into_iter().find(|entry| entry[0] == file::POINTS);
         let [_, off, len] = section.unwrap().map(|n| n as usize);
-        Self { aim: Aim::at(&file), file, record, points, stored: off..off + len }
+        Self { aim: Aim::at(&file), file, record, numbers, groups, points, stored: off..off + len }
     }
 }
 
@@ -171,6 +186,7 @@ impl Inputs {
         let kind = some_kind(random);
         let file = lent_file(random, kind, made);
         let record = self.record(random, kind, made, file.len());
+        let numbers = self.numbers(random, made);
         let part = part(random);
         let bits = random.bits();
         let (x, y) = point(random, &made.points);
@@ -194,12 +210,25 @@ impl Inputs {
                 random.pick(&[0, 1, 2, 3, 4, 7, 8, 12, 16, 33, 66, 1024]),
                 random.pick(&[0, 0, 1, 1, 2, 3, 15, 16, 1024]),
             ],
-            at_end: [0, 1, 2, 3, 4, 5].map(|i| bits >> i & 1 == 1),
+            at_end: [0, 1, 2, 3, 4, 5, 6].map(|i| bits >> i & 1 == 1),
             guard: random.bits(),
             file,
             record,
+            numbers,
             part,
         }
+    }
+
+    /// Those that building writes, most of the time; else of any kind.
+    fn numbers(&self, random: &mut Random, made: &Made) -> Option<Vec<u32>> {
+        if random.below(3) > 0 {
+            return None;
+        }
+        let other = &self.files[random.below(self.files.len())].numbers;
+        let kind = random.below(numbers::KINDS.len());
+        let mut out = numbers::some(random, kind, &made.numbers, other, made.groups);
+        out.truncate(NUMBERS);
+        Some(out)
     }
 
     /// From the file, from what opening writes, of another file, with fields set to anything, of random bytes, of another length.

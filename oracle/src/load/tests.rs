@@ -259,6 +259,77 @@ fn a_wrong_map_is_found_out() {
     assert!(told(Exports { map_length: length_that_is_one_more, ..PORT }).is_some());
 }
 
+#[cfg(striped)]
+mod of_stripes {
+    use super::*;
+
+    unsafe extern "C" fn need_of_one_more(
+        record: *const u8,
+        size: usize,
+        file: *const u8,
+        length: usize,
+    ) -> i64 {
+        let code = unsafe { (PORT.stripes_need)(record, size, file, length) };
+        if code > 0 { code + 1 } else { code }
+    }
+
+    unsafe extern "C" fn stripes_that_write_where_they_refuse(
+        record: *const u8,
+        size: usize,
+        file: *const u8,
+        length: usize,
+        numbers: *mut u32,
+        room: usize,
+    ) -> i64 {
+        let code = unsafe { (PORT.stripes)(record, size, file, length, numbers, room) };
+        if code == -1046 && room > 0 {
+            unsafe { *numbers ^= 1 };
+        }
+        code
+    }
+
+    unsafe extern "C" fn stripes_that_write_one_behind(
+        record: *const u8,
+        size: usize,
+        file: *const u8,
+        length: usize,
+        numbers: *mut u32,
+        room: usize,
+    ) -> i64 {
+        let code = unsafe { (PORT.stripes)(record, size, file, length, numbers, room) };
+        if code > 0 && (code as usize) < room {
+            unsafe { *numbers.add(code as usize) ^= 1 };
+        }
+        code
+    }
+
+    /// Where the plain walk finds a zone, by stripes none is found.
+    #[allow(clippy::too_many_arguments)]
+    unsafe extern "C" fn ask_that_finds_none(
+        record: *const u8,
+        size: usize,
+        numbers: *const u32,
+        count: usize,
+        file: *const u8,
+        length: usize,
+        lng: f64,
+        lat: f64,
+    ) -> i64 {
+        let export = PORT.ask_striped;
+        let code = unsafe { export(record, size, numbers, count, file, length, lng, lat) };
+        if code >= 0 { -1 } else { code }
+    }
+
+    #[test]
+    fn wrong_stripes_are_found_out() {
+        let changed = |exports| told(exports).is_some_and(|what| what.contains("changed"));
+        assert!(changed(Exports { stripes: stripes_that_write_where_they_refuse, ..PORT }));
+        assert!(changed(Exports { stripes: stripes_that_write_one_behind, ..PORT }));
+        assert!(told(Exports { stripes_need: need_of_one_more, ..PORT }).is_some());
+        assert!(told(Exports { ask_striped: ask_that_finds_none, ..PORT }).is_some());
+    }
+}
+
 unsafe extern "C" fn sum_that_reads_one_behind(bytes: *const u8, length: usize) -> u32 {
     unsafe { bytes.add(length).read_volatile().into() }
 }

@@ -66,6 +66,13 @@ pub struct Opened<'a> {
     lent: &'a [u8],
 }
 
+impl<'a> Opened<'a> {
+    /// A record that may be made by hand, and any bytes.
+    pub fn with(record: &[u8], lent: &'a [u8]) -> Self {
+        Self { record: record.to_vec(), lent }
+    }
+}
+
 impl Opened<'_> {
     /// The same record, asked with other bytes.
     pub fn asked_with<'b>(&self, lent: &'b [u8]) -> Opened<'b> {

@@ -1,19 +1,32 @@
 //! Lookups, and containment at a whole-number point.
 
 use super::walk::{Point, Walk};
-use super::{Candidates, Departure, Opened, Said, need};
+use super::{Candidates, Departure, Opened, Said, Way, need};
 
-/// An opened file with the departures by which it is judged.
+/// An opened file with the departures by which it is judged, walked plainly or by stripes.
 #[derive(Clone, Copy)]
 pub struct Judge<'a> {
     pub opened: Opened<'a>,
-    pub original: &'a [Departure],
+    original: &'a [Departure],
+    way: Way<'a>,
+}
+
+impl<'a> Judge<'a> {
+    pub fn plain(opened: Opened<'a>, original: &'a [Departure]) -> Self {
+        Self { opened, original, way: Way::Plain }
+    }
+
+    /// By document 02, with these numbers.
+    pub fn striped(opened: Opened<'a>, numbers: &'a [u32]) -> Self {
+        Self { opened, original: &[], way: Way::Striped(numbers) }
+    }
 }
 
 impl Judge<'_> {
     /// Any float point, without a look at the zone number or the domain.
     pub fn contains_at(&self, zone: u64, x: f64, y: f64) -> Said<bool> {
-        Walk { opened: self.opened, original: self.original, point: Point { x, y } }.zone(zone)
+        let Self { opened, original, way } = *self;
+        Walk { opened, original, way, point: Point { x, y } }.zone(zone)
     }
 
     /// A zone number too large is 45, first of all; then a point outside the domain is no.

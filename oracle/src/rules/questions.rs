@@ -83,8 +83,8 @@ fn parts(word: u64) -> (u64, u64) {
     (word >> 28, word & 0x0fff_ffff)
 }
 
-/// The greatest whole number that is not above. Of a number within ±180.
-fn floor(x: f64) -> i64 {
+/// The greatest whole number that is not above. Of a number within ±9,000,000.
+pub(super) fn floor(x: f64) -> i64 {
     let cut = x as i64;
     if cut as f64 > x { cut - 1 } else { cut }
 }

@@ -3,6 +3,7 @@
 use super::chunk::Bytes;
 use super::ray::{Seen, parity, ray};
 use super::records::{Chunk, Group, Place};
+use super::stripes::{Numbers, Way};
 use super::{Departure, Opened, Said, need};
 
 #[derive(Clone, Copy)]
@@ -27,10 +28,11 @@ impl Tally {
     }
 }
 
-/// One zone's walk at one point, with the original's departures.
+/// One zone's walk at one point, with the original's departures, plainly or by stripes.
 pub struct Walk<'a> {
     pub opened: Opened<'a>,
     pub original: &'a [Departure],
+    pub way: Way<'a>,
     pub point: Point,
 }
 
@@ -94,7 +96,7 @@ impl Walk<'_> {
             }
             if group.bounds.right(p.x) {
                 tally.odd ^= parity(group.entry, group.exit, p.y);
-            } else if self.group(&group, &mut tally)? {
+            } else if self.group(step.group, &group, &mut tally)? {
                 return Ok(on_edge);
             }
         }
@@ -106,7 +108,41 @@ impl Walk<'_> {
         Ok(tally.odd)
     }
 
-    fn group(&self, group: &Group, tally: &mut Tally) -> Said<bool> {
+    fn group(&self, index: u64, group: &Group, tally: &mut Tally) -> Said<bool> {
+        match self.way {
+            Way::Plain => self.plain(group, tally),
+            Way::Striped(numbers) => self.striped(Numbers(numbers), index, group, tally),
+        }
+    }
+
+    /// The chunk numbers of the point's stripe in turn, as they stand. A record is read when its turn comes, and the next one's only where
+    /// the chunk is looked at.
+    fn striped(
+        &self,
+        numbers: Numbers,
+        index: u64,
+        group: &Group,
+        tally: &mut Tally,
+    ) -> Said<bool> {
+        let (o, p) = (&self.opened, self.point);
+        let Some(places) = numbers.places(index, p.y)? else { return self.plain(group, tally) };
+        for place in places {
+            let chunk = numbers.chunk(place, group.count)?;
+            let index = group.first + chunk;
+            let record = o.chunk_at(index)?;
+            if !record.bounds.relevant(p.x, p.y) {
+                continue;
+            }
+            let follows = chunk + 1 < group.count;
+            let next = if follows { Some(o.chunk_at(index + 1)?) } else { None };
+            if self.chunk(group, index, record, next, tally)? {
+                return Ok(true);
+            }
+        }
+        Ok(false)
+    }
+
+    fn plain(&self, group: &Group, tally: &mut Tally) -> Said<bool> {
         let o = &self.opened;
         let last = group.first + group.count - 1;
         let stripe = self.departs(Departure::Stripes) && group.count > 1;

@@ -1,8 +1,8 @@
 //! Inputs that take each way through the exports that takes stack, and each as a call.
 
-use super::own::Call;
+use super::own::{Call, WORDS};
 use crate::file::damage::Aim;
-use crate::file::{self, Chunks, Draft, Op, Part, Shape, tables};
+use crate::file::{self, Chunks, Draft, Op, Part, Shape, striped, tables};
 use crate::port::exports::{Export, Exports, PORT};
 use crate::port::opening::SIZE;
 use crate::random::Random;
@@ -15,6 +15,8 @@ pub struct Lent {
     ends: Vec<u64>,
     points: Vec<i32>,
     zones: Vec<u32>,
+    #[cfg(striped)]
+    numbers: Vec<u32>,
     text: Vec<u8>,
 }
 
@@ -26,6 +28,8 @@ impl Lent {
             ends: vec![0; 2],
             points: vec![0; 2 * 65_535],
             zones: vec![0; 65_535],
+            #[cfg(striped)]
+            numbers: vec![0; 0x10_0000],
             text: vec![0; 0x40_0000],
         }
     }
@@ -75,6 +79,9 @@ fn fixed(random: &mut Random) -> Vec<Vec<u8>> {
     files.extend(file::departing().into_iter().map(|(_, file)| file));
     // Zones that have a text: of one group and of several, of long rings too.
     files.extend(file::maps::cases().into_iter().chain(file::maps::long()).map(|case| case.file));
+    // Groups of many chunks, built into stripes or not.
+    files.extend(striped::cases().into_iter().map(|case| case.file));
+    files.extend((0..20).map(|_| striped::some(random).lay()));
     // Many zones at a point, more than the 16 that are kept, and more than the 256 of a block.
     files.extend([17, 300, 1000].map(many_zones));
     // Chunks of more points than the 256 that are kept, behind each other.
@@ -134,9 +141,10 @@ fn of_file(
     let Exports { open, lookup, full_check, full_check_rule, crc32, utf8, .. } = PORT;
     let (f, length) = (file.as_ptr() as u64, file.len() as u64);
     let mut call = |export: Export, at: *const (), words: &[u64], floats| {
-        let mut all = [0; 8];
+        let mut all = [0; WORDS];
         all[..words.len()].copy_from_slice(words);
-        each(export as usize, &Call { export: at, words: all, floats });
+        let takes_more = words.len() > 8;
+        each(export as usize, &Call { export: at, words: all, floats, takes_more });
     };
     let none = [0.0; 2];
     lent.record.fill(0);
@@ -154,13 +162,55 @@ fn of_file(
     call(Export::Utf8, utf8 as *const (), &[f, length], none);
     call(Export::Open, open as *const (), &[f, length, record, 0], none);
     call(Export::Open, open as *const (), &[f, length, record, SIZE as u64], none);
+    #[cfg(striped)]
+    build([record, SIZE as u64, f, length], lent, &mut call);
     for turn in 0..turns {
         let at = position(random, turn);
         if turn < 4 {
             call(Export::Lookup, lookup as *const (), &[f, length], at);
         }
         questions(random, [record, SIZE as u64, f, length], at, lent, &mut call);
+        #[cfg(striped)]
+        by_stripes(random, [record, SIZE as u64, f, length], at, lent, &mut call);
     }
+}
+
+/// The stripes' numbers. Where they are refused, those of a file before stay.
+#[cfg(striped)]
+fn build(
+    [r, size, f, length]: [u64; 4],
+    lent: &mut Lent,
+    call: &mut impl FnMut(Export, *const (), &[u64], [f64; 2]),
+) {
+    let Exports { stripes_need, stripes, .. } = PORT;
+    let (to, room) = (lent.numbers.as_mut_ptr() as u64, lent.numbers.len() as u64);
+    let none = [0.0; 2];
+    call(Export::StripesNeed, stripes_need as *const (), &[r, size, f, length], none);
+    call(Export::Stripes, stripes as *const (), &[r, size, f, length, to, 0], none);
+    call(Export::Stripes, stripes as *const (), &[r, size, f, length, to, room], none);
+}
+
+/// The walks' questions with the numbers that were built last, whole or cut.
+#[cfg(striped)]
+fn by_stripes(
+    random: &mut Random,
+    [r, size, f, length]: [u64; 4],
+    at: [f64; 2],
+    lent: &mut Lent,
+    call: &mut impl FnMut(Export, *const (), &[u64], [f64; 2]),
+) {
+    let Exports { contains_striped, ask_striped, ask_all_striped, .. } = PORT;
+    let whole = lent.numbers.len() as u64;
+    let (n, count) = (lent.numbers.as_ptr() as u64, random.pick(&[whole, whole, whole, 5, 30, 0]));
+    let with = |more: &[u64]| [&[r, size, n, count, f, length][..], more].concat();
+    let zone = random.pick(&[0, 0, 1, 2, 100, u32::MAX]).into();
+    let [x, y] = at.map(|degrees| (degrees * 1e5) as i32 as u64);
+    call(Export::ContainsStriped, contains_striped as *const (), &with(&[zone, x, y]), [0.0; 2]);
+    call(Export::AskStriped, ask_striped as *const (), &with(&[]), at);
+    let zones = lent.zones.as_mut_ptr() as u64;
+    let many = random.pick(&[0, 1, 16, 65_535]);
+    call(Export::AskAllStriped, ask_all_striped as *const (), &with(&[zones, many]), at);
+    call(Export::AskAllStriped, ask_all_striped as *const (), &with(&[zones, 65_535]), at);
 }
 
 /// The middle, where most small files have their zones, then near it, on the earth, and anywhere.
@@ -212,15 +262,16 @@ fn parts(random: &mut Random, each: &mut impl FnMut(usize, &Call)) {
         PORT;
     let length = random.below(8);
     let bytes = random.bytes(length);
-    let mut call = |export: Export, at: *const (), words: [u64; 8], floats| {
-        each(export as usize, &Call { export: at, words, floats });
+    let mut call = |export: Export, at: *const (), words: [u64; WORDS], floats| {
+        each(export as usize, &Call { export: at, words, floats, takes_more: false });
     };
-    let words = [bytes.as_ptr() as u64, length as u64, random.below(9) as u64, 0, 0, 0, 0, 0];
+    let mut words = [0; WORDS];
+    words[..3].copy_from_slice(&[bytes.as_ptr() as u64, length as u64, random.below(9) as u64]);
     call(Export::Number, number as *const (), words, [0.0; 2]);
     call(Export::NumberLength, number_length as *const (), words, [0.0; 2]);
     let near = random.below(2) == 0;
     let mut corner = || if near { random.from_to(-2, 2) } else { random.bits() as i32 };
-    let words = [(); 8].map(|()| corner() as u32 as u64);
+    let words = [(); WORDS].map(|()| corner() as u32 as u64);
     let floats = if near { [0.0, 1.0] } else { [(); 2].map(|()| f64::from_bits(random.bits())) };
     call(Export::BoxContains, box_contains as *const (), words, floats);
     call(Export::BoxRelevant, box_relevant as *const (), words, floats);

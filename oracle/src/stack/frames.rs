@@ -12,8 +12,10 @@ const ARCHIVE: &str = env!("TZB_ARCHIVE");
 const WORD: usize = 8;
 /// Of the C library, and in no archive here: as in glibc, where they take nothing but their return address.
 const OUTSIDE: [&str; 2] = ["memcpy", "memset"];
-/// What the run itself lays on the stack before a call: two words.
-const HANDED: usize = 16;
+/// What the run itself lays on the stack before a call: two words, and two more for an export that takes more than eight.
+fn handed(name: &str) -> usize {
+    if name == "tzb_contains_striped" { 32 } else { 16 }
+}
 
 /// For each export, or None where there is no program that takes machine code apart.
 pub fn bounds() -> Result<Option<[usize; NAMES.len()]>, String> {
@@ -22,7 +24,7 @@ pub fn bounds() -> Result<Option<[usize; NAMES.len()]>, String> {
     let mut bounds = [0; NAMES.len()];
     for (bound, name) in bounds.iter_mut().zip(NAMES) {
         let need = need(&functions, name, &mut Vec::new())?;
-        *bound = (HANDED + need).next_multiple_of(super::own::STEP);
+        *bound = (handed(name) + need).next_multiple_of(super::own::STEP);
     }
     Ok(Some(bounds))
 }

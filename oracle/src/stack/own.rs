@@ -19,12 +19,17 @@ const READ_WRITE: i32 = 3;
 const PRIVATE_ANONYMOUS: i32 = 0x22;
 const PAINT: u64 = 0x9e37_79b9_7f4a_7c15;
 
-/// A call of an export: what it takes, as the System V ABI hands it over. The last two words go on the stack.
+/// How many words an export takes at the most.
+pub const WORDS: usize = 10;
+
+/// A call of an export: what it takes, as the System V ABI hands it over. Six words go into registers, and two onto the stack; the last two
+/// go there too where it takes more than eight.
 #[repr(C)]
 pub struct Call {
     pub export: *const (),
-    pub words: [u64; 8],
+    pub words: [u64; WORDS],
     pub floats: [f64; 2],
+    pub takes_more: bool,
 }
 
 pub struct Stack {
@@ -83,6 +88,11 @@ unsafe extern "C" fn on(top: *mut u8, call: *const Call) {
         "mov rbp, rsp",
         "mov rsp, rdi",
         "mov rax, rsi",
+        "cmp byte ptr [rax + 104], 0",
+        "je 2f",
+        "push qword ptr [rax + 80]",
+        "push qword ptr [rax + 72]",
+        "2:",
         "push qword ptr [rax + 64]",
         "push qword ptr [rax + 56]",
         "mov rdi, [rax + 8]",
@@ -91,8 +101,8 @@ unsafe extern "C" fn on(top: *mut u8, call: *const Call) {
         "mov rcx, [rax + 32]",
         "mov r8, [rax + 40]",
         "mov r9, [rax + 48]",
-        "movsd xmm0, [rax + 72]",
-        "movsd xmm1, [rax + 80]",
+        "movsd xmm0, [rax + 88]",
+        "movsd xmm1, [rax + 96]",
         "call [rax]",
         "mov rsp, rbp",
         "pop rbp",
@@ -113,7 +123,7 @@ mod tests {
     }
 
     fn call(export: extern "C" fn(u64) -> u64) -> Call {
-        Call { export: export as *const (), words: [7; 8], floats: [0.0; 2] }
+        Call { export: export as *const (), words: [7; WORDS], floats: [0.0; 2], takes_more: false }
     }
 
     #[test]
@@ -125,7 +135,7 @@ mod tests {
         assert!(stack.suffices(need, &call(deep)) && !stack.suffices(need - STEP, &call(deep)));
     }
 
-    /// The eight words and two floats arrive.
+    /// All ten words and two floats arrive.
     #[test]
     fn a_call_gets_what_it_takes() {
         static SEEN: std::sync::Mutex<Vec<u64>> = std::sync::Mutex::new(Vec::new());
@@ -141,12 +151,15 @@ mod tests {
             f: u64,
             g: u64,
             h: u64,
+            i: u64,
+            j: u64,
         ) {
-            let all = [a, b, c, d, e, f, g, h, x as u64, y as u64];
+            let all = [a, b, c, d, e, f, g, h, i, j, x as u64, y as u64];
             SEEN.lock().unwrap().extend(all);
         }
-        let words = [1, 2, 3, 4, 5, 6, 7, 8];
-        Stack::new(0x1_0000).need(&Call { export: seen as *const (), words, floats: [9.0, 10.0] });
-        assert_eq!(*SEEN.lock().unwrap(), (1..=10).collect::<Vec<u64>>());
+        let words = [1, 2, 3, 4, 5, 6, 7, 8, 9, 10];
+        let (export, floats) = (seen as *const (), [11.0, 12.0]);
+        Stack::new(0x1_0000).need(&Call { export, words, floats, takes_more: true });
+        assert_eq!(*SEEN.lock().unwrap(), (1..=12).collect::<Vec<u64>>());
     }
 }
