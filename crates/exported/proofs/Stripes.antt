@@ -17,6 +17,7 @@ use Rattle.fields.specs.Stores.{unit}
 use Rattle.fields.proofs.Join.{fits}
 use Rattle.answer.specs.declared.Refusal.{Refusal}
 use Rattle.answer.specs.Refusals.{refusal}
+use Rattle.answer.specs.Checks as Checks
 use Rattle.answer.specs.Answers.{Answer, ok, refused, no, _then_, need, left, howMany}
 use Rattle.answer.proofs.AnswersLaws.{then-ok, then-no, then-inv, need-met, need-not, need-inv, ok-inv}
 use Rattle.boxes.specs.declared.BBox.{BBox}
@@ -40,7 +41,7 @@ use Rattle.demands_striped.proofs.Striped.{accepted-builds, opened-needs}
 use Rattle.tzb.specs.Opening.{openOf, openedIs}
 use Rattle.tzb.specs.FullCheck.{fullCheckOf}
 use Rattle.tzb.proofs.Given.{opened-is}
-use Rattle.tzb_record.specs.Layout.{widths, numbersOf, openedIn, recordOf, Held}
+use Rattle.tzb_record.specs.Layout.{widths, recordWide, numbersOf, openedIn, recordOf, Held}
 use Rattle.tzb_record.proofs.RoundTrip.{read-held}
 use Rattle.tzb_asked.specs.Asked.{needAsked, stripesAsked, containsAskedBy, lookupAskedBy, listAskedBy}
 use Rattle.tzb_codes.specs.Codes.{neededCode, insideCode, zoneCode, numberCode, refusalCode}
@@ -71,7 +72,7 @@ few o h = held-at widths (numbersOf o) (h .numbers) 12 (omega arith)
 few-read : (held : List ℕ) → Bytes held → (o : Opened) → ok o ≡ recordOf held → Few o
 unfolding recordOf
 few-read held byte o e =
-    let t = need-inv 44 _ (ok (openedIn held)) o e in
+    let t = need-inv 44 (Checks.same (length held) recordWide) (ok (openedIn held)) o e in
     subst Few (sym (ok-inv o (openedIn held) (t .1))) (few (openedIn held) (read-held held byte))
 
 few-opened : (file : List ℕ) → Bytes file → (o : Opened) → ok o ≡ openOf file → Few o
