@@ -172,11 +172,19 @@ mod tests {
             assert!(plain >= 0, "{lng} {lat}");
             assert_eq!(sys::ask_striped(&record, &vec![0; need], &file, lng, lat), plain);
         }
-        let inside = |numbers: &[u32]| {
-            sys::contains_striped(&record, numbers, &file, 126, 868_000, 5_011_000)
+        // Along a parallel through Germany: where a group is walked there is no entry for it, or no place where its stripes would stand.
+        let inside = |numbers: &[u32], x| {
+            sys::contains_striped(&record, numbers, &file, 126, x, 5_011_000)
         };
-        assert_eq!(sys::contains(&record, &file, 126, 868_000, 5_011_000), 1);
-        assert_eq!([inside(&[]), inside(&vec![u32::MAX; need])], [-1044; 2]);
+        let mut walked = 0;
+        for x in (500_000..1_600_000).step_by(2_500) {
+            let plain = sys::contains(&record, &file, 126, x, 5_011_000);
+            let found = inside(&[], x);
+            assert!(found == plain || found == -1044, "{x}");
+            assert_eq!(inside(&vec![u32::MAX; need], x), found, "{x}");
+            walked += usize::from(found == -1044);
+        }
+        assert!(walked > 0);
     }
 
     #[test]
