@@ -5,7 +5,7 @@
  * is 0. What is lent for writing does not overlap what else is lent to the same call.
  *
  * Every function is total: any bytes and any numbers get an answer, or a refusal, whose number n is that of
- * document 01, or for 48 of document 02. A refusal is told as -1000 - n, and leaves lent memory as it was. No function
+ * document 01, or for 48 and 49 of document 02. A refusal is told as -1000 - n, and leaves lent memory as it was. No function
  * keeps anything between calls, and each may be called from any thread.
  *
  * Open once, ask often:
@@ -27,6 +27,7 @@
  *     96 KB  tzb_open tzb_lookup tzb_full_check tzb_full_check_rule tzb_map tzb_map_length
  *     24 KB  tzb_crc32
  *     8 KB  tzb_contains tzb_decode tzb_ask tzb_ask_all
+ *     8 KB  tzb_stripes_need tzb_stripes tzb_contains_striped tzb_ask_striped tzb_ask_all_striped
  *     4 KB  tzb_zone_count tzb_name_start tzb_name_end tzb_name tzb_choice tzb_listed tzb_candidate
  *     4 KB  tzb_number tzb_number_length tzb_box_contains tzb_box_relevant tzb_utf8 tzb_ray tzb_parity tzb_next_up
  */
@@ -95,6 +96,40 @@ int64_t tzb_ask(const uint8_t *record, size_t record_length, const uint8_t *file
  * places; those behind stay. How many zones, or -1000 - n: 46 where there are more zones than places. 15 places are
  * always enough for a file with a GRID, tzb_zone_count() places for one without. */
 int64_t tzb_ask_all(const uint8_t *record, size_t record_length, const uint8_t *file, size_t file_length, double lng, double lat, uint32_t *zones, size_t zones_length);
+
+/* ---- the same questions by stripes, for many positions
+ *
+ * Without stripes a question looks at every chunk of a group that it meets. The stripes of a group say which of its
+ * chunks lie at a height, and a question looks at those alone. They are built once, of a record and its file:
+ *
+ *     int64_t need = tzb_stripes_need(record, sizeof record, file, file_length);
+ *     uint32_t *numbers = need > 0 ? malloc(need * sizeof *numbers) : NULL;
+ *     if (numbers && tzb_stripes(record, sizeof record, file, file_length, numbers, need) == need)
+ *         zone = tzb_ask_striped(record, sizeof record, numbers, need, file, file_length, lng, lat);
+ *
+ * With the numbers that were built of this record and this file, and with whatever lies behind them, every question is
+ * answered and refused as without. The numbers hold no pointer, and may be kept or copied. They are not trusted: others
+ * are answered by what they say, or refused by 44 for a place past them, 34 for a chunk outside the group or a height
+ * of 0. None at all are 44: they do not stand for the plain question. */
+
+/* How many numbers the stripes take. Or -1000 - n, the first that is met, group by group and in each chunk by chunk: 34
+ * or 44 for a record that cannot be read, 49 where, in a group of two chunks or more, a chunk's box reaches above or
+ * below the group's. After tzb_open of the same bytes it is 49 or none, and none after tzb_full_check has accepted them.
+ * A small file can need more than 2^32 numbers, since groups may share their chunks: look before you make room. */
+int64_t tzb_stripes_need(const uint8_t *record, size_t record_length, const uint8_t *file, size_t file_length);
+
+/* Builds the stripes into the first of the lent numbers; those behind stay. How many were written, or -1000 - n: that of
+ * tzb_stripes_need, then 46 exactly where fewer numbers are lent than it answers. */
+int64_t tzb_stripes(const uint8_t *record, size_t record_length, const uint8_t *file, size_t file_length, uint32_t *numbers, size_t numbers_length);
+
+/* tzb_contains, by stripes. */
+int32_t tzb_contains_striped(const uint8_t *record, size_t record_length, const uint32_t *numbers, size_t numbers_length, const uint8_t *file, size_t file_length, uint32_t zone, int32_t x, int32_t y);
+
+/* tzb_ask, by stripes. */
+int64_t tzb_ask_striped(const uint8_t *record, size_t record_length, const uint32_t *numbers, size_t numbers_length, const uint8_t *file, size_t file_length, double lng, double lat);
+
+/* tzb_ask_all, by stripes. */
+int64_t tzb_ask_all_striped(const uint8_t *record, size_t record_length, const uint32_t *numbers, size_t numbers_length, const uint8_t *file, size_t file_length, double lng, double lat, uint32_t *zones, size_t zones_length);
 
 /* ---- the full check */
 

@@ -65,7 +65,14 @@ fn carry_out(request: &Request, out: &mut impl Write) -> Result<Status, Failure>
     if request.task == Task::Check {
         return check(path, &bytes, out).map_err(Failure::Output);
     }
-    let index = Index::open(bytes).map_err(refused)?;
+    // Stripes are worth building for a run of positions. One position is answered sooner than they are built, and names and
+    // maps make no use of them.
+    let open = if request.many_positions() || request.task == Task::Info {
+        Index::open
+    } else {
+        Index::open_plain
+    };
+    let index = open(bytes).map_err(refused)?;
     if let Some(which) = &request.zone {
         return map::draw(request, which, &index, out);
     }

@@ -2,14 +2,17 @@
 
 use std::fmt;
 
-use crate::refusal::{NAME_NOT_UTF8, NO_ROOM, PAST_THE_END};
+use crate::refusal::{NAME_NOT_UTF8, PAST_THE_END};
+use crate::room::into_room;
+use crate::walk::{self, Stripes, Walk, WhyPlain};
 use crate::{Refusal, sys};
 
 /// An index file that was opened: opened once, asked often.
 ///
 /// It holds the file's bytes as they are handed to it: its own (`Index<Vec<u8>>`, which `Index` alone stands for),
-/// borrowed (`Index<&[u8]>`), shared (`Index<Arc<[u8]>>`) or mapped into memory; and a record of 84 bytes beside them. No
-/// question changes it, so threads may share it.
+/// borrowed (`Index<&[u8]>`), shared (`Index<Arc<[u8]>>`) or mapped into memory. Beside them it holds a record of 84 bytes,
+/// and [stripes](Walk), which make questions by long coastlines faster and are never longer than the file. No question
+/// changes it, so threads may share it. A clone has its own record, and shares the stripes.
 ///
 /// Positions are longitude first, then latitude, in degrees, as in tzf-rs. Any float may be asked: a position that is
 /// not finite, or outside ±180 and ±90, lies in no zone.
@@ -54,14 +57,16 @@ use crate::{Refusal, sys};
 ///
 /// # Bytes that change
 ///
-/// The record is made of the bytes that [`as_ref`](AsRef::as_ref) gives at opening, and every question asks for the bytes
-/// again. What the standard library has gives the same each time. A type of one's own may give others: then a question is
-/// answered for the record and the bytes of that moment. It gets a zone, none or a refusal as ever, since the reader is
-/// proved for any record and any bytes; what opening or the full check said of the first bytes no longer counts.
+/// The record and the stripes are made of the bytes that [`as_ref`](AsRef::as_ref) gives at opening, and every question
+/// asks for the bytes again. What the standard library has gives the same each time. A type of one's own may give others:
+/// then a question is answered for the record, the stripes and the bytes of that moment. It gets a zone, none or a refusal
+/// as ever, since the reader is proved for any record, any stripes and any bytes; what opening or the full check said of
+/// the first bytes no longer counts.
 #[derive(Clone)]
 pub struct Index<B = Vec<u8>> {
     file: B,
     record: sys::Record,
+    stripes: Stripes,
 }
 
 /// The most points that a chunk can have: its record counts them in 16 bits.
@@ -74,17 +79,47 @@ impl<B: AsRef<[u8]>> Index<B> {
     /// only opened every question gets a zone, none or a refusal; but where its boxes do not cover what lies in them, it
     /// can be the wrong zone, or none.
     ///
+    /// Stripes are built where they can be, and [`walk`](Self::walk) tells whether they were. A file that has none is
+    /// opened all the same.
+    ///
     /// # Errors
     /// Refusals 1 to 34, the first that applies.
     pub fn open(file: B) -> Result<Self, Refusal> {
+        // One slice for both, whatever `as_ref` gives the next time.
+        let bytes = file.as_ref();
+        let record = opened(bytes)?;
+        let stripes = walk::stripes(&record, bytes);
+        Ok(Self { file, record, stripes })
+    }
+
+    /// Opens a file as [`open`](Self::open) does, and builds no stripes. Every answer is the same.
+    ///
+    /// For a few positions, which are answered sooner than stripes are built, or where memory is short. A file from outside
+    /// is given to the [full check](crate::full_check) first.
+    ///
+    /// ```
+    /// # fn main() -> Result<(), Box<dyn std::error::Error>> {
+    /// use tzb::{Index, Walk, WhyPlain};
+    ///
+    /// let index = Index::open_plain(tzb::read("../sample/real-ne.tzb")?)?;
+    /// assert_eq!(index.name_at(8.68, 50.11)?, Some("Germany"));
+    /// assert_eq!(index.walk(), Walk::Plain(WhyPlain::Chosen));
+    /// # Ok(())
+    /// # }
+    /// ```
+    ///
+    /// # Errors
+    /// Refusals 1 to 34, as [`open`](Self::open) has them.
+    pub fn open_plain(file: B) -> Result<Self, Refusal> {
         let record = opened(file.as_ref())?;
-        Ok(Self { file, record })
+        Ok(Self { file, record, stripes: Err(WhyPlain::Chosen) })
     }
 
     /// Opens a file that the [full check](crate::full_check) accepts, and no other.
     ///
     /// Then no question is refused but for a number that is too large, and containment at points of whole
-    /// hundred-thousandths of a degree is that of exact geometry. Both are proved.
+    /// hundred-thousandths of a degree is that of exact geometry. Both are proved. Stripes are built as for
+    /// [`open`](Self::open).
     ///
     /// ```
     /// # fn main() -> Result<(), Box<dyn std::error::Error>> {
@@ -97,11 +132,21 @@ impl<B: AsRef<[u8]>> Index<B> {
     /// # Errors
     /// Refusals 1 to 34, as [`open`](Self::open) has them; or 47, with the lowest broken [`rule`](Refusal::rule).
     pub fn open_checked(file: B) -> Result<Self, Refusal> {
-        // One slice for both, whatever `as_ref` gives the next time.
+        // One slice for all three, whatever `as_ref` gives the next time.
         let bytes = file.as_ref();
         crate::full_check(bytes)?;
         let record = opened(bytes)?;
-        Ok(Self { file, record })
+        let stripes = walk::stripes(&record, bytes);
+        Ok(Self { file, record, stripes })
+    }
+
+    /// Whether questions go by stripes; if not, why not. It changes no answer, only the time that one takes.
+    #[must_use]
+    pub fn walk(&self) -> Walk {
+        match &self.stripes {
+            Ok(numbers) => Walk::Striped { numbers: numbers.len() },
+            Err(why) => Walk::Plain(*why),
+        }
     }
 
     /// The zone that a position lies in, or none. Where several contain it, the first that the file lists.
@@ -109,7 +154,11 @@ impl<B: AsRef<[u8]>> Index<B> {
     /// # Errors
     /// A refusal where the file's records or points are broken: never on a file that the full check accepts.
     pub fn zone(&self, lng: f64, lat: f64) -> Result<Option<u32>, Refusal> {
-        match sys::ask(&self.record, self.file(), lng, lat) {
+        let code = match &self.stripes {
+            Ok(numbers) => sys::ask_striped(&self.record, numbers, self.file(), lng, lat),
+            Err(_) => sys::ask(&self.record, self.file(), lng, lat),
+        };
+        match code {
             -1 => Ok(None),
             code => Refusal::of_code(code).map(|zone| Some(zone as u32)),
         }
@@ -135,8 +184,9 @@ impl<B: AsRef<[u8]>> Index<B> {
     /// As for [`zone`](Self::zone).
     pub fn zones(&self, lng: f64, lat: f64) -> Result<Vec<u32>, Refusal> {
         // A cell of a GRID has at most 15 candidates; without one, all zones can be asked for.
-        into_room(15, self.zone_count() as usize, |room| {
-            sys::ask_all(&self.record, self.file(), lng, lat, room)
+        into_room(15, self.zone_count() as usize, |room| match &self.stripes {
+            Ok(numbers) => sys::ask_all_striped(&self.record, numbers, self.file(), lng, lat, room),
+            Err(_) => sys::ask_all(&self.record, self.file(), lng, lat, room),
         })
     }
 
@@ -203,7 +253,10 @@ impl<B: AsRef<[u8]>> Index<B> {
     /// # Errors
     /// Refusal 45 for a zone number that is too large; else as for [`zone`](Self::zone).
     pub fn contains(&self, zone: u32, x: i32, y: i32) -> Result<bool, Refusal> {
-        let code = sys::contains(&self.record, self.file(), zone, x, y);
+        let code = match &self.stripes {
+            Ok(numbers) => sys::contains_striped(&self.record, numbers, self.file(), zone, x, y),
+            Err(_) => sys::contains(&self.record, self.file(), zone, x, y),
+        };
         Refusal::of_code(code.into()).map(|inside| inside == 1)
     }
 
@@ -260,52 +313,7 @@ impl<B: AsRef<[u8]>> fmt::Debug for Index<B> {
         f.debug_struct("Index")
             .field("bytes", &self.file().len())
             .field("zones", &self.zone_count())
+            .field("walk", &self.walk())
             .finish()
-    }
-}
-
-/// Asks with room for `few`, and once more with room for `most` where refusal 46 says that it was too short.
-fn into_room<T: Copy + Default>(
-    few: usize,
-    most: usize,
-    ask: impl Fn(&mut [T]) -> i64,
-) -> Result<Vec<T>, Refusal> {
-    let mut room = vec![T::default(); few];
-    let mut answer = Refusal::of_code(ask(&mut room));
-    if answer.is_err_and(|refusal| refusal.number() == NO_ROOM) {
-        room.resize(most, T::default());
-        answer = Refusal::of_code(ask(&mut room));
-    }
-    room.truncate(answer?);
-    Ok(room)
-}
-
-#[cfg(test)]
-mod tests {
-    use super::*;
-
-    /// Stands for a list of so many numbers: what an export does with the room that it is lent.
-    fn list(length: usize) -> impl Fn(&mut [u32]) -> i64 {
-        move |room| match room.get_mut(..length) {
-            Some(places) => {
-                places.iter_mut().zip(7..).for_each(|(place, n)| *place = n);
-                length as i64
-            }
-            None => -1046,
-        }
-    }
-
-    #[test]
-    fn room_grows_once() {
-        assert_eq!(into_room(2, 5, list(0)), Ok(vec![]));
-        assert_eq!(into_room(2, 5, list(2)), Ok(vec![7, 8]));
-        assert_eq!(into_room(2, 5, list(3)), Ok(vec![7, 8, 9]));
-        assert_eq!(into_room(2, 5, list(5)), Ok(vec![7, 8, 9, 10, 11]));
-        assert_eq!(into_room(2, 5, list(6)), Err(Refusal::new(46)));
-    }
-
-    #[test]
-    fn another_refusal_is_passed_on() {
-        assert_eq!(into_room(2, 5, |_: &mut [u32]| -1034), Err(Refusal::new(34)));
     }
 }

@@ -44,6 +44,12 @@
 //!
 //! One that is to be replaced while the program runs is a field like any other: see [`Index`].
 //!
+//! # Speed and memory
+//!
+//! Open once and ask often: opening also builds [stripes](Walk), which make questions by long coastlines faster and take no
+//! more memory than the file does. They change no answer. [`Index::open_plain`] opens without them, for a few questions;
+//! [`Index::walk`] tells which way an index goes, and why.
+//!
 //! # A zone on a map
 //!
 //! ```
@@ -71,13 +77,16 @@ mod layout;
 mod map;
 mod read;
 mod refusal;
+mod room;
 mod sys;
+mod walk;
 
 pub use index::Index;
 pub use layout::{Grid, Section};
 pub use map::map;
 pub use read::read;
 pub use refusal::Refusal;
+pub use walk::{Walk, WhyPlain};
 
 /// Looks at everything in the file: all that opening looks at, every record, every chunk's points, every box.
 /// [`Index::open_checked`] makes it and opens.

@@ -1,6 +1,7 @@
 //! A zone as GeoJSON, to be drawn on a map.
 
 use crate::refusal::NO_ROOM;
+use crate::room::room;
 use crate::{Refusal, sys};
 
 /// Room for most maps. Every call makes the full check, and a longer map takes three calls.
@@ -39,14 +40,6 @@ pub fn map(file: &[u8], zone: u32) -> Result<String, Refusal> {
     text.truncate(answer?);
     // It is ASCII. Looking again is cheap, and needs no `unsafe`.
     Ok(String::from_utf8_lossy(&text).into_owned())
-}
-
-/// So many bytes to write into. A file can ask for more than there is.
-fn room(length: usize) -> Result<Vec<u8>, Refusal> {
-    let mut room = Vec::new();
-    room.try_reserve_exact(length).map_err(|_| Refusal::new(NO_ROOM))?;
-    room.resize(length, 0);
-    Ok(room)
 }
 
 #[cfg(test)]
@@ -96,11 +89,5 @@ mod tests {
             assert!(room.iter().all(|&byte| byte == 0xee), "zone {zone}");
         }
         assert_eq!([481, 82].map(|zone| sys::map_length(&file, zone)), [-1045, -1048]);
-    }
-
-    #[test]
-    fn more_than_there_is_of_memory_is_46() {
-        assert_eq!(room(3), Ok(vec![0; 3]));
-        assert_eq!(room(usize::MAX), Err(Refusal::new(46)));
     }
 }

@@ -21,6 +21,11 @@ mod exports {
         pub fn tzb_decode(record: *const u8, size: usize, file: *const u8, length: usize, chunk: u32, out: *mut i32, room: usize) -> i64;
         pub fn tzb_ask(record: *const u8, size: usize, file: *const u8, length: usize, lng: f64, lat: f64) -> i64;
         pub fn tzb_ask_all(record: *const u8, size: usize, file: *const u8, length: usize, lng: f64, lat: f64, zones: *mut u32, places: usize) -> i64;
+        pub fn tzb_stripes_need(record: *const u8, size: usize, file: *const u8, length: usize) -> i64;
+        pub fn tzb_stripes(record: *const u8, size: usize, file: *const u8, length: usize, numbers: *mut u32, room: usize) -> i64;
+        pub fn tzb_contains_striped(record: *const u8, size: usize, numbers: *const u32, count: usize, file: *const u8, length: usize, zone: u32, x: i32, y: i32) -> i32;
+        pub fn tzb_ask_striped(record: *const u8, size: usize, numbers: *const u32, count: usize, file: *const u8, length: usize, lng: f64, lat: f64) -> i64;
+        pub fn tzb_ask_all_striped(record: *const u8, size: usize, numbers: *const u32, count: usize, file: *const u8, length: usize, lng: f64, lat: f64, zones: *mut u32, places: usize) -> i64;
         pub fn tzb_full_check(file: *const u8, length: usize) -> i32;
         pub fn tzb_full_check_rule(file: *const u8, length: usize) -> u32;
         pub fn tzb_map(file: *const u8, length: usize, zone: u32, out: *mut u8, room: usize) -> i64;
@@ -28,61 +33,76 @@ mod exports {
     }
 }
 
-/// Calls a question: an export that takes the record and the file, and what else there is.
+/// Calls an export: slices that are lent for reading, then what else there is.
 macro_rules! ask {
-    ($export:ident, $record:expr, $file:expr $(, $more:expr)*) => {{
-        let (record, file): (&Record, &[u8]) = ($record, $file);
-        // SAFETY: both are live slices, given by their own pointers and lengths, and so is what more is lent.
-        unsafe { exports::$export(record.as_ptr(), record.len(), file.as_ptr(), file.len() $(, $more)*) }
-    }};
+    ($export:ident, [$($lent:ident),+] $(, $more:expr)*) => {
+        // SAFETY: all are live slices, given by their own pointers and lengths, and so is what more is lent.
+        unsafe { exports::$export($($lent.as_ptr(), $lent.len(),)+ $($more),*) }
+    };
 }
 
 pub fn open(file: &[u8], record: &mut Record) -> i32 {
-    // SAFETY: both are live slices, given by their own pointers and lengths.
-    unsafe { exports::tzb_open(file.as_ptr(), file.len(), record.as_mut_ptr(), record.len()) }
+    ask!(tzb_open, [file], record.as_mut_ptr(), record.len())
 }
 
 pub fn zone_count(record: &Record) -> i64 {
-    // SAFETY: a live slice, given by its own pointer and length.
-    unsafe { exports::tzb_zone_count(record.as_ptr(), record.len()) }
+    ask!(tzb_zone_count, [record])
 }
 
 pub fn name(record: &Record, file: &[u8], zone: u32, ends: &mut [u64; 2]) -> i32 {
-    ask!(tzb_name, record, file, zone, ends.as_mut_ptr(), ends.len())
+    ask!(tzb_name, [record, file], zone, ends.as_mut_ptr(), ends.len())
 }
 
 pub fn contains(record: &Record, file: &[u8], zone: u32, x: i32, y: i32) -> i32 {
-    ask!(tzb_contains, record, file, zone, x, y)
+    ask!(tzb_contains, [record, file], zone, x, y)
 }
 
 pub fn decode(record: &Record, file: &[u8], chunk: u32, out: &mut [i32]) -> i64 {
-    ask!(tzb_decode, record, file, chunk, out.as_mut_ptr(), out.len())
+    ask!(tzb_decode, [record, file], chunk, out.as_mut_ptr(), out.len())
 }
 
 pub fn ask(record: &Record, file: &[u8], lng: f64, lat: f64) -> i64 {
-    ask!(tzb_ask, record, file, lng, lat)
+    ask!(tzb_ask, [record, file], lng, lat)
 }
 
 pub fn ask_all(record: &Record, file: &[u8], lng: f64, lat: f64, zones: &mut [u32]) -> i64 {
-    ask!(tzb_ask_all, record, file, lng, lat, zones.as_mut_ptr(), zones.len())
+    ask!(tzb_ask_all, [record, file], lng, lat, zones.as_mut_ptr(), zones.len())
+}
+
+pub fn stripes_need(record: &Record, file: &[u8]) -> i64 {
+    ask!(tzb_stripes_need, [record, file])
+}
+
+pub fn stripes(record: &Record, file: &[u8], numbers: &mut [u32]) -> i64 {
+    ask!(tzb_stripes, [record, file], numbers.as_mut_ptr(), numbers.len())
+}
+
+#[rustfmt::skip]
+pub fn contains_striped(record: &Record, numbers: &[u32], file: &[u8], zone: u32, x: i32, y: i32) -> i32 {
+    ask!(tzb_contains_striped, [record, numbers, file], zone, x, y)
+}
+
+pub fn ask_striped(record: &Record, numbers: &[u32], file: &[u8], lng: f64, lat: f64) -> i64 {
+    ask!(tzb_ask_striped, [record, numbers, file], lng, lat)
+}
+
+#[rustfmt::skip]
+pub fn ask_all_striped(record: &Record, numbers: &[u32], file: &[u8], lng: f64, lat: f64, zones: &mut [u32]) -> i64 {
+    ask!(tzb_ask_all_striped, [record, numbers, file], lng, lat, zones.as_mut_ptr(), zones.len())
 }
 
 pub fn full_check(file: &[u8]) -> i32 {
-    // SAFETY: a live slice, given by its own pointer and length.
-    unsafe { exports::tzb_full_check(file.as_ptr(), file.len()) }
+    ask!(tzb_full_check, [file])
 }
 
 pub fn full_check_rule(file: &[u8]) -> u32 {
-    // SAFETY: a live slice, given by its own pointer and length.
-    unsafe { exports::tzb_full_check_rule(file.as_ptr(), file.len()) }
+    ask!(tzb_full_check_rule, [file])
 }
 
 pub fn map(file: &[u8], zone: u32, out: &mut [u8]) -> i64 {
-    // SAFETY: both are live slices, given by their own pointers and lengths.
-    unsafe { exports::tzb_map(file.as_ptr(), file.len(), zone, out.as_mut_ptr(), out.len()) }
+    ask!(tzb_map, [file], zone, out.as_mut_ptr(), out.len())
 }
 
 pub fn map_length(file: &[u8], zone: u32) -> i64 {
-    // SAFETY: a live slice, given by its own pointer and length.
-    unsafe { exports::tzb_map_length(file.as_ptr(), file.len(), zone) }
+    ask!(tzb_map_length, [file], zone)
 }

@@ -8,7 +8,9 @@ use std::sync::mpsc;
 use std::time::Duration;
 
 use common::program::{Kept, answered, ended, run, tzb};
-use common::{CHUNKDIR, RINGDIR, Squares, TZDIR, words};
+use common::{
+    CHUNKDIR, GROUPDIR, RINGDIR, Squares, TZDIR, changed, coast, in_chunks, start_of, words,
+};
 
 const SAMPLE: &str = "../sample/real-ne.tzb";
 
@@ -179,6 +181,47 @@ fn names_and_info() {
     }
     assert!(out.contains("361 x 181 cells from -180 -90"), "{out}");
     assert!(out.contains("CHUNKDIR  129792 bytes at 485564, 5408 records"), "{out}");
+}
+
+/// The line of `tzb info` on stripes: there, refused, and longer than the file.
+#[test]
+fn info_says_how_the_index_is_walked() {
+    let walk = |name: &str, file: &[u8]| {
+        let kept = Kept::new(name, file);
+        let (status, out, err) = run(&["info", &kept.0], "");
+        assert_eq!((status, err.as_str()), (Some(0), ""));
+        out.lines().find_map(|line| line.strip_prefix("walk      ")).unwrap().to_string()
+    };
+    let (_, out, _) = run(&["info", SAMPLE], "");
+    assert!(out.contains("\nwalk      by stripes: 26212 numbers, 104848 bytes\n"), "{out}");
+    let file = in_chunks("A", &coast(9));
+    assert!(walk("striped.tzb", &file).starts_with("by stripes: "));
+    let unsound = changed(&file, start_of(&file, GROUPDIR) + 40, &words(&[8_999]));
+    let told = walk("refused.tzb", &unsound);
+    assert!(
+        told.starts_with("plainly: refusal 49: A chunk's box reaches above or below"),
+        "{told}"
+    );
+    let tall = vec![vec![(0, 0), (0, 90_000), (0, 0)]; 60];
+    let told = walk("too-large.tzb", &in_chunks("A", &tall));
+    let bytes = 4 * (5 + 3 * 15 + 60 * 15);
+    assert_eq!(told, format!("plainly: the stripes would take {bytes} bytes, more than the file"));
+}
+
+/// One position is asked plainly, many by stripes.
+#[test]
+fn one_position_and_many_are_answered_alike() {
+    let file = Kept::new("coast.tzb", &in_chunks("A", &coast(40)));
+    let positions = ["0.5 0.2", "1.0001 0.2051", "1.0040 0.2051", "1.1 0.2", "0.5 0.4", "0.5 0.41"];
+    for task in ["zone", "zones"] {
+        let one = positions.map(|position| {
+            let name = run(&[task, &file.0, position], "").1;
+            if name.is_empty() { "\n".to_string() } else { name }
+        });
+        let (_, many, err) = run(&[task, &file.0], positions.join("\n"));
+        assert_eq!((many, err.as_str()), (one.concat(), ""), "{task}");
+        assert_eq!(one.iter().filter(|name| *name == "A\n").count(), 3, "{one:?}");
+    }
 }
 
 #[test]

@@ -5,18 +5,20 @@ mod common;
 use std::collections::BTreeSet;
 
 use common::{
-    CHUNKDIR, GROUPDIR, NAMES, POINTS, RINGDIR, RINGOPS, Squares, TZDIR, changed, sample, words,
+    CHUNKDIR, GROUPDIR, NAMES, POINTS, RINGDIR, RINGOPS, Squares, TZDIR, changed, coast, in_chunks,
+    same_at, sample, words,
 };
-use tzb::{Index, Refusal, full_check, map};
+use tzb::{Index, Refusal, Walk, WhyPlain, full_check, map};
 
 fn opening(file: &[u8]) -> u32 {
     Index::open(file).map_or_else(|refusal| refusal.number(), |_| 0)
 }
 
-/// Opens, checks and asks all there is to ask. Every answer is one, or a refusal with a number and a sentence.
+/// Opens, checks and asks all there is to ask. Every answer is one, or a refusal with a number and a sentence; and the same
+/// with stripes and without.
 fn ask_everything(file: &[u8], numbers: &mut BTreeSet<(u32, Option<u32>)>) {
     let mut note = |refusal: Refusal| {
-        assert!((1..=48).contains(&refusal.number()), "{refusal:?}");
+        assert!((1..=49).contains(&refusal.number()), "{refusal:?}");
         assert_eq!(refusal.rule().is_some(), refusal.number() == 47, "{refusal:?}");
         assert!(refusal.rule().is_none_or(|rule| (2..=6).contains(&rule)), "{refusal:?}");
         assert!(refusal.to_string().starts_with(&format!("refusal {}: ", refusal.number())));
@@ -34,12 +36,18 @@ fn ask_everything(file: &[u8], numbers: &mut BTreeSet<(u32, Option<u32>)>) {
     for (lng, lat) in [(0.5, 0.5), (0.0, 0.5), (-1.0, 0.5), (2.0, 2.0)] {
         index.zone(lng, lat).err().into_iter().for_each(&mut note);
         index.zones(lng, lat).err().into_iter().for_each(&mut note);
+        same_at(&index, &Index::open_plain(file).unwrap(), (lng, lat));
     }
     for number in [0, 1] {
         index.contains(number, 50_000, 50_000).err().into_iter().for_each(&mut note);
         index.decode(number).err().into_iter().for_each(&mut note);
     }
     assert!(index.sections().count() < 100 && index.data_version().len() <= 16);
+    if let Walk::Plain(why) = index.walk() {
+        let WhyPlain::Refused(refusal) = why else { panic!("{why}") };
+        assert!(refusal.number() == 49 && full_check(file).is_err_and(|r| r.rule() <= Some(5)));
+        note(refusal);
+    }
 }
 
 #[test]
@@ -136,14 +144,28 @@ fn the_full_check_gives_the_broken_rule() {
 /// Every byte of a small file, changed. With the old sum no change gets through; with the right one every answer is held.
 #[test]
 fn every_byte_of_a_small_file() {
-    let file = Squares::new(&["A", "B"]).bytes;
+    let met = change_every_byte(&Squares::new(&["A", "B"]).bytes);
+    let numbers: BTreeSet<u32> = met.iter().map(|&(number, _)| number).collect();
+    let rules: BTreeSet<u32> = met.iter().filter_map(|&(_, rule)| rule).collect();
+    assert!(numbers.len() >= 30, "only these refusals were met: {numbers:?}");
+    assert_eq!(rules, BTreeSet::from([2, 3, 4, 5, 6]));
+}
+
+/// The same of one whose group has chunks enough for stripes.
+#[test]
+fn every_byte_of_a_small_file_with_stripes() {
+    let met = change_every_byte(&in_chunks("A", &coast(9)));
+    assert!(met.contains(&(49, None)) && met.len() >= 30, "{met:?}");
+}
+
+fn change_every_byte(file: &[u8]) -> BTreeSet<(u32, Option<u32>)> {
     let mut met = BTreeSet::new();
     for at in 0..file.len() {
         for flip in [0x01, 0x80, 0xff, file[at]] {
             if flip == 0 {
                 continue;
             }
-            let mut damaged = file.clone();
+            let mut damaged = file.to_vec();
             damaged[at] ^= flip;
             assert_ne!(opening(&damaged), 0, "byte {at} ^ {flip:#x}");
             if at < file.len() - 4 {
@@ -152,10 +174,7 @@ fn every_byte_of_a_small_file() {
             }
         }
     }
-    let numbers: BTreeSet<u32> = met.iter().map(|&(number, _)| number).collect();
-    let rules: BTreeSet<u32> = met.iter().filter_map(|&(_, rule)| rule).collect();
-    assert!(numbers.len() >= 30, "only these refusals were met: {numbers:?}");
-    assert_eq!(rules, BTreeSet::from([2, 3, 4, 5, 6]));
+    met
 }
 
 #[test]

@@ -5,8 +5,8 @@ mod common;
 use std::cell::Cell;
 use std::sync::Arc;
 
-use common::{Squares, TZDIR, sample, words};
-use tzb::{Index, Refusal, full_check};
+use common::{GROUPDIR, Squares, TZDIR, changed, coast, in_chunks, sample, start_of, words};
+use tzb::{Index, Refusal, Walk, full_check};
 
 /// What a service keeps: the index of the day, and how often it was replaced.
 struct Places {
@@ -32,12 +32,16 @@ fn a_field_that_is_replaced() {
     let squares = Squares::new(&["A"]);
     let mut places = Places { index: Index::open(squares.bytes.clone()).unwrap(), loads: 0 };
     assert_eq!((places.name(0.5, 0.5), places.name(8.68, 50.11)), (Some("A"), None));
+    assert_eq!(places.index.walk(), Walk::Striped { numbers: 5 });
     assert_eq!(places.reload(sample()), Ok(()));
     assert_eq!(places.name(8.68, 50.11), Some("Germany"));
+    let stripes = places.index.walk();
+    assert!(matches!(stripes, Walk::Striped { numbers } if numbers > 5 * 5031), "{stripes}");
     let unsound = squares.with(TZDIR, 16, &words(&[10]));
     assert_eq!(places.reload(unsound).unwrap_err().rule(), Some(6));
     assert_eq!(places.reload(vec![0; 10]).unwrap_err().number(), 1);
     assert_eq!((places.name(8.68, 50.11), places.loads), (Some("Germany"), 1));
+    assert_eq!(places.index.walk(), stripes);
 }
 
 #[test]
@@ -83,15 +87,27 @@ impl AsRef<[u8]> for Changing {
     }
 }
 
-/// A record is asked with bytes that it was not made of: every question is answered or refused, and nothing panics.
+/// A record and stripes are asked with bytes that they were not made of: every question is answered or refused, and nothing
+/// panics.
 #[test]
 fn bytes_that_change_are_answered_for_what_they_are() {
-    let before = Squares::new(&["A", "B"]).bytes;
-    let afters = [vec![], before[..before.len() / 2].to_vec(), vec![0xff; before.len()], sample()];
-    for (after, from) in afters.iter().flat_map(|after| [1, 2, 3].map(|from| (after, from))) {
-        let (before, after, turn) = (before.clone(), after.clone(), Cell::new(0));
-        let index = Index::open_checked(Changing { turn, from, before, after }).unwrap();
-        assert_eq!(index.zone_count(), 2);
+    let squares = Squares::new(&["A", "B"]).bytes;
+    let other = in_chunks("B", &coast(30));
+    for before in [squares, in_chunks("A", &coast(40))] {
+        let half = before[..before.len() / 2].to_vec();
+        let wild = vec![0xff; before.len()];
+        for after in [vec![], half, wild, other.clone(), sample()] {
+            [1, 2, 3].iter().for_each(|&from| ask_while_bytes_change(&before, &after, from));
+        }
+    }
+}
+
+fn ask_while_bytes_change(before: &[u8], after: &[u8], from: u32) {
+    let zones = Index::open(before).unwrap().zone_count();
+    for open in [Index::open, Index::open_plain, Index::open_checked] {
+        let (before, after, turn) = (before.to_vec(), after.to_vec(), Cell::new(0));
+        let index = open(Changing { turn, from, before, after }).unwrap();
+        assert_eq!(index.zone_count(), zones);
         for zone in 0..3 {
             let told = [
                 index.name(zone).map(|_| ()),
@@ -103,7 +119,24 @@ fn bytes_that_change_are_answered_for_what_they_are() {
             let numbers = told.iter().filter_map(|one| one.err()).map(|refusal| refusal.number());
             assert!(numbers.into_iter().all(|number| (1..=47).contains(&number)), "{told:?}");
         }
-        assert!(index.data_version().len() <= 16 && index.sections().count() < 100);
+        assert!(index.data_version().len() <= 16);
+        assert!(index.sections().count() <= index.file().len() / 16);
         assert!(index.grid().is_none() || index.file().len() > 1_000_000);
     }
+}
+
+/// The group has a chunk less after opening, and every stripe of the first bytes names it. So it shows who asks by stripes.
+#[test]
+fn an_index_asks_with_its_stripes() {
+    let before = in_chunks("A", &coast(40));
+    let after = changed(&before, start_of(&before, GROUPDIR) + 8, &words(&[39]));
+    let told = [Index::open, Index::open_checked, Index::open_plain].map(|open| {
+        let (before, after, turn) = (before.clone(), after.clone(), Cell::new(0));
+        let index = open(Changing { turn, from: 1, before, after }).unwrap();
+        let zone = index.zone(0.5, 0.2).map(|_| ());
+        let zones = index.zones(0.5, 0.2).map(|_| ());
+        let inside = index.contains(0, 50_000, 20_000).map(|_| ());
+        [zone, zones, inside].map(|one| one.map_err(|refusal| refusal.number()))
+    });
+    assert_eq!(told, [[Err(34); 3], [Err(34); 3], [Ok(()); 3]]);
 }

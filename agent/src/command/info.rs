@@ -11,6 +11,7 @@ pub fn write(index: &Index, out: &mut impl Write) -> io::Result<()> {
     line("version", Shown(index.data_version()).to_string())?;
     line("zones", index.zone_count().to_string())?;
     line("grid", grid(index))?;
+    line("walk", index.walk().to_string())?;
     line("checksum", format!("{:08x}, correct", index.checksum()))?;
     line("sections", index.sections().count().to_string())?;
     for section in index.sections() {

@@ -70,6 +70,13 @@ pub struct Request {
     pub output: Option<PathBuf>,
 }
 
+impl Request {
+    /// Whether positions come from standard input.
+    pub fn many_positions(&self) -> bool {
+        self.task.takes_a_position() && self.position.is_none()
+    }
+}
+
 pub fn read(mut words: impl Iterator<Item = OsString>) -> Result<Wanted, Failure> {
     let unknown = |why| Err(Failure::Usage(None, why));
     let Some(first) = words.next() else {
@@ -169,8 +176,15 @@ mod tests {
             assert_eq!(request.numbered, words.starts_with("-n"));
         }
         assert_eq!(asked("zones a.tzb -.5 0").position, Some(Position { lng: -0.5, lat: 0.0 }));
-        assert_eq!(asked("zone a.tzb").position, None);
-        assert_eq!(asked("zone a.tzb -").position, None);
+        for words in ["zone a.tzb", "zone a.tzb -", "zones -n a.tzb"] {
+            assert_eq!(asked(words).position, None, "{words:?}");
+            assert!(asked(words).many_positions(), "{words:?}");
+        }
+        for words in
+            ["zone a.tzb 1 2", "zones a.tzb 1,2", "info a.tzb", "names a.tzb", "map a.tzb 8"]
+        {
+            assert!(!asked(words).many_positions(), "{words:?}");
+        }
     }
 
     #[test]

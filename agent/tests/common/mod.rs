@@ -1,9 +1,12 @@
-//! The sample, small files with one square or with rings of one's own in them, and damage to either.
+//! The sample, small files with one square or with rings of one's own in them, and damage to any of them. And two indexes that
+//! are to say the same.
 
 // Each test program uses some of it.
 #![allow(dead_code)]
 
 pub mod program;
+
+use tzb::Index;
 
 /// The sample index of the repository.
 pub fn sample() -> Vec<u8> {
@@ -52,7 +55,7 @@ impl Squares {
     }
 }
 
-type Point = (i32, i32);
+pub type Point = (i32, i32);
 
 /// A file without GRID whose zones are all of these polygons, each a list of rings, the outer one first. A ring's points
 /// stand in one group and one chunk, the first one again at the end. All boxes are of the same points: they are large.
@@ -73,7 +76,7 @@ pub fn drawn(names: &[&str], polygons: &[&[&[Point]]]) -> Vec<u8> {
         ringdir.extend([words(&[number, length, 1]), side.clone()].concat());
         groupdir.extend([words(&[number, length + 1, 1, x, y, x, y]), side.clone()].concat());
         chunks.extend(listed(stream.len() as u32, length + 1));
-        stream.extend(points(&deltas(ring)));
+        stream.extend(points(&steps(&[*ring, &ring[..1]].concat())));
     }
     let sections = [
         (NAMES, names_section(names)),
@@ -88,11 +91,49 @@ pub fn drawn(names: &[&str], polygons: &[&[&[Point]]]) -> Vec<u8> {
     whole(names.len(), &sections).0
 }
 
-/// The first point, then the steps from each to the next, and back to the first.
-fn deltas(ring: &[Point]) -> Vec<Point> {
-    let closed = ring.iter().chain(&ring[..1]);
-    let before = [(0, 0)].iter().chain(ring);
-    closed.zip(before).map(|(to, from)| (to.0 - from.0, to.1 - from.1)).collect()
+/// A file without GRID whose one zone is one ring, in one group that has a chunk for each of these stretches of points. The
+/// last point is the first one again. All boxes are the least.
+pub fn in_chunks(name: &str, stretches: &[Vec<Point>]) -> Vec<u8> {
+    let all = stretches.concat();
+    let side = box_of(all.iter().copied());
+    let listed = |first: u32, count: u32| [words(&[first, count]), side.clone()].concat();
+    let (mut chunks, mut stream) = (Vec::new(), Vec::new());
+    for (place, stretch) in stretches.iter().enumerate() {
+        let next = stretches.get(place + 1).map(|next| next[0]);
+        chunks.extend(words(&[stream.len() as u32, stretch.len() as u32]));
+        chunks.extend(box_of(stretch.iter().copied().chain(next)));
+        stream.extend(points(&steps(stretch)));
+    }
+    let count = all.len() as u32;
+    let (x, y) = (all[0].0 as u32, all[0].1 as u32);
+    let group = words(&[0, count, stretches.len() as u32, x, y, x, y]);
+    let sections = [
+        (NAMES, names_section(&[name])),
+        (TZDIR, listed(0, 1)),
+        (POLYDIR, listed(0, 1)),
+        (RINGDIR, [words(&[0, count - 1, 1]), side.clone()].concat()),
+        (RINGOPS, words(&[0])),
+        (GROUPDIR, [group, side.clone()].concat()),
+        (CHUNKDIR, chunks),
+        (POINTS, stream),
+    ];
+    whole(1, &sections).0
+}
+
+/// A coast of so many chunks, from 1 on, from (0, 0) to about (1, chunks / 100) degrees. All chunks but the last lie one above
+/// the other by the sea, a hundredth of a degree high each; the last goes back around the land.
+pub fn coast(chunks: usize) -> Vec<Vec<Point>> {
+    let step = |n: usize| 1000 * n as i32;
+    let by_the_sea = |n| vec![(SIDE, step(n)), (SIDE + 50 + 37 * (n % 7) as i32, step(n) + 500)];
+    let top = step(chunks);
+    let around = vec![(SIDE, step(chunks - 1)), (SIDE, top), (0, top), (0, 0), (SIDE, 0)];
+    (0..chunks - 1).map(by_the_sea).chain([around]).collect()
+}
+
+/// The first point, then the steps from each to the next.
+fn steps(points: &[Point]) -> Vec<Point> {
+    let before = [(0, 0)].iter().chain(points);
+    points.iter().zip(before).map(|(to, from)| (to.0 - from.0, to.1 - from.1)).collect()
 }
 
 /// The least box.
@@ -119,6 +160,25 @@ fn whole(zones: usize, sections: &[(usize, Vec<u8>)]) -> (Vec<u8>, [usize; 10]) 
     bytes[16..20].copy_from_slice(&size.to_le_bytes());
     repair(&mut bytes);
     (bytes, starts)
+}
+
+/// Where a section starts, by the file's own table.
+pub fn start_of(file: &[u8], kind: usize) -> usize {
+    let word = |at: usize| u32::from_le_bytes(*file[at..].first_chunk().unwrap()) as usize;
+    let entry = (64..).step_by(16).take(word(20)).find(|&entry| word(entry) == kind);
+    word(entry.expect("the section is there") + 4)
+}
+
+/// Holds an index to another at a position: its zone, all its zones, and whether these and a few more contain the point of
+/// whole numbers there.
+pub fn same_at(one: &Index<&[u8]>, other: &Index<&[u8]>, (lng, lat): (f64, f64)) {
+    assert_eq!(one.zone(lng, lat), other.zone(lng, lat), "{lng} {lat}");
+    let listed = one.zones(lng, lat);
+    assert_eq!(listed, other.zones(lng, lat), "{lng} {lat}");
+    let [x, y] = [lng, lat].map(|degrees| (degrees * 100_000.0).round() as i32);
+    for zone in listed.unwrap_or_default().into_iter().chain([0, 1, u32::MAX]) {
+        assert_eq!(one.contains(zone, x, y), other.contains(zone, x, y), "{zone} at {x} {y}");
+    }
 }
 
 /// A copy with these bytes at a place of the file, and the right sum.

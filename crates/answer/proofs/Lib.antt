@@ -3,3 +3,4 @@ pub mod WalksLaws
 pub mod AnswersLaws
 pub mod CheckLaws
 pub mod Determined
+pub mod OverLaws

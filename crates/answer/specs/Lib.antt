@@ -3,3 +3,4 @@ pub mod Refusals
 pub mod Answers
 pub mod Checks
 pub mod Walks
+pub mod Over

@@ -19,6 +19,7 @@ use Rattle.opened.specs.declared.Opened.{Opened}
 use Rattle.reader_named.proofs.Accepted.{NameGiven}
 use Rattle.reader_cells.specs.Asked.{candidateAt}
 use Rattle.reader_cells.proofs.Accepted.{ListedZone, AllZones}
+use Rattle.reader_ways.specs.Ways.{plain}
 use Rattle.reader_zones.specs.Zones.{zoneOf}
 use Rattle.reader_lookup.specs.Asking.{scaled, candidateOf, hitAt, orElse, firstHit, unlooked, lookupAmong}
 use Rattle.demands.specs.Lookups.{zoneListed, candidateZones, firstThat, allThat, shortcut}
@@ -98,31 +99,31 @@ module _ (o : Opened) (s : List ℕ) where
 
   -- ---- and each is tested: for a test that the zones' answers are
   module _ (p : Point) (P : ℕ → Bool) (answers : (zone : ℕ) → zone < o .zones .count → zoneOf o s p zone ≡ ok (P zone)) where
-    hit-all : (place : ℕ) → place < o .zones .count → hitAt o s p false place ≡ ok (hitOf P place)
+    hit-all : (place : ℕ) → place < o .zones .count → hitAt plain o s p false place ≡ ok (hitOf P place)
     unfolding hitAt candidateOf
     hit-all place h = rw (answers place h)
 
-    hit-listed : (place : ℕ) → ListedZone o s place → hitAt o s p true place ≡ ok (hitOf P (zoneListed o s place))
+    hit-listed : (place : ℕ) → ListedZone o s place → hitAt plain o s p true place ≡ ok (hitOf P (zoneListed o s place))
     unfolding hitAt candidateOf
     hit-listed place z = rw (listed-given place z, answers (zoneListed o s place) (listed-known place z))
 
     -- all that contain the point
-    pub hits-among : (c : Chosen) → AllZones o s c → hitsAmong o s p c ≡ ok (allThat P (candidateZones o s c))
+    pub hits-among : (c : Chosen) → AllZones o s c → hitsAmong plain o s p c ≡ ok (allThat P (candidateZones o s c))
     unfolding hitsAmong candidateZones allThat
     hits-among none z = refl
-    hits-among (all n) z = all-that (hitAt o s p false) P (λ zone. zone) n 0 (λ j l m. hit-all j (omega (arith, z)))
-    hits-among (listed n place) z = all-that (hitAt o s p true) P (zoneListed o s) n place (λ j l m. hit-listed j (listed-at n place z j l m))
+    hits-among (all n) z = all-that (hitAt plain o s p false) P (λ zone. zone) n 0 (λ j l m. hit-all j (omega (arith, z)))
+    hits-among (listed n place) z = all-that (hitAt plain o s p true) P (zoneListed o s) n place (λ j l m. hit-listed j (listed-at n place z j l m))
 
   module _ (lng lat : Float) (P : ℕ → Bool) (answers : (zone : ℕ) → zone < o .zones .count → zoneOf o s (scaled lng lat) zone ≡ ok (P zone)) where
     -- the first that does, where the shortcut does not apply
-    pub first-among : (c : Chosen) → AllZones o s c → shortcut o lng lat c ≡ false → lookupAmong o s lng lat c ≡ ok (firstThat P (candidateZones o s c))
+    pub first-among : (c : Chosen) → AllZones o s c → shortcut o lng lat c ≡ false → lookupAmong plain o s lng lat c ≡ ok (firstThat P (candidateZones o s c))
     unfolding lookupAmong candidateZones firstThat shortcut
     first-among none z e = refl
-    first-among (all n) z e = first-that (hitAt o s (scaled lng lat) false) P (λ zone. zone) n 0 (λ j l m. hit-all (scaled lng lat) P answers j (omega (arith, z)))
-    first-among (listed n place) z e = rw e (first-that (hitAt o s (scaled lng lat) true) P (zoneListed o s) n place (λ j l m. hit-listed (scaled lng lat) P answers j (listed-at n place z j l m)))
+    first-among (all n) z e = first-that (hitAt plain o s (scaled lng lat) false) P (λ zone. zone) n 0 (λ j l m. hit-all (scaled lng lat) P answers j (omega (arith, z)))
+    first-among (listed n place) z e = rw e (first-that (hitAt plain o s (scaled lng lat) true) P (zoneListed o s) n place (λ j l m. hit-listed (scaled lng lat) P answers j (listed-at n place z j l m)))
 
   -- where it does, the one candidate
-  pub short-among : (lng lat : Float) (n place : ℕ) → AllZones o s (listed n place) → unlooked o n lng lat ≡ true → lookupAmong o s lng lat (listed n place) ≡ ok (inZone (zoneListed o s place))
+  pub short-among : (lng lat : Float) (n place : ℕ) → AllZones o s (listed n place) → unlooked o n lng lat ≡ true → lookupAmong plain o s lng lat (listed n place) ≡ ok (inZone (zoneListed o s place))
   unfolding lookupAmong
   short-among lng lat n place z e = rw (e, listed-given place (listed-at n place z place (omega arith) (omega (arith, one-alone o n lng lat e))))
 

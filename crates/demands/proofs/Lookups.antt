@@ -15,8 +15,9 @@ use Rattle.reader_named.specs.Asked.{nameOr}
 use Rattle.reader_order.specs.Order.{ordered}
 use Rattle.reader_cells.specs.Asked.{candidatesOf}
 use Rattle.reader_cells.proofs.Accepted.{AllZones}
+use Rattle.reader_ways.specs.Ways.{plain}
 use Rattle.reader_zones.specs.Zones.{zoneOf}
-use Rattle.reader_lookup.specs.Asking.{scaled, unlooked, lookupOf}
+use Rattle.reader_lookup.specs.Asking.{scaled, unlooked, lookupBy, lookupOf}
 use Rattle.reader_exact.proofs.Exact.{walk-exact}
 use Rattle.tzb.specs.Opening.{openOf}
 use Rattle.tzb.specs.FullCheck.{fullCheckOf}
@@ -30,7 +31,7 @@ use Rattle.demands.proofs.Hits.{candidates-known, kept-known, hits-amon
 use Rattle.plane.specs.Places.{pointOf}
 use Rattle.replies.specs.Replies.{Chosen, listed, inZone, accepted}
 use Rattle.answer.proofs.AnswersLaws.{ok-inv}
-use Rattle.reader_listing.specs.All.{hitsOf, placed, listFor, listOf}
+use Rattle.reader_listing.specs.All.{hitsOf, placed, listFor, listBy, listOf}
 
 -- ---- for any test that the zones' answers are
 module _ (file : List ℕ) (o : Opened) (opened : ok o ≡ openOf file) (lng lat : Float) (c : Chosen) (chosen : ok c ≡ candidatesOf o file lng lat) where
@@ -42,21 +43,21 @@ module _ (file : List ℕ) (o : Opened) (opened : ok o ≡ openOf file) (lng lat
 
   -- where the shortcut applies, the one candidate is the answer
   short : (n place : ℕ) → c ≡ listed n place → unlooked o n lng lat ≡ true → lookupOf o file lng lat ≡ ok (inZone (zoneListed o file place))
-  unfolding lookupOf
+  unfolding lookupBy
   short n place e u = rw (← chosen, e) (short-among o file lng lat n place (subst (AllZones o file) e their-zones) u)
 
   module _ (P : ℕ → Bool) (answers : (zone : ℕ) → zone < o .zones .count → zoneOf o file (scaled lng lat) zone ≡ ok (P zone)) where
     pub first-zone : shortcut o lng lat c ≡ false → lookupOf o file lng lat ≡ ok (firstThat P (candidateZones o file c))
-    unfolding lookupOf
+    unfolding lookupBy
     first-zone e = rw (← chosen) (first-among o file lng lat P answers c their-zones e)
 
-    pub all-zones : hitsOf o file lng lat ≡ ok (allThat P (candidateZones o file c))
+    pub all-zones : hitsOf plain o file lng lat ≡ ok (allThat P (candidateZones o file c))
     unfolding hitsOf
     all-zones = rw (← chosen) (hits-among o file (scaled lng lat) P answers c their-zones)
 
     -- all names are read
     pub zones-into : (places : ℕ) → listOf o file lng lat places ≡ need 46 (atMost (length (allThat P (candidateZones o file c))) places) (ok (ordered (nameOr o file) (allThat P (candidateZones o file c))))
-    unfolding listOf listFor placed
+    unfolding listBy listFor placed
     zones-into places =
         let l = allThat P (candidateZones o file c) in
         rw (all-zones, names-read o file (name-answered file o opened) l (kept-known o P (candidateZones o file c) (candidates-known o file c their-zones)))

@@ -22,6 +22,7 @@ use Rattle.reader_records.specs.declared.ChunkRecord.{ChunkRecord}
 use Rattle.reader_records.specs.Records.{chunkAt}
 use Rattle.reader_dirs.specs.Dirs.{chunkOf}
 use Rattle.reader_chunks.specs.Chunks.{chunkPoints, decodeIn}
+use Rattle.reader_ways.specs.Ways.{plain}
 use Rattle.reader_zones.specs.Zones.{zoneOf}
 use Rattle.reader_order.specs.Order.{ordered}
 use Rattle.reader_lookup.specs.Asking.{scaled, unlooked, lookupOf}
@@ -69,10 +70,10 @@ module _ (file : List ℕ) (accepts : fullCheckOf file ≡ accepted) (o : Opened
     looked : shortcut o lng lat c ≡ false → Given (lookupOf o file lng lat)
     looked e = gives (lookupOf o file lng lat) _ (first-zone file o opened lng lat c chosen walked answers e)
 
-    hits : hitsOf o file lng lat ≡ ok (allThat walked (candidateZones o file c))
+    hits : hitsOf plain o file lng lat ≡ ok (allThat walked (candidateZones o file c))
     hits = all-zones file o opened lng lat c chosen walked answers
 
-    into-room : (l : List ℕ) → ok l ≡ hitsOf o file lng lat → (places : ℕ) → length l ≤ places → Given (listOf o file lng lat places)
+    into-room : (l : List ℕ) → ok l ≡ hitsOf plain o file lng lat → (places : ℕ) → length l ≤ places → Given (listOf o file lng lat places)
     into-room l e places h =
         let is : l ≡ allThat walked (candidateZones o file c) = ok-inv l (allThat walked (candidateZones o file c)) (e ∙ hits) in
         let fits : atMost (length (allThat walked (candidateZones o file c))) places ≡ true = ap (λ (m : List ℕ). atMost (length m) places) (sym is) ∙ le-at (length l) places h in
@@ -114,6 +115,6 @@ module _ (file : List ℕ) (accepts : fullCheckOf file ≡ accepted) (o : Opened
         walk = λ i h p. gives (zoneOf o file p i) _ (zone-walk o file k p i h);
         contains = λ i h q. gives _ _ (contains-is file accepts o opened i h q);
         lookup = λ lng lat. let g = candidates-answered file o opened lng lat in looks lng lat (g .chosen) (g .given);
-        zones = λ lng lat. let g = candidates-answered file o opened lng lat in gives (hitsOf o file lng lat) _ (hits lng lat (g .chosen) (g .given));
+        zones = λ lng lat. let g = candidates-answered file o opened lng lat in gives (hitsOf plain o file lng lat) _ (hits lng lat (g .chosen) (g .given));
         into = λ lng lat. let g = candidates-answered file o opened lng lat in into-room lng lat (g .chosen) (g .given);
       }

@@ -16,6 +16,7 @@ use Rattle.reader_cells.specs.Asked.{candidatesOf, candidateAt}
 use Rattle.reader_records.specs.declared.ChunkRecord.{ChunkRecord}
 use Rattle.reader_records.specs.Records.{polyAt, ringAt, opAt, groupAt, chunkAt, tzAt}
 use Rattle.reader_chunks.specs.Chunks.{firstAt, chunkPoints, decodeIn}
+use Rattle.reader_ways.specs.Ways.{plain}
 use Rattle.reader_zones.specs.Zones.{zoneOf, containsAt}
 use Rattle.reader_lookup.specs.Asking.{lookupOf}
 use Rattle.replies.specs.Replies.{listed}
@@ -43,5 +44,5 @@ pub record NeverRefused (file : List ℕ) (o : Opened) : Type 0 where
   pub contains : (i : ℕ) → i < o .zones .count → (q : I32Point) → Given (containsAt o file i q)
   -- lookup at all floats; all zones there, and into lent room
   pub lookup : (lng lat : Float) → Given (lookupOf o file lng lat)
-  pub zones : (lng lat : Float) → Given (hitsOf o file lng lat)
-  pub into : (lng lat : Float) (l : List ℕ) → ok l ≡ hitsOf o file lng lat → (places : ℕ) → length l ≤ places → Given (listOf o file lng lat places)
+  pub zones : (lng lat : Float) → Given (hitsOf plain o file lng lat)
+  pub into : (lng lat : Float) (l : List ℕ) → ok l ≡ hitsOf plain o file lng lat → (places : ℕ) → length l ≤ places → Given (listOf o file lng lat places)

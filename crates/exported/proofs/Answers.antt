@@ -19,12 +19,12 @@ use Rattle.reader_zones.specs.Zones.{zoneOf, containsAt}
 use Rattle.reader_lookup.specs.Asking.{lookupOf}
 use Rattle.reader_check.specs.FullCheck.{lowestBroken}
 use Rattle.tzb_record.specs.Layout.{bytesOf, openedIn, recordOf}
-use Rattle.tzb_asked.specs.Asked.{containsAsked, lookupAsked}
+use Rattle.tzb_asked.specs.Asked.{containsAsked, lookupAsked, containsAskedBy, lookupAskedBy}
 use Rattle.tzb.specs.Opening.{openOf, openedIs}
 use Rattle.tzb_codes.specs.Codes.{doneCode, insideCode, zoneCode, checkCode, ruleOf}
 use Rattle.tzb_c.specs.Opens.{openInto, lookupOnce}
 use Rattle.exported.specs.Calls.{Tzb-open, Tzb-full-check, Tzb-full-check-rule, Tzb-contains, Tzb-lookup, Tzb-ask}
-use Rattle.exported.specs.Words.{refusing, Bytes}
+use Rattle.exported.specs.Words.{lastNumber, refusing, Bytes}
 use Rattle.exported.specs.Answers.{Tells, yesNo, zoneNumber, FullCheckAnswers, OpenAnswers, ContainsAnswers, LookupAnswers, AskAnswers}
 use Rattle.exported.proofs.Meaning.{open-answer, open-memory, full-check-answer, rule-answer, lookup-answer, contains-answer, ask-answer}
 use Rattle.exported.proofs.Tabled.{higher}
@@ -37,6 +37,7 @@ use Rattle.exported.proofs.Demand1.{once-tabled}
 use Rattle.exported.proofs.Demand3 as Three
 use Rattle.plane.specs.Places.{point, pointOf}
 use Rattle.answer.proofs.AnswersLaws.{then-ok, then-no, zero-one, left-no, left-is}
+use Rattle.reader_ways.specs.Ways.{plain}
 use Rattle.reader_zones.proofs.ZonesLaws.{whole-over, whole-off, whole-is}
 use Rattle.tzb_record.proofs.LayoutLaws.{record-none, record-is, record-long}
 use Rattle.tzb_codes.proofs.CodesLaws.{code-small}
@@ -203,36 +204,36 @@ module _ (held : List ℕ) where
 
 module _ (held file : List ℕ) (zone : ℕ) (x y r : ℤ) (c : Tzb-contains held file zone x y r) where
   contains-at : length held ≡ 84 → r ≡ insideCode (containsAt (openedIn held) file zone (point x y))
-  unfolding containsAsked
+  unfolding containsAskedBy
   contains-at h = contains-answer c ∙ ap insideCode (sym (then-ok (recordOf held) (λ o. containsAt o file zone (point x y)) (openedIn held) (is-84 held h)))
 
   contains-none : (length held ≡ 84 → ⊥) → r ≡ refusing 44
-  unfolding containsAsked
+  unfolding containsAskedBy
   contains-none h = contains-answer c ∙ ap insideCode (sym (then-no (recordOf held) (λ o. containsAt o file zone (point x y)) (refusal 44) (no-84 held h))) ∙ sym (code-small (refusal 44) (omega arith))
 
   pub contains-answers : ContainsAnswers held file zone x y r
   contains-answers =
       record {
         no-record = contains-none;
-        no-zone = λ h l. contains-at h ∙ ap insideCode (sym (whole-over (openedIn held) file zone (point x y) l)) ∙ sym (code-small (refusal 45) (omega arith));
-        outside = λ h l d. contains-at h ∙ ap insideCode (sym (whole-off (openedIn held) file zone (point x y) l d));
+        no-zone = λ h l. contains-at h ∙ ap insideCode (sym (whole-over plain (openedIn held) file zone (point x y) l)) ∙ sym (code-small (refusal 45) (omega arith));
+        outside = λ h l d. contains-at h ∙ ap insideCode (sym (whole-off plain (openedIn held) file zone (point x y) l d));
         walked = λ h l d. walked h l d;
       }
     where
       walked : length held ≡ 84 → zone < openedIn held .zones .count → inDomain (point x y) ≡ true → Tells yesNo (zoneOf (openedIn held) file (pointOf (point x y)) zone) r
       walked h l d =
-          let e = whole-is (openedIn held) file zone (point x y) l d in
-          let t = higher 46 48 (omega arith) _ (contains-q (openedIn held) file zone (point x y)) in
+          let e = whole-is plain (openedIn held) file zone (point x y) l d in
+          let t = higher 46 lastNumber (omega arith) _ (contains-q (openedIn held) file zone (point x y)) in
           let w = inside-tells (containsAt (openedIn held) file zone (point x y)) t in
           record { value = λ b f. contains-at h ∙ w .value b (f ∙ e); refusal = λ n f. contains-at h ∙ w .refusal n (f ∙ e) }
 
 module _ (held file : List ℕ) (lng lat : Float) (r : ℤ) (c : Tzb-ask held file lng lat r) where
   ask-at : length held ≡ 84 → r ≡ zoneCode (lookupOf (openedIn held) file lng lat)
-  unfolding lookupAsked
+  unfolding lookupAskedBy
   ask-at h = ask-answer c ∙ ap zoneCode (sym (then-ok (recordOf held) (λ o. lookupOf o file lng lat) (openedIn held) (is-84 held h)))
 
   ask-none : (length held ≡ 84 → ⊥) → r ≡ refusing 44
-  unfolding lookupAsked
+  unfolding lookupAskedBy
   ask-none h = ask-answer c ∙ ap zoneCode (sym (then-no (recordOf held) (λ o. lookupOf o file lng lat) (refusal 44) (no-84 held h))) ∙ sym (code-small (refusal 44) (omega arith))
 
   pub ask-answers : AskAnswers held file lng lat r
@@ -240,13 +241,13 @@ module _ (held file : List ℕ) (lng lat : Float) (r : ℤ) (c : Tzb-ask held fi
     where
       found : length held ≡ 84 → Tells zoneNumber (lookupOf (openedIn held) file lng lat) r
       found h =
-          let w = zone-tells (lookupOf (openedIn held) file lng lat) (higher 46 48 (omega arith) _ (lookup-q (openedIn held) file lng lat)) in
+          let w = zone-tells (lookupOf (openedIn held) file lng lat) (higher 46 lastNumber (omega arith) _ (lookup-q (openedIn held) file lng lat)) in
           record { value = λ z f. ask-at h ∙ w .value z f; refusal = λ n f. ask-at h ∙ w .refusal n f }
 
 -- ---- opening and asking at once
 module _ (file : List ℕ) (lng lat : Float) (r : ℤ) (c : Tzb-lookup file lng lat r) where
   once : Tells zoneNumber (lookupOnce file lng lat) (zoneCode (lookupOnce file lng lat))
-  once = zone-tells (lookupOnce file lng lat) (higher 46 48 (omega arith) _ (once-tabled file lng lat))
+  once = zone-tells (lookupOnce file lng lat) (higher 46 lastNumber (omega arith) _ (once-tabled file lng lat))
 
   pub lookup-answers : LookupAnswers file lng lat r
   lookup-answers = record { refuses = λ n e. lookup-answer c ∙ once .refusal n (once-barred file lng lat (refusal n) e); found = found }
@@ -258,7 +259,7 @@ module _ (file : List ℕ) (lng lat : Float) (r : ℤ) (c : Tzb-lookup file lng 
 
 -- ---- with the record that opening left in memory `tzb_ask` answers as `tzb_lookup` does
 pub ask-is-lookup : (file : List ℕ) → Bytes file → (memory after : List ℕ) → Tzb-open file memory (pos 0) after → (lng lat : Float) (r s : ℤ) → Tzb-ask (take 84 after) file lng lat r → Tzb-lookup file lng lat s → r ≡ s
-unfolding lookupAsked lookupOnce
+unfolding lookupAskedBy lookupOnce
 ask-is-lookup file byte memory after c lng lat r s a l =
     ask-answer a
     ∙ ap zoneCode (sym (then-ok (recordOf (take 84 after)) (λ o. lookupOf o file lng lat) (openedIs file) (Three.held file byte memory after c)))

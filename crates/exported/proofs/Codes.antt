@@ -1,4 +1,4 @@
--- Answers whose refusals have numbers up to 48, as numbers: which number tells what.
+-- Answers whose refusals have numbers of the table, as numbers: which number tells what.
 -- Assumes nothing.
 use Prim.Native.Nat.{ℕ, _+_, _<_}
 use native.Mathlib.Omega.{arith}
@@ -10,7 +10,7 @@ use Rattle.answer.specs.declared.Refusal.{Refusal}
 use Rattle.answer.specs.Refusals.{refusal}
 use Rattle.answer.specs.Answers.{Answer, ok, refused, no}
 use Rattle.tzb_codes.specs.Codes.{refusalCode, doneCode, kindCode, insideCode, zoneCode, numberCode, startCode, endCode}
-use Rattle.exported.specs.Words.{refusing, Refuses}
+use Rattle.exported.specs.Words.{lastNumber, refusing, Refuses}
 use Rattle.exported.specs.Words as W
 use Rattle.exported.specs.Demand1.{NumberOrRefusal}
 use Rattle.exported.specs.Answers.{Tells, yesNo, zoneNumber}
@@ -36,64 +36,64 @@ pub same-refusing : (n m : ℕ) → refusing n ≡ refusing m → n ≡ m
 same-refusing n m e = let h : 999 + n ≡ 999 + m = same-below (999 + n) (999 + m) e in omega arith
 
 -- ---- a refusal
-pub code-is : (k : Refusal) → Numbered 48 k → refusalCode k ≡ refusing (k .number)
+pub code-is : (k : Refusal) → Numbered lastNumber k → refusalCode k ≡ refusing (k .number)
 code-is k h = sym (code-small k (omega (arith, h .greatest)))
 
-pub refuses : (k : Refusal) → Numbered 48 k → Refuses (refusalCode k)
+pub refuses : (k : Refusal) → Numbered lastNumber k → Refuses (refusalCode k)
 refuses k h = record { number = k .number; least = h .least; greatest = h .greatest; tells = code-is k h }
 
 -- ---- answers
 module _ {A : Type 0} where
-  pub done-told : (x : Answer A) → Tabled 48 x → (doneCode x ≡ pos 0) ⊎ Refuses (doneCode x)
+  pub done-told : (x : Answer A) → Tabled lastNumber x → (doneCode x ≡ pos 0) ⊎ Refuses (doneCode x)
   done-told (ok a) h = inl refl
   done-told (refused k) h = inr (refuses k (h .by))
 
-pub number-told : (x : Answer ℕ) → Tabled 48 x → NumberOrRefusal (numberCode x)
+pub number-told : (x : Answer ℕ) → Tabled lastNumber x → NumberOrRefusal (numberCode x)
 number-told (ok n) h = inl (n, refl)
 number-told (refused k) h = inr (refuses k (h .by))
 
-pub start-told : (x : Answer (ℕ × ℕ)) → Tabled 48 x → NumberOrRefusal (startCode x)
+pub start-told : (x : Answer (ℕ × ℕ)) → Tabled lastNumber x → NumberOrRefusal (startCode x)
 start-told (ok b) h = inl (b .0, refl)
 start-told (refused k) h = inr (refuses k (h .by))
 
-pub end-told : (x : Answer (ℕ × ℕ)) → Tabled 48 x → NumberOrRefusal (endCode x)
+pub end-told : (x : Answer (ℕ × ℕ)) → Tabled lastNumber x → NumberOrRefusal (endCode x)
 end-told (ok b) h = inl (b .1, refl)
 end-told (refused k) h = inr (refuses k (h .by))
 
-pub kind-told : (x : Answer Chosen) → Tabled 48 x → NumberOrRefusal (kindCode x)
+pub kind-told : (x : Answer Chosen) → Tabled lastNumber x → NumberOrRefusal (kindCode x)
 kind-told (ok none) h = inl (0, refl)
 kind-told (ok (all n)) h = inl (1, refl)
 kind-told (ok (listed n place)) h = inl (2, refl)
 kind-told (refused k) h = inr (refuses k (h .by))
 
-pub inside-told : (x : Answer Bool) → Tabled 48 x → ((insideCode x ≡ pos 1) ⊎ (insideCode x ≡ pos 0)) ⊎ Refuses (insideCode x)
+pub inside-told : (x : Answer Bool) → Tabled lastNumber x → ((insideCode x ≡ pos 1) ⊎ (insideCode x ≡ pos 0)) ⊎ Refuses (insideCode x)
 inside-told (ok true) h = inl (inl refl)
 inside-told (ok false) h = inl (inr refl)
 inside-told (refused k) h = inr (refuses k (h .by))
 
-pub zone-told : (bound : ℕ) (x : Answer Sought) → Tabled 48 x → ((zone : ℕ) → ok (inZone zone) ≡ x → zone < bound)
+pub zone-told : (bound : ℕ) (x : Answer Sought) → Tabled lastNumber x → ((zone : ℕ) → ok (inZone zone) ≡ x → zone < bound)
     → ((zone : ℕ) × (zone < bound) × (zoneCode x ≡ pos zone)) ⊎ ((zoneCode x ≡ W.none) ⊎ Refuses (zoneCode x))
 zone-told bound (ok nowhere) h g = inr (inl refl)
 zone-told bound (ok (inZone zone)) h g = inl (zone, g zone refl, refl)
 zone-told bound (refused k) h g = inr (inr (refuses k (h .by)))
 
 -- ---- the answer in words
-pub inside-tells : (x : Answer Bool) → Tabled 48 x → Tells yesNo x (insideCode x)
+pub inside-tells : (x : Answer Bool) → Tabled lastNumber x → Tells yesNo x (insideCode x)
 inside-tells x t = record { value = value x; refusal = refusal-told x t }
   where
     value : (x : Answer Bool) (b : Bool) → ok b ≡ x → insideCode x ≡ yesNo b
     value x true e = ap insideCode (sym e)
     value x false e = ap insideCode (sym e)
 
-    refusal-told : (x : Answer Bool) → Tabled 48 x → (n : ℕ) → no n ≡ x → insideCode x ≡ refusing n
+    refusal-told : (x : Answer Bool) → Tabled lastNumber x → (n : ℕ) → no n ≡ x → insideCode x ≡ refusing n
     refusal-told x t n e = ap insideCode (sym e) ∙ code-is (refusal n) (number-of x (refusal n) e t)
 
-pub zone-tells : (x : Answer Sought) → Tabled 48 x → Tells zoneNumber x (zoneCode x)
+pub zone-tells : (x : Answer Sought) → Tabled lastNumber x → Tells zoneNumber x (zoneCode x)
 zone-tells x t = record { value = value x; refusal = refusal-told x t }
   where
     value : (x : Answer Sought) (z : Sought) → ok z ≡ x → zoneCode x ≡ zoneNumber z
     value x nowhere e = ap zoneCode (sym e)
     value x (inZone zone) e = ap zoneCode (sym e)
 
-    refusal-told : (x : Answer Sought) → Tabled 48 x → (n : ℕ) → no n ≡ x → zoneCode x ≡ refusing n
+    refusal-told : (x : Answer Sought) → Tabled lastNumber x → (n : ℕ) → no n ≡ x → zoneCode x ≡ refusing n
     refusal-told x t n e = ap zoneCode (sym e) ∙ code-is (refusal n) (number-of x (refusal n) e t)

@@ -15,7 +15,7 @@ use Rattle.shapes.specs.Shapes.{zoneIn}
 use Rattle.opened.specs.declared.Opened.{Opened}
 use Rattle.reader_zones.specs.Zones.{containsAt}
 use Rattle.tzb_record.specs.Layout.{recordOf}
-use Rattle.tzb_asked.specs.Asked.{zonesAsked, containsAsked}
+use Rattle.tzb_asked.specs.Asked.{zonesAsked, containsAskedBy}
 use Rattle.tzb.specs.Opening.{openOf, openedIs}
 use Rattle.tzb.specs.FullCheck.{fullCheckOf}
 use Rattle.tzb.proofs.Given.{opened-is}
@@ -36,6 +36,7 @@ use Rattle.exported.proofs.Meaning.{open-answer, open-memory, full-chec
 use Rattle.plane.specs.Places.{point}
 use Rattle.replies.specs.Replies.{Outcome, accepted, refusedBy, brokenAt}
 use Rattle.answer.proofs.AnswersLaws.{then-ok}
+use Rattle.reader_ways.specs.Ways.{plain}
 use Rattle.reader_zones.proofs.ZonesLaws.{whole-over}
 use Rattle.tzb_codes.proofs.CodesLaws.{code-small}
 
@@ -80,28 +81,28 @@ module _ (file : List ℕ) where
     held = record-kept file memory byte o opens (into .2) ∙ ap (λ (m : List ℕ). recordOf (take 84 m)) (sym (open-memory opened))
 
     -- as many zones as it has
-    count : (zones : ℕ) → Tzb-zone-count (take 84 after) (pos zones) → zones ≡ o .zones .count
+    pub count : (zones : ℕ) → Tzb-zone-count (take 84 after) (pos zones) → zones ≡ o .zones .count
     unfolding zonesAsked
     count zones c = same-number zones (o .zones .count) (zone-count-answer c ∙ ap numberCode (sym (then-ok (recordOf (take 84 after)) (λ p. ok (p .zones .count)) o held)))
 
     asked : (zone : ℕ) (x y r : ℤ) → Tzb-contains (take 84 after) file zone x y r → r ≡ insideCode (containsAt o file zone (point x y))
-    unfolding containsAsked
+    unfolding containsAskedBy
     asked zone x y r c = contains-answer c ∙ ap insideCode (sym (then-ok (recordOf (take 84 after)) (λ p. containsAt p file zone (point x y)) o held))
 
     no-zone : (zones : ℕ) → Tzb-zone-count (take 84 after) (pos zones) → (zone : ℕ) → zones ≤ zone → (x y r : ℤ) → Tzb-contains (take 84 after) file zone x y r → r ≡ refusing 45
     no-zone zones n zone h x y r c =
         asked zone x y r c
-        ∙ ap insideCode (sym (whole-over o file zone (point x y) (omega (arith, count zones n))))
+        ∙ ap insideCode (sym (whole-over plain o file zone (point x y) (omega (arith, count zones n))))
         ∙ sym (code-small (refusal 45) (omega arith))
 
     -- and the full check accepted it
-    module _ (checked : Tzb-full-check file (pos 0)) (zones : ℕ) (n : Tzb-zone-count (take 84 after) (pos zones)) (zone : ℕ) (h : zone < zones) (x y r : ℤ) (c : Tzb-contains (take 84 after) file zone x y r) where
+    module _ (checked : Tzb-full-check file (pos 0)) (zones : ℕ) (n : Tzb-zone-count (take 84 after) (pos zones)) (zone : ℕ) (h : zone < zones) (x y r : ℤ) (e : r ≡ insideCode (containsAt o file zone (point x y))) where
       abbrev says : Bool
       says = zoneIn (seg (point x y)) (shapeOf file zone)
 
       answered : r ≡ insideCode (ok says)
       answered =
-          asked zone x y r c
+          e
           ∙ ap insideCode (contains-is file (accepted-by (fullCheckOf file) (full-check-answer checked)) o opens zone (omega (arith, count zones n, h)) (point x y))
 
       in-words : (says ≡ true) ↔ InZone (point x y) (shapeOf file zone)
@@ -123,7 +124,7 @@ module _ (file : List ℕ) where
       which true e = inl e
       which false e = inr e
 
-      exactly : OneOrZero r (InZone (point x y) (shapeOf file zone))
+      pub exactly : OneOrZero r (InZone (point x y) (shapeOf file zone))
       exactly =
           record {
             either = which says answered;
@@ -135,6 +136,6 @@ module _ (file : List ℕ) where
   demand-3 byte =
       record {
         accepts = accepts;
-        contains = λ checked memory after opened zones n zone h x y r c. exactly byte memory after opened checked zones n zone h x y r c;
+        contains = λ checked memory after opened zones n zone h x y r c. exactly byte memory after opened checked zones n zone h x y r (asked byte memory after opened zone x y r c);
         no-zone = λ memory after opened zones n zone h x y r c. no-zone byte memory after opened zones n zone h x y r c;
       }

@@ -9,5 +9,7 @@ pub mod Codes
 pub mod Demand3
 pub mod Lengths
 pub mod Maps
+pub mod Built
 pub mod Demand1
 pub mod Answers
+pub mod Stripes

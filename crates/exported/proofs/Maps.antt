@@ -32,9 +32,9 @@ use Rattle.tzb.proofs.Given.{opened-is}
 use Rattle.tzb_map.specs.Map.{upheld, mapOf, mapIn, howLong, asAnswer}
 use Rattle.tzb_map.proofs.MapLaws.{map-is, map-inv, in-is, in-inv}
 use Rattle.tzb_codes.specs.Codes.{checkCode, drawnCode}
-use Rattle.tzb_codes.proofs.CodesLaws.{code-small, drawn-short}
+use Rattle.tzb_codes.proofs.CodesLaws.{code-small, whole-short}
 use Rattle.exported.specs.Calls.{Tzb-full-check, Tzb-map, Tzb-map-length}
-use Rattle.exported.specs.Words.{refusing, Bytes, shapeOf}
+use Rattle.exported.specs.Words.{lastNumber, refusing, Bytes, shapeOf}
 use Rattle.exported.specs.Demand1.{NumberOrRefusal, NumberOrAsItWas}
 use Rattle.exported.specs.Maps.{textOf, Asked, MapAnswers, MapLengthAnswers}
 use Rattle.exported.proofs.Meaning.{full-check-answer, map-answer, map-memory, map-length-answer}
@@ -46,7 +46,7 @@ use Rattle.exported.proofs.Lengths.{text-most}
 use Rattle.demands.proofs.Accepted.{accepted-with}
 
 -- ---- every refusal has a property
-abbrev RefusedBy : (Refusal → Type 0) → {A : Type 0} → Answer A → Type 0
+abbrev pub RefusedBy : (Refusal → Type 0) → {A : Type 0} → Answer A → Type 0
 RefusedBy P (ok a) = Unit {0}
 RefusedBy P (refused k) = P k
 
@@ -91,29 +91,29 @@ module _ (P : Refusal → Type 0) where
       asked-by = by (checks file)
 
 -- from the table; and never 46
-abbrev Tabled48 : Refusal → Type 0
-Tabled48 k = Numbered 48 k
+abbrev InTable : Refusal → Type 0
+InTable k = Numbered lastNumber k
 
-abbrev Roomless : Refusal → Type 0
-Roomless k = Numbered 48 k × (k .number ≡ 46 → ⊥)
+abbrev pub Roomless : Refusal → Type 0
+Roomless k = Numbered lastNumber k × (k .number ≡ 46 → ⊥)
 
 module _ (file : List ℕ) (zone : ℕ) where
-  pub map-tabled : (room : ℕ) → UndrawnBy Tabled48 (mapIn file zone room)
+  pub map-tabled : (room : ℕ) → UndrawnBy InTable (mapIn file zone room)
   unfolding mapIn
   map-tabled room =
-      asked-by Tabled48 file (λ k h. raised 34 48 (omega arith) k h) (record { least = omega arith; greatest = omega arith })
+      asked-by InTable file (λ k h. raised 34 lastNumber (omega arith) k h) (record { least = omega arith; greatest = omega arith })
       (λ o. inRoom room (zoneText o file zone))
-      (λ o. room-by Tabled48 (record { least = omega arith; greatest = omega arith }) room (zoneText o file zone)
-      (text-by Tabled48 (record { least = omega arith; greatest = omega arith }) (record { least = omega arith; greatest = omega arith }) o file zone))
+      (λ o. room-by InTable (record { least = omega arith; greatest = omega arith }) room (zoneText o file zone)
+      (text-by InTable (record { least = omega arith; greatest = omega arith }) (record { least = omega arith; greatest = omega arith }) o file zone))
 
   pub length-tabled : UndrawnBy Roomless (mapOf file zone)
   unfolding mapOf
   length-tabled =
-      asked-by Roomless file (λ k h. (raised 34 48 (omega arith) k h, λ e. omega (arith, h .greatest))) (record { least = omega arith; greatest = omega arith }, λ e. omega arith)
+      asked-by Roomless file (λ k h. (raised 34 lastNumber (omega arith) k h, λ e. omega (arith, h .greatest))) (record { least = omega arith; greatest = omega arith }, λ e. omega arith)
       (λ o. zoneText o file zone)
       (λ o. text-by Roomless (record { least = omega arith; greatest = omega arith }, λ e. omega arith) (record { least = omega arith; greatest = omega arith }, λ e. omega arith) o file zone)
 
-pub map-told : (memory : List ℕ) (d : Drawn (List ℕ)) → UndrawnBy Tabled48 d → NumberOrAsItWas (drawnCode (howLong d)) memory (left memory (asAnswer d))
+pub map-told : (memory : List ℕ) (d : Drawn (List ℕ)) → UndrawnBy InTable d → NumberOrAsItWas (drawnCode (howLong d)) memory (left memory (asAnswer d))
 map-told memory (drawn t) h = inl (min (length t) 0x7fff_ffff_ffff_ffff, refl)
 map-told memory (undrawn k) h = inr (refuses k h, refl)
 map-told memory (unsound k rule) h = inr (refuses k h, refl)
@@ -245,7 +245,7 @@ module _ (file : List ℕ) (zone : ℕ) where
 
     stands : drawn text ≡ map → length text < 0x8000_0000_0000_0000 → (r ≡ pos (length text)) × (after ≡ text ++ drop (length text) memory)
     stands e h = (
-      map-answer c ∙ ap code (sym e) ∙ sym (drawn-short (length text) h),
+      map-answer c ∙ ap code (sym e) ∙ sym (whole-short (length text) h),
       map-memory c ∙ ap (λ (d : Drawn (List ℕ)). left memory (asAnswer d)) (sym e),
     )
 
@@ -326,4 +326,4 @@ module _ (file : List ℕ) (zone : ℕ) where
         tells a d =
             map-length-answer c
             ∙ sym (ap (λ (x : Answer (List ℕ)). code (upheld accepted x)) (text-is o file zone (a .its-own) d) ∙ ap code (of-text (a .accepted)))
-            ∙ sym (drawn-short (length (textOf file zone)) (drawn-small (a .accepted) byte (a .its-own) d))
+            ∙ sym (whole-short (length (textOf file zone)) (drawn-small (a .accepted) byte (a .its-own) d))

@@ -8,11 +8,12 @@ use lib.Ieee.{Float}
 use lib.ListN.{length}
 use Rattle.tzb.specs.FullCheck.{fullCheckOf}
 use Rattle.chunks.specs.Decode.{filled}
-use Rattle.tzb_asked.specs.Asked.{zonesAsked, nameAsked, endsAsked, endsAfter, choiceAsked, candidateAsked, containsAsked, decodeAsked, lookupAsked, listAsked}
-use Rattle.tzb_codes.specs.Codes.{doneCode, kindCode, insideCode, zoneCode, checkCode, ruleOf, drawnCode, numberCode, startCode, endCode}
+use Rattle.tzb_asked.specs.Asked.{zonesAsked, nameAsked, endsAsked, endsAfter, choiceAsked, candidateAsked, containsAsked, decodeAsked, lookupAsked, listAsked, containsAskedBy, lookupAskedBy, listAskedBy, needAsked, stripesAsked}
+use Rattle.reader_ways.specs.Ways.{striped}
+use Rattle.tzb_codes.specs.Codes.{doneCode, kindCode, insideCode, zoneCode, checkCode, ruleOf, neededCode, drawnCode, numberCode, startCode, endCode}
 use Rattle.tzb_map.specs.Map.{mapOf, mapIn, howLong, asAnswer}
 use Rattle.tzb_c.specs.Opens.{openInto, lookupOnce}
-use Rattle.exported.specs.Calls.{Call, Tzb-open, Tzb-full-check, Tzb-full-check-rule, Tzb-zone-count, Tzb-contains, Tzb-lookup, Tzb-ask, Tzb-ask-all, Tzb-decode, Tzb-name, Tzb-name-start, Tzb-name-end, Tzb-choice, Tzb-candidate, Tzb-map, Tzb-map-length}
+use Rattle.exported.specs.Calls.{Call, Tzb-open, Tzb-full-check, Tzb-full-check-rule, Tzb-zone-count, Tzb-contains, Tzb-lookup, Tzb-ask, Tzb-ask-all, Tzb-decode, Tzb-name, Tzb-name-start, Tzb-name-end, Tzb-choice, Tzb-candidate, Tzb-map, Tzb-map-length, Tzb-stripes-need, Tzb-stripes, Tzb-contains-striped, Tzb-ask-striped, Tzb-ask-all-striped}
 use Rattle.plane.specs.Places.{point}
 use Rattle.answer.specs.Answers.{left, howMany}
 
@@ -68,6 +69,42 @@ module _ {file : List ℕ} where
         pub all-memory : Tzb-ask-all held file lng lat places r after → after ≡ left places (listAsked held file lng lat (length places))
         all-memory c =
             by-contract (λ (v : List ℕ × List ℕ × Float × Float × List ℕ × ℤ × List ℕ). v .6 ≡ left (v .4) (listAsked (v .0) (v .1) (v .2) (v .3) (length (v .4)))) (λ κ a r e p. p .1) c
+
+    -- stripes
+    pub need-answer : {r : ℤ} → Tzb-stripes-need held file r → r ≡ neededCode (needAsked held file)
+    need-answer c = by-contract (λ (v : List ℕ × List ℕ × ℤ). v .2 ≡ neededCode (needAsked (v .0) (v .1))) (λ κ a r e p. p) c
+
+    module _ {lent after : List ℕ} {r : ℤ} where
+      pub stripes-answer : Tzb-stripes held file lent r after → r ≡ neededCode (howMany (stripesAsked held file (length lent)))
+      stripes-answer c = by-contract (λ (v : List ℕ × List ℕ × List ℕ × ℤ × List ℕ). v .3 ≡ neededCode (howMany (stripesAsked (v .0) (v .1) (length (v .2))))) (λ κ a r e p. p .0) c
+
+      pub stripes-memory : Tzb-stripes held file lent r after → after ≡ left lent (stripesAsked held file (length lent))
+      stripes-memory c = by-contract (λ (v : List ℕ × List ℕ × List ℕ × ℤ × List ℕ). v .4 ≡ left (v .2) (stripesAsked (v .0) (v .1) (length (v .2)))) (λ κ a r e p. p .1) c
+
+    -- questions by stripes
+    module _ {numbers : List ℕ} where
+      pub contains-striped-answer : {zone : ℕ} {x y r : ℤ} → Tzb-contains-striped held numbers file zone x y r → r ≡ insideCode (containsAskedBy (striped numbers) held file zone (point x y))
+      contains-striped-answer c =
+          by-contract (λ (v : List ℕ × List ℕ × List ℕ × ℕ × ℤ × ℤ × ℤ). v .6 ≡ insideCode (containsAskedBy (striped (v .1)) (v .0) (v .2) (v .3) (point (v .4) (v .5)))) (λ κ a r e p. p) c
+
+      module _ {lng lat : Float} where
+        pub ask-striped-answer : {r : ℤ} → Tzb-ask-striped held numbers file lng lat r → r ≡ zoneCode (lookupAskedBy (striped numbers) held file lng lat)
+        ask-striped-answer c = by-contract (λ (v : List ℕ × List ℕ × List ℕ × Float × Float × ℤ). v .5 ≡ zoneCode (lookupAskedBy (striped (v .1)) (v .0) (v .2) (v .3) (v .4))) (λ κ a r e p. p) c
+
+        module _ {places after : List ℕ} {r : ℤ} where
+          pub all-striped-answer : Tzb-ask-all-striped held numbers file lng lat places r after → r ≡ numberCode (howMany (listAskedBy (striped numbers) held file lng lat (length places)))
+          all-striped-answer c =
+              by-contract
+              (λ (v : List ℕ × List ℕ × List ℕ × Float × Float × List ℕ × ℤ × List ℕ). v .6 ≡ numberCode (howMany (listAskedBy (striped (v .1)) (v .0) (v .2) (v .3) (v .4) (length (v .5)))))
+              (λ κ a r e p. p .0)
+              c
+
+          pub all-striped-memory : Tzb-ask-all-striped held numbers file lng lat places r after → after ≡ left places (listAskedBy (striped numbers) held file lng lat (length places))
+          all-striped-memory c =
+              by-contract
+              (λ (v : List ℕ × List ℕ × List ℕ × Float × Float × List ℕ × ℤ × List ℕ). v .7 ≡ left (v .5) (listAskedBy (striped (v .1)) (v .0) (v .2) (v .3) (v .4) (length (v .5))))
+              (λ κ a r e p. p .1)
+              c
 
     module _ {chunk : ℕ} {numbers after : List ℤ} {r : ℤ} where
       pub decode-answer : Tzb-decode held file chunk numbers r after → r ≡ numberCode (howMany (decodeAsked held file chunk numbers))

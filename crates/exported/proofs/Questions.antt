@@ -1,4 +1,4 @@
--- Every refusal of a question has a number from 1 to 46.
+-- Every refusal of a question has a number from 1 to 46, by either way through a group's chunks and for any numbers.
 -- Assumes nothing.
 use Prim.Native.Nat.{ℕ, zero, suc, _+_, _-_, _*_, _%_}
 use mathlib.Core.Path.{refl}
@@ -39,17 +39,20 @@ use Rattle.reader_records.specs.declared.GroupRecord.{GroupRecord}
 use Rattle.reader_records.specs.declared.RingRecord.{RingRecord}
 use Rattle.reader_records.specs.Records.{place, recordAt, ruled, listAt, ringAt, countRule, opAt, groupAt, chunkAt}
 use Rattle.reader_chunks.specs.Chunks.{endOf, span, bytesOf, firstIn, scanIn, decodeBy, decodeIn}
-use Rattle.reader_groups.specs.Groups.{nextFirst, skipTo, scanTo, joinedTo, passAt, lastIn, lastAt, chunksFrom, groupScan}
+use Rattle.reader_groups.specs.Groups.{nextFirst, skipTo, scanTo, joinedTo, passAt, lastIn, lastAt, aloneAt, chunksFrom, groupScan}
+use Rattle.reader_ways.specs.Ways.{Way, plain, striped, entryAt, stripeAt, chunkNumberAt, numbered, numberedFrom, stripeWalk, stripedScan, groupScanBy}
+use Rattle.reader_ways.specs.declared.Entry.{Entry}
+use Rattle.stripes.specs.Numbers.{groupNumbers, stripeNumbers}
 use Rattle.reader_rings.specs.declared.Turned.{Turned}
 use Rattle.reader_rings.specs.declared.Round.{Round}
 use Rattle.reader_rings.specs.Rings.{turnedAt, jointOf, groupWalk, turnWalk, opStep, opsFrom, ringEnd, ringRest, ringOf, ringContains}
-use Rattle.reader_zones.specs.Zones.{polyOf, zoneOf, containsAt, firstSo}
-use Rattle.reader_lookup.specs.Asking.{scaled, unlooked, candidateOf, hitAt, orElse, firstHit, lookupAmong, lookupOf}
+use Rattle.reader_zones.specs.Zones.{polyOf, zoneBy, containsBy, containsAt, firstSo}
+use Rattle.reader_lookup.specs.Asking.{scaled, unlooked, candidateOf, hitAt, orElse, firstHit, lookupAmong, lookupBy, lookupOf}
 use Rattle.tzb_record.specs.Layout.{recordOf}
 use Rattle.exported.proofs.Tabled.{Numbered, Tabled, TabledWalk, given, need-t, then-t, either-way, walked, must-t, past-t, verdict-t, go-t, yields-t, fine-t, and-t, outcome-t, before-t}
 use Rattle.plane.specs.Places.{pointOf}
 use Rattle.replies.specs.Replies.{Chosen, none, all, listed, Sought, nowhere, inZone}
-use Rattle.reader_listing.specs.All.{allHits, hitsAmong, hitsOf, namesRead, placed, listFor, listOf}
+use Rattle.reader_listing.specs.All.{allHits, hitsAmong, hitsOf, namesRead, placed, listFor, listBy, listOf}
 
 -- 1 to 46
 abbrev Q : {A : Type 0} → Answer A → Type 0
@@ -124,11 +127,11 @@ module _ (o : Opened) (s : List ℕ) (i : ℕ) where
   unfolding opAt
   op = ruled-35 _ _ _ (record-at s (o .ops) opWide i)
 
-  group : Q (groupAt o s i)
+  pub group : Q (groupAt o s i)
   unfolding groupAt
   group = ruled-34 _ _ _ (record-at s (o .groups) groupWide i)
 
-  chunk : Q (chunkAt o s i)
+  pub chunk : Q (chunkAt o s i)
   unfolding chunkAt
   chunk = ruled-34 _ _ _ (record-at s (o .chunks) chunkWide i)
 
@@ -272,78 +275,70 @@ module _ (o : Opened) (s : List ℕ) where
     unfolding groupScan
     group-of g = yields-t _ _ (chunk o s (g .first)) (λ v. chunks-from (g .exit) _ (g .first) v)
 
-    -- ---- rings
-    group-walk : (g : GroupRecord) → W (groupWalk o s p g)
-    unfolding groupWalk
-    group-walk g = either-way W (relevant (g .bbox) p) _ _ (either-way W (right (g .bbox) p) _ _ (walked _ _) (group-of g)) (walked _ _)
+    -- ---- groups by stripes
+    alone : (x : I32Point) (follows : Bool) (i : ℕ) → W (aloneAt o s p x follows i)
+    unfolding aloneAt
+    alone x follows i =
+        yields-t _ _ (chunk o s i) (λ v.
+        either-way W (relevant (v .bbox) p) _ _ (either-way W follows _ _ (go-t _ _ (pass i v) (λ n. walked _ _)) (last i v x)) (walked _ _))
 
+    numbered-q : (g : GroupRecord) (c : ℕ) → W (numbered o s p g c)
+    unfolding numbered
+    numbered-q g c = must-t 34 (ltb c (g .count)) _ refl (alone (g .exit) _ _)
+
+    module _ (numbers : List ℕ) where
+      entry-q : (i : ℕ) → Q (entryAt numbers i)
+      unfolding entryAt
+      entry-q i = need-t 44 (leb (groupNumbers * i + groupNumbers) (length numbers)) _ refl (given _)
+
+      stripe-q : (first stripe : ℕ) → Q (stripeAt numbers first stripe)
+      unfolding stripeAt
+      stripe-q first stripe = need-t 44 (leb (first + stripeNumbers * stripe + stripeNumbers) (length numbers)) _ refl (given _)
+
+      chunk-number : (at : ℕ) → Q (chunkNumberAt numbers at)
+      unfolding chunkNumberAt
+      chunk-number at = need-t 44 (leb (at + 1) (length numbers)) _ refl (given _)
+
+      numbered-from : (g : GroupRecord) (n at : ℕ) → W (numberedFrom o s p g numbers n at)
+      unfolding numberedFrom
+      numbered-from g zero at = walked _ _
+      numbered-from g (suc n) at = yields-t _ _ (chunk-number at) (λ c. go-t _ _ (numbered-q g c) (λ u. numbered-from g n (at + 1)))
+
+      stripe-walk : (g : GroupRecord) (e : Entry) → W (stripeWalk o s p g numbers e)
+      unfolding stripeWalk
+      stripe-walk g e = must-t 34 (ltb 0 (e .striping .height)) _ refl (yields-t _ _ (stripe-q (e .first) _) (λ t. numbered-from g (t .count) (t .first)))
+
+      striped-scan : (i : ℕ) (g : GroupRecord) → W (stripedScan numbers o s p i g)
+      unfolding stripedScan
+      striped-scan i g = yields-t _ _ (entry-q i) (λ e. either-way W (eqb (e .striping .k) 0) _ _ (group-of g) (stripe-walk g e))
+
+    scans : (w : Way) (i : ℕ) (g : GroupRecord) → W (groupScanBy w o s p i g)
+    unfolding groupScanBy
+    scans plain i g = group-of g
+    scans (striped numbers) i g = striped-scan numbers i g
+
+    -- ---- rings: what no way changes
     joint : (a b : I32Point) → W (jointOf p a b)
     unfolding jointOf
     joint a b = either-way W (S.samePoint a b) _ _ (walked _ _) (past-t (rayOf a b p) tt)
-
-    turn : (a : I32Point) (t : Turned) → W (turnWalk o s p a t)
-    unfolding turnWalk
-    turn a t = go-t _ _ (joint a (t .entry)) (λ u. group-walk (t .group))
-
-    turned : (i : ℕ) → Q (turnedAt o s i)
-    unfolding turnedAt
-    turned i = then-t _ _ (op o s i) (λ w. then-t _ _ (group o s _) (λ g. given _))
-
-    op-step : (i : ℕ) (z : Round) → W (opStep o s p i z)
-    unfolding opStep
-    op-step i z = yields-t _ _ (turned i) (λ t. go-t _ _ (turn (z .exit) t) (λ u. walked _ _))
-
-    ops : (n i : ℕ) (z : Round) → W (opsFrom o s p n i z)
-    unfolding opsFrom
-    ops zero i z = walked _ _
-    ops (suc n) i z = go-t _ _ (op-step i z) (λ w. ops n (i + 1) w)
 
     ring-end : (r : RingRecord) (start : I32Point) (z : Round) → W (ringEnd p r start z)
     unfolding ringEnd
     ring-end r start z = must-t 36 (countRule r (z .sum)) _ refl (joint (z .exit) start)
 
-    ring-rest : (r : RingRecord) (t : Turned) → W (ringRest o s p r t)
-    unfolding ringRest
-    ring-rest r t = go-t _ _ (ops _ _ _) (λ z. ring-end r (t .entry) z)
+  turned : (i : ℕ) → Q (turnedAt o s i)
+  unfolding turnedAt
+  turned i = then-t _ _ (op o s i) (λ w. then-t _ _ (group o s _) (λ g. given _))
 
-    ring-of : (r : RingRecord) → W (ringOf o s p r)
-    unfolding ringOf
-    ring-of r = yields-t _ _ (turned (r .first)) (λ t. go-t _ _ (group-walk (t .group)) (λ u. ring-rest r t))
+  -- ---- zones and lookups: the same
+  sought : (f : ℕ → Answer Bool) (found other : Bool) → ((i : ℕ) → Q (f i)) → (n i : ℕ) → Q (firstSo f found other n i)
+  unfolding firstSo
+  sought f found other h zero i = given _
+  sought f found other h (suc n) i = then-t _ _ (h i) (λ b. either-way Q b _ _ (given _) (sought f found other h n (i + 1)))
 
-    ring-contains : (edge : Bool) (i : ℕ) → Q (ringContains o s p edge i)
-    unfolding ringContains
-    ring-contains edge i = then-t _ _ (ring o s i) (λ r. either-way Q (contains (r .bbox) p) _ _ (verdict-t edge _ (ring-of r)) (given _))
-
-    -- ---- zones
-    sought : (f : ℕ → Answer Bool) (found other : Bool) → ((i : ℕ) → Q (f i)) → (n i : ℕ) → Q (firstSo f found other n i)
-    unfolding firstSo
-    sought f found other h zero i = given _
-    sought f found other h (suc n) i = then-t _ _ (h i) (λ b. either-way Q b _ _ (given _) (sought f found other h n (i + 1)))
-
-    poly : (i : ℕ) → Q (polyOf o s p i)
-    unfolding polyOf
-    poly i =
-        then-t _ _ (list s (o .polys) _ i) (λ q.
-        either-way Q (contains (q .bbox) p) _ _
-        (then-t _ _ (ring-contains true (q .first)) (λ b. either-way Q b _ _ (sought (ringContains o s p false) false true (ring-contains false) (q .count - 1) (q .first + 1)) (given _)))
-        (given _))
-
-    zone-q : (i : ℕ) → Q (zoneOf o s p i)
-    unfolding zoneOf
-    zone-q i = then-t _ _ (list s (o .zones) _ i) (λ z. either-way Q (contains (z .bbox) p) _ _ (sought (polyOf o s p) true false poly (z .count) (z .first)) (given _))
-
-  pub contains-q : (zone : ℕ) (q : I32Point) → Q (containsAt o s zone q)
-  unfolding containsAt
-  contains-q zone q = need-t 45 (ltb zone (o .zones .count)) _ refl (either-way Q (inDomain q) _ _ (zone-q (pointOf q) zone) (given _))
-
-  -- ---- lookups
   candidate-of : (grid : Bool) (place : ℕ) → Q (candidateOf o s grid place)
   unfolding candidateOf
   candidate-of grid place = either-way Q grid _ _ (candidate-q o s place) (given _)
-
-  hit : (p : Point) (grid : Bool) (place : ℕ) → Q (hitAt o s p grid place)
-  unfolding hitAt
-  hit p grid place = then-t _ _ (candidate-of grid place) (λ zone. then-t _ _ (zone-q p zone) (λ b. given _))
 
   or-else : (z : Sought) (x : Answer Sought) → Q x → Q (orElse z x)
   or-else nowhere x h = h
@@ -354,30 +349,10 @@ module _ (o : Opened) (s : List ℕ) where
   first-hit f h zero i = given _
   first-hit f h (suc n) i = then-t _ _ (h i) (λ z. or-else z _ (first-hit f h n (i + 1)))
 
-  among : (lng lat : Float) (c : Chosen) → Q (lookupAmong o s lng lat c)
-  unfolding lookupAmong
-  among lng lat none = given _
-  among lng lat (all n) = first-hit _ (hit (scaled lng lat) false) n 0
-  among lng lat (listed n place) = either-way Q (unlooked o n lng lat) _ _ (then-t _ _ (candidate-q o s place) (λ zone. given _)) (first-hit _ (hit (scaled lng lat) true) n place)
-
-  pub lookup-q : (lng lat : Float) → Q (lookupOf o s lng lat)
-  unfolding lookupOf
-  lookup-q lng lat = then-t _ _ (candidates-q o s lng lat) (among lng lat)
-
   all-hits : (f : ℕ → Answer Sought) → ((i : ℕ) → Q (f i)) → (n i : ℕ) → Q (allHits f n i)
   unfolding allHits
   all-hits f h zero i = given _
   all-hits f h (suc n) i = then-t _ _ (h i) (λ z. then-t _ _ (all-hits f h n (i + 1)) (λ l. given _))
-
-  hits-among : (p : Point) (c : Chosen) → Q (hitsAmong o s p c)
-  unfolding hitsAmong
-  hits-among p none = given _
-  hits-among p (all n) = all-hits _ (hit p false) n 0
-  hits-among p (listed n place) = all-hits _ (hit p true) n place
-
-  hits : (lng lat : Float) → Q (hitsOf o s lng lat)
-  unfolding hitsOf
-  hits lng lat = then-t _ _ (candidates-q o s lng lat) (hits-among _)
 
   names-read : (l : List ℕ) → Tabled 46 (namesRead o s l)
   unfolding namesRead
@@ -388,6 +363,90 @@ module _ (o : Opened) (s : List ℕ) where
   unfolding listFor placed
   list-for places l = before-t _ _ (names-read l) (need-t 46 (atMost (length l) places) _ refl (given _))
 
+  -- ---- by either way
+  module _ (w : Way) where
+    module _ (p : Point) where
+      group-walk : (i : ℕ) (g : GroupRecord) → W (groupWalk w o s p i g)
+      unfolding groupWalk
+      group-walk i g = either-way W (relevant (g .bbox) p) _ _ (either-way W (right (g .bbox) p) _ _ (walked _ _) (scans p w i g)) (walked _ _)
+
+      turn : (a : I32Point) (t : Turned) → W (turnWalk w o s p a t)
+      unfolding turnWalk
+      turn a t = go-t _ _ (joint p a (t .entry)) (λ u. group-walk (t .index) (t .group))
+
+      op-step : (i : ℕ) (z : Round) → W (opStep w o s p i z)
+      unfolding opStep
+      op-step i z = yields-t _ _ (turned i) (λ t. go-t _ _ (turn (z .exit) t) (λ u. walked _ _))
+
+      ops : (n i : ℕ) (z : Round) → W (opsFrom w o s p n i z)
+      unfolding opsFrom
+      ops zero i z = walked _ _
+      ops (suc n) i z = go-t _ _ (op-step i z) (λ y. ops n (i + 1) y)
+
+      ring-rest : (r : RingRecord) (t : Turned) → W (ringRest w o s p r t)
+      unfolding ringRest
+      ring-rest r t = go-t _ _ (ops _ _ _) (λ z. ring-end p r (t .entry) z)
+
+      ring-of : (r : RingRecord) → W (ringOf w o s p r)
+      unfolding ringOf
+      ring-of r = yields-t _ _ (turned (r .first)) (λ t. go-t _ _ (group-walk (t .index) (t .group)) (λ u. ring-rest r t))
+
+      ring-contains : (edge : Bool) (i : ℕ) → Q (ringContains w o s p edge i)
+      unfolding ringContains
+      ring-contains edge i = then-t _ _ (ring o s i) (λ r. either-way Q (contains (r .bbox) p) _ _ (verdict-t edge _ (ring-of r)) (given _))
+
+      -- ---- zones
+      poly : (i : ℕ) → Q (polyOf w o s p i)
+      unfolding polyOf
+      poly i =
+          then-t _ _ (list s (o .polys) _ i) (λ q.
+          either-way Q (contains (q .bbox) p) _ _
+          (then-t _ _ (ring-contains true (q .first)) (λ b. either-way Q b _ _ (sought (ringContains w o s p false) false true (ring-contains false) (q .count - 1) (q .first + 1)) (given _)))
+          (given _))
+
+      zone-q : (i : ℕ) → Q (zoneBy w o s p i)
+      unfolding zoneBy
+      zone-q i = then-t _ _ (list s (o .zones) _ i) (λ z. either-way Q (contains (z .bbox) p) _ _ (sought (polyOf w o s p) true false poly (z .count) (z .first)) (given _))
+
+    pub contains-by-q : (zone : ℕ) (q : I32Point) → Q (containsBy w o s zone q)
+    unfolding containsBy
+    contains-by-q zone q = need-t 45 (ltb zone (o .zones .count)) _ refl (either-way Q (inDomain q) _ _ (zone-q (pointOf q) zone) (given _))
+
+    -- ---- lookups
+    hit : (p : Point) (grid : Bool) (place : ℕ) → Q (hitAt w o s p grid place)
+    unfolding hitAt
+    hit p grid place = then-t _ _ (candidate-of grid place) (λ zone. then-t _ _ (zone-q p zone) (λ b. given _))
+
+    among : (lng lat : Float) (c : Chosen) → Q (lookupAmong w o s lng lat c)
+    unfolding lookupAmong
+    among lng lat none = given _
+    among lng lat (all n) = first-hit _ (hit (scaled lng lat) false) n 0
+    among lng lat (listed n place) = either-way Q (unlooked o n lng lat) _ _ (then-t _ _ (candidate-q o s place) (λ zone. given _)) (first-hit _ (hit (scaled lng lat) true) n place)
+
+    pub lookup-by-q : (lng lat : Float) → Q (lookupBy w o s lng lat)
+    unfolding lookupBy
+    lookup-by-q lng lat = then-t _ _ (candidates-q o s lng lat) (among lng lat)
+
+    hits-among : (p : Point) (c : Chosen) → Q (hitsAmong w o s p c)
+    unfolding hitsAmong
+    hits-among p none = given _
+    hits-among p (all n) = all-hits _ (hit p false) n 0
+    hits-among p (listed n place) = all-hits _ (hit p true) n place
+
+    hits : (lng lat : Float) → Q (hitsOf w o s lng lat)
+    unfolding hitsOf
+    hits lng lat = then-t _ _ (candidates-q o s lng lat) (hits-among _)
+
+    pub list-by-q : (lng lat : Float) (places : ℕ) → Q (listBy w o s lng lat places)
+    unfolding listBy
+    list-by-q lng lat places = then-t _ _ (hits lng lat) (list-for places)
+
+  -- ---- by the plain one
+  pub contains-q : (zone : ℕ) (q : I32Point) → Q (containsAt o s zone q)
+  contains-q = contains-by-q plain
+
+  pub lookup-q : (lng lat : Float) → Q (lookupOf o s lng lat)
+  lookup-q = lookup-by-q plain
+
   pub list-q : (lng lat : Float) (places : ℕ) → Q (listOf o s lng lat places)
-  unfolding listOf
-  list-q lng lat places = then-t _ _ (hits lng lat) (list-for places)
+  list-q = list-by-q plain

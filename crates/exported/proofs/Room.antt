@@ -13,6 +13,7 @@ use Rattle.tzb_record.proofs.LayoutLaws.{into-none, into-room}
 use Rattle.tzb.specs.Opening.{openOf}
 use Rattle.tzb_c.specs.Opens.{openInto}
 use Rattle.tzb_c.proofs.OpensLaws.{open-into}
+use Rattle.exported.specs.Words.{lastNumber}
 use Rattle.exported.proofs.Tabled.{Tabled, given, then-t, higher, need-t}
 use Rattle.exported.proofs.Opening.{open-tabled}
 
@@ -24,6 +25,6 @@ module _ (file memory : List ℕ) (o : Opened) (e : ok o ≡ openOf file) where
   room-short h = into-none o memory h ∙ open-into file memory o e
 
 -- its refusals are opening's and 46
-pub into-tabled : (file memory : List ℕ) → Tabled 48 (openInto file memory)
+pub into-tabled : (file memory : List ℕ) → Tabled lastNumber (openInto file memory)
 unfolding openInto recordInto
-into-tabled file memory = then-t _ _ (higher 34 48 (omega arith) _ (open-tabled file)) (λ o. need-t 46 (atMost recordWide (length memory)) _ refl (given _))
+into-tabled file memory = then-t _ _ (higher 34 lastNumber (omega arith) _ (open-tabled file)) (λ o. need-t 46 (atMost recordWide (length memory)) _ refl (given _))

@@ -16,6 +16,11 @@ use Rattle.tzb_c.proofs.tzb_contains.Reads as contains
 use Rattle.tzb_c.proofs.tzb_lookup.Reads as lookup
 use Rattle.tzb_c.proofs.tzb_ask.Reads as ask
 use Rattle.tzb_c.proofs.tzb_ask_all.Reads as ask-all
+use Rattle.tzb_c.proofs.tzb_stripes_need.Reads as stripes-need
+use Rattle.tzb_c.proofs.tzb_stripes.Reads as stripes
+use Rattle.tzb_c.proofs.tzb_contains_striped.Reads as contains-striped
+use Rattle.tzb_c.proofs.tzb_ask_striped.Reads as ask-striped
+use Rattle.tzb_c.proofs.tzb_ask_all_striped.Reads as ask-all-striped
 use Rattle.tzb_c.proofs.tzb_decode.Reads as decode
 use Rattle.tzb_c.proofs.tzb_name.Reads as name
 use Rattle.tzb_c.proofs.tzb_name_start.Reads as name-start
@@ -71,6 +76,36 @@ Tzb-ask-all held file lng lat places r after =
     Call (List ℕ × List ℕ × Float × Float × List ℕ × ℤ × List ℕ) ask-all.Learnt
     (λ κ a r e. (a .0 .now, a .1 .0 .now, a .1 .1 .0, a .1 .1 .1 .0, a .1 .1 .1 .1 .0 .now, r, e .1 .1 .1 .1 .0 .now))
     (held, file, lng, lat, places, r, after)
+
+-- tzb_stripes_need(held, file) answers r
+abbrev pub Tzb-stripes-need : (held file : List ℕ) (r : ℤ) → Type 0
+Tzb-stripes-need held file r = Call (List ℕ × List ℕ × ℤ) stripes-need.Learnt (λ κ a r e. (a .0 .now, a .1 .0 .now, r)) (held, file, r)
+
+-- tzb_stripes(held, file, lent) answers r, and leaves the lent numbers so
+abbrev pub Tzb-stripes : (held file lent : List ℕ) (r : ℤ) (after : List ℕ) → Type 0
+Tzb-stripes held file lent r after =
+    Call (List ℕ × List ℕ × List ℕ × ℤ × List ℕ) stripes.Learnt (λ κ a r e. (a .0 .now, a .1 .0 .now, a .1 .1 .0 .now, r, e .1 .1 .0 .now)) (held, file, lent, r, after)
+
+-- tzb_contains_striped(held, numbers, file, zone, x, y) answers r
+abbrev pub Tzb-contains-striped : (held numbers file : List ℕ) (zone : ℕ) (x y : ℤ) (r : ℤ) → Type 0
+Tzb-contains-striped held numbers file zone x y r =
+    Call (List ℕ × List ℕ × List ℕ × ℕ × ℤ × ℤ × ℤ) contains-striped.Learnt
+    (λ κ a r e. (a .0 .now, a .1 .0 .now, a .1 .1 .0 .now, a .1 .1 .1 .0, a .1 .1 .1 .1 .0, a .1 .1 .1 .1 .1 .0, r))
+    (held, numbers, file, zone, x, y, r)
+
+-- tzb_ask_striped(held, numbers, file, lng, lat) answers r
+abbrev pub Tzb-ask-striped : (held numbers file : List ℕ) (lng lat : Float) (r : ℤ) → Type 0
+Tzb-ask-striped held numbers file lng lat r =
+    Call (List ℕ × List ℕ × List ℕ × Float × Float × ℤ) ask-striped.Learnt
+    (λ κ a r e. (a .0 .now, a .1 .0 .now, a .1 .1 .0 .now, a .1 .1 .1 .0, a .1 .1 .1 .1 .0, r))
+    (held, numbers, file, lng, lat, r)
+
+-- tzb_ask_all_striped(held, numbers, file, lng, lat, places) answers r, and leaves the places so
+abbrev pub Tzb-ask-all-striped : (held numbers file : List ℕ) (lng lat : Float) (places : List ℕ) (r : ℤ) (after : List ℕ) → Type 0
+Tzb-ask-all-striped held numbers file lng lat places r after =
+    Call (List ℕ × List ℕ × List ℕ × Float × Float × List ℕ × ℤ × List ℕ) ask-all-striped.Learnt
+    (λ κ a r e. (a .0 .now, a .1 .0 .now, a .1 .1 .0 .now, a .1 .1 .1 .0, a .1 .1 .1 .1 .0, a .1 .1 .1 .1 .1 .0 .now, r, e .1 .1 .1 .1 .1 .0 .now))
+    (held, numbers, file, lng, lat, places, r, after)
 
 -- tzb_decode(held, file, chunk, numbers) answers r, and leaves the numbers so
 abbrev pub Tzb-decode : (held file : List ℕ) (chunk : ℕ) (numbers : List ℤ) (r : ℤ) (after : List ℤ) → Type 0

@@ -3,7 +3,7 @@
 --
 -- `Demand1 file`, below, is this sentence of a file, for each export that answers a question; `demand-1`, in proofs/Demand1, proves it of every file. No export asks anything of its caller: `held`, `memory`, zone numbers and floats are any. Where each word is defined:
 --   a call and its answer     `Tzb-open`, .., specs/Calls: what the export's contract allows
---   a numbered refusal        `Refuses`, specs/Words: -1000 - n with n from 1 to 48
+--   a numbered refusal        `Refuses`, specs/Words: -1000 - n with n from 1 to 49
 --   none                      -1
 -- Assumes nothing.
 use Prim.Native.Nat.{ℕ, _≤_, _<_}
@@ -12,7 +12,7 @@ use mathlib.Core.List.{List}
 use mathlib.Core.Logic.{_⊎_}
 use lib.IntN.{ℤ, pos}
 use lib.Ieee.{Float}
-use Rattle.exported.specs.Calls.{Tzb-open, Tzb-full-check, Tzb-full-check-rule, Tzb-zone-count, Tzb-contains, Tzb-lookup, Tzb-ask, Tzb-ask-all, Tzb-decode, Tzb-name, Tzb-name-start, Tzb-name-end, Tzb-choice, Tzb-candidate, Tzb-map, Tzb-map-length}
+use Rattle.exported.specs.Calls.{Tzb-open, Tzb-full-check, Tzb-full-check-rule, Tzb-zone-count, Tzb-contains, Tzb-lookup, Tzb-ask, Tzb-ask-all, Tzb-decode, Tzb-name, Tzb-name-start, Tzb-name-end, Tzb-choice, Tzb-candidate, Tzb-map, Tzb-map-length, Tzb-stripes-need, Tzb-stripes, Tzb-contains-striped, Tzb-ask-striped, Tzb-ask-all-striped}
 use Rattle.exported.specs.Words.{none, refusing, Refuses}
 
 -- a zone that is below a bound, none, or a refusal
@@ -60,3 +60,11 @@ pub record Demand1 (file : List ℕ) : Type 0 where
   -- a zone as a map, into lent memory; and how long it is, which no room can bar: never 46
   pub map : (zone : ℕ) (memory : List ℕ) (r : ℤ) (after : List ℕ) → Tzb-map file zone memory r after → NumberOrAsItWas r memory after
   pub map-length : (zone : ℕ) (r : ℤ) → Tzb-map-length file zone r → NumberOrRefusal r × (r ≡ refusing 46 → ⊥)
+  -- the stripes, into lent numbers; and how many they are, which no room can bar: never 46
+  pub stripes : (held lent : List ℕ) (r : ℤ) (after : List ℕ) → Tzb-stripes held file lent r after → NumberOrAsItWas r lent after
+  pub stripes-need : (held : List ℕ) (r : ℤ) → Tzb-stripes-need held file r → NumberOrRefusal r × (r ≡ refusing 46 → ⊥)
+  -- the questions by stripes, of any numbers
+  pub contains-striped : (held numbers : List ℕ) (zone : ℕ) (x y r : ℤ) → Tzb-contains-striped held numbers file zone x y r → ((r ≡ pos 1) ⊎ (r ≡ pos 0)) ⊎ Refuses r
+  pub ask-striped : (held numbers : List ℕ) (zones : ℕ) → Tzb-zone-count held (pos zones) → (lng lat : Float) (r : ℤ) → Tzb-ask-striped held numbers file lng lat r → ZoneNoneOrRefusal zones r
+  pub ask-striped-barred : (held numbers : List ℕ) (q : ℤ) → Tzb-zone-count held q → Refuses q → (lng lat : Float) (r : ℤ) → Tzb-ask-striped held numbers file lng lat r → Refuses r
+  pub ask-all-striped : (held numbers : List ℕ) (lng lat : Float) (places : List ℕ) (r : ℤ) (after : List ℕ) → Tzb-ask-all-striped held numbers file lng lat places r after → NumberOrAsItWas r places after

@@ -5,3 +5,4 @@ pub mod Demand1
 pub mod Demand3
 pub mod Answers
 pub mod Maps
+pub mod Stripes

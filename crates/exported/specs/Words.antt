@@ -18,11 +18,15 @@ none = negsuc 0
 abbrev pub refusing : ℕ → ℤ
 refusing n = negsuc (999 + n)
 
--- an answer that is a numbered refusal: document 01's table goes from 1 to 47, and document 02's request 2026-01 adds 48
+-- the greatest number of a refusal: document 01's table goes from 1 to 47, and document 02's requests 2026-01 and 2026-02 add 48 and 49
+abbrev pub lastNumber : ℕ
+lastNumber = 49
+
+-- an answer that is a numbered refusal
 pub record Refuses (r : ℤ) : Type 0 where
   pub number : ℕ
   pub least : 1 ≤ number
-  pub greatest : number ≤ 48
+  pub greatest : number ≤ lastNumber
   pub tells : r ≡ refusing number
 
 -- each number of the list is a byte, as each of a slice of u8 is: the type of the lent file says so

@@ -16,6 +16,7 @@ use Rattle.fields.proofs.i16_le.Reads as i16-le-reads
 use Rattle.fields.proofs.i16_at.Reads as i16-at-reads
 use Rattle.fields.proofs.i32_le.Reads as i32-le-reads
 use Rattle.fields.proofs.i32_at.Reads as i32-at-reads
+use Rattle.fields.proofs.signed32.Reads as signed32-reads
 use Rattle.fields.specs.Loads.{told16, told32, told64, toldI16, toldI32}
 use Rattle.fields.specs.declared.Loaded16.{Loaded16}
 use Rattle.fields.specs.declared.Loaded16.the-variants as L16
@@ -96,6 +97,9 @@ u64-at κ a r r' e e' p q = p ∙ sym q
 
 pub i16-at : Determined i16-at-reads.Learnt
 i16-at κ a r r' e e' p q = p ∙ sym q
+
+pub signed32 : Determined signed32-reads.Learnt
+signed32 κ a r r' e e' p q = p ∙ sym q
 
 pub i32-at : Determined i32-at-reads.Learnt
 i32-at κ a r r' e e' p q = p ∙ sym q

@@ -67,7 +67,8 @@ pub fn i16_at(s: &[u8], at: usize) -> i16
     signed16(u16_at(s, at))
 }
 
-fn signed32(x: u32) -> i32
+// A number of 32 bits as the signed one that it keeps.
+pub fn signed32(x: u32) -> i32
     ensures { λ r. ⌜ r ≡ toZ w32 x ⌝ }
 {
     if x < 0x8000_0000 {

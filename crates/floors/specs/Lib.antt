@@ -1,2 +1,3 @@
 -- The floor of a float.
 pub mod Floor
+pub mod Steps

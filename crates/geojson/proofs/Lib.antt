@@ -1,4 +1,3 @@
--- That every map is read back from its text, and how long texts are; laws of `over`.
+-- That every map is read back from its text, and how long texts are.
 pub mod Back
 pub mod Lengths
-pub mod OverLaws

@@ -3,5 +3,4 @@ pub mod Ascii
 pub mod Decimals
 pub mod Text
 pub mod Reading
-pub mod Over
 pub mod Marked

@@ -7,7 +7,7 @@ ghost use lib.ListN.{length};
 ghost use Rattle.plane.specs.Places.{point};
 ghost use Rattle.geojson.specs.Decimals.{lastDigit, digits, places, hundredThousandths, decimal};
 ghost use Rattle.geojson.specs.Text.{positionText, headText, tailText};
-ghost use Rattle.geojson.specs.Over.{over};
+ghost use Rattle.answer.specs.Over.{over};
 
 // One byte.
 pub fn put(out: &mut [u8], at: usize, b: u8) -> usize

@@ -21,7 +21,7 @@ use Rattle.opened.specs.declared.Opened.{Opened}
 use Rattle.reader_opened.specs.Opened.{gridOf}
 use Rattle.reader_grid.specs.Word.{wordCount, wordOffset}
 use Rattle.reader_grid.specs.Grid.{cellCount, candidateCheck, cellCheck, gridCheck}
-use Rattle.reader_cells.specs.Floor.{floorOf}
+use Rattle.floors.specs.Floor.{floorOf}
 use Rattle.reader_cells.specs.Asked.{onEarth, inGrid, cellOf, cellCandidates, candidatesOf, candidatePlace, candidateAt}
 use Rattle.reader_grid.proofs.Checking.{ranged}
 use Rattle.reader_cells.proofs.Asking.{zone-in, place-read, cell-outside, cell-read, off-earth, no-grid, by-grid}

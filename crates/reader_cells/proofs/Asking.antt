@@ -14,7 +14,7 @@ use Rattle.answer.proofs.CheckLaws.{lt-below, ge-below, eq-same, ne-same}
 use Rattle.opened.specs.declared.Grid.{Grid}
 use Rattle.opened.specs.declared.Opened.{Opened}
 use Rattle.reader_grid.specs.Word.{wordCount, wordOffset}
-use Rattle.reader_cells.specs.Floor.{floorOf}
+use Rattle.floors.specs.Floor.{floorOf}
 use Rattle.reader_cells.specs.Asked.{onEarth, inGrid, cellOf, read, cellCandidates, candidatesOf, candidatePlace, zoneBelow, candidateAt}
 use Rattle.replies.specs.Replies.{Chosen, none, all, listed}
 use Rattle.answer.proofs.AnswersLaws.{need-met, need-not, then-ok, then-no}

@@ -1,24 +1,23 @@
--- Whole numbers of a column, a row and a floor: they fit, and lie in the grid.
+-- Whole numbers of a column and a row: they fit, and lie in the grid.
 -- Assumes nothing.
-use Prim.Native.Nat.{ℕ, _+_, _-_, _≤_, _<_}
+use Prim.Native.Nat.{ℕ, _≤_, _<_}
 use native.Mathlib.Omega.{arith}
 use mathlib.Core.Path.{_≡_}
-use mathlib.Core.Bool.{true, false, false≢true}
+use mathlib.Core.Bool.{true, false≢true}
 use borrow.Author.Tests.{ltb-true}
 use lib.Dec.{T, ltb}
-use lib.IntN.{ℤ, pos, negsuc, natAbs, _+ℤ_, _-ℤ_}
+use lib.IntN.{ℤ, pos, negsuc, natAbs, _-ℤ_}
 use lib.Signed.{leZ, ltZ, nonNeg, natAbs-le}
 use mir.Syntax.{w16, w64}
 use mir.Val.{SFits, toZ, ofZ}
 use mir.ValLaws.{toZ-ofZ}
 use Rattle.basics.specs.Truth.{and-l, and-r}
-use Rattle.basics.specs.Signed.{sum-abs}
 use Rattle.opened.specs.declared.Grid.{Grid}
 use Rattle.reader_cells.specs.Asked.{inSpan, inGrid}
 use Rattle.reader_grid.proofs.Numbers.{minus-abs, near, wide-eq}
 
 -- a floor less the first, in 64 bits
-module _ (z first : ℤ) (k : natAbs z ≤ 181) (h : SFits w16 first) where
+module _ (z first : ℤ) (k : natAbs z ≤ 9_000_001) (h : SFits w16 first) where
   wide-step : toZ w64 (ofZ w64 (toZ w16 (ofZ w16 first))) ≡ first
   wide-step = wide-eq w64 first (omega arith) h
 
@@ -33,23 +32,6 @@ module _ (z first : ℤ) (k : natAbs z ≤ 181) (h : SFits w16 first) where
 
   pub step-is : toZ w64 (ofZ w64 (toZ w64 (ofZ w64 z) -ℤ toZ w64 (ofZ w64 (toZ w16 (ofZ w16 first))))) ≡ z -ℤ first
   step-is = rw (same-z, wide-step) (toZ-ofZ w64 (z -ℤ first) step-in)
-
--- at most one more or less, in 64 bits
-module _ (z : ℤ) (k : natAbs z ≤ 180) where
-  kept : toZ w64 (ofZ w64 z) ≡ z
-  kept = toZ-ofZ w64 z (near w64 z (omega arith))
-
-  pub moved-small : (d : ℤ) → natAbs d ≤ 1 → natAbs (z +ℤ d) ≤ 181
-  moved-small d h = omega (arith, sum-abs z d)
-
-  moved-in : (d : ℤ) → natAbs d ≤ 1 → SFits w64 (z +ℤ d)
-  moved-in d h = near w64 _ (omega (arith, moved-small d h))
-
-  pub moved-fits : (d : ℤ) → natAbs d ≤ 1 → SFits w64 (toZ w64 (ofZ w64 z) +ℤ d)
-  moved-fits d h = rw kept (moved-in d h)
-
-  pub moved-is : (d : ℤ) → natAbs d ≤ 1 → toZ w64 (ofZ w64 (toZ w64 (ofZ w64 z) +ℤ d)) ≡ z +ℤ d
-  moved-is d h = rw kept (toZ-ofZ w64 (z +ℤ d) (moved-in d h))
 
 -- a number not below 0
 pub not-negative : (z : ℤ) → leZ (pos 0) z ≡ true → T (nonNeg z)

@@ -15,7 +15,7 @@ use Rattle.opened.specs.declared.Grid.{Grid}
 use Rattle.opened.specs.declared.Opened.{Opened}
 use Rattle.reader_grid.specs.Word.{wordCount, wordOffset}
 use Rattle.reader_grid.specs.Grid.{cellCount}
-use Rattle.reader_cells.specs.Floor.{floorOf}
+use Rattle.floors.specs.Floor.{floorOf}
 use Rattle.replies.specs.Replies.{Chosen, none, all, listed}
 
 -- A longitude or latitude not finite or outside ±180, ±90

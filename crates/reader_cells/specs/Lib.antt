@@ -1,4 +1,2 @@
 -- What is asked of GRID.
 pub mod Asked
-pub mod Floor
-pub mod Steps

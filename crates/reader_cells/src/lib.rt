@@ -1,13 +1,13 @@
 // Which zones are candidates for a position, and which zone stands at a place of the candidate list: what is asked of GRID, for any record and any bytes.
 ghost use mathlib.Core.Path.{_≡_};
 ghost use mathlib.Core.Bool.{true};
-ghost use Prim.Native.Nat.{_+_, _*_, _≤_, _<_};
+ghost use Prim.Native.Nat.{_+_, _*_};
 ghost use lib.IntN.{pos, natAbs, _-ℤ_};
 ghost use lib.Signed.{leZ};
-ghost use Rattle.reader_cells.specs.Floor.{floorOf};
+ghost use Rattle.floors.specs.Floor.{floorOf};
 ghost use Rattle.reader_cells.specs.Asked.{onEarth, inSpan, inGrid, cellOf, cellCandidates, candidatesOf, candidatePlace, zoneBelow, candidateAt};
 ghost use Rattle.replies.specs.Replies.{choiceTold, candidateTold};
-ghost use Rattle.reader_cells.specs.Steps.{Small};
+ghost use Rattle.floors.specs.Steps.{Small};
 use fields::Loaded16;
 use fields::Loaded32;
 use opened::Grid;
@@ -21,25 +21,12 @@ fn on_earth(lng: f64, lat: f64) -> bool
     ((-180.0 <= lng) & (lng <= 180.0)) & ((-90.0 <= lat) & (lat <= 90.0))
 }
 
-// The greatest whole number not above x.
-fn floor(x: f64) -> i64
-    requires { ⌜ Small x ⌝ }
-    ensures { λ r. ⌜ (r ≡ floorOf x) × (natAbs r ≤ 181) ⌝ }
-{
-    let cut = std::num::truncating_f64_to_i64(x);
-    if std::num::nearest_i64_to_f64(cut) > x {
-        cut - 1
-    } else {
-        cut
-    }
-}
-
 // How many cells a coordinate lies past the first.
 fn steps(x: f64, first: i16) -> i64
     requires { ⌜ Small x ⌝ }
     ensures { λ r. ⌜ r ≡ floorOf x -ℤ first ⌝ }
 {
-    floor(x) - (first as i64)
+    floors::floor(x) - (first as i64)
 }
 
 fn in_span(z: i64, count: u16) -> bool

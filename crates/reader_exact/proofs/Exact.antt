@@ -13,7 +13,7 @@ use Rattle.shapes.specs.Shapes.{zoneIn}
 use Rattle.shapes.specs.Layout.{Named, Covered, Domain, zoneAt}
 use Rattle.shapes.proofs.File.{float-file-exact, file-elsewhere}
 use Rattle.opened.specs.declared.Opened.{Opened}
-use Rattle.reader_zones.specs.Zones.{zoneOf, containsAt}
+use Rattle.reader_zones.specs.Zones.{zoneOf, containsBy, containsAt}
 use Rattle.reader_exact.specs.Directories.{directories}
 use Rattle.reader_exact.specs.Sound.{Sound}
 use Rattle.reader_exact.proofs.Given.{zone-ruled, poly-ruled, ring-ruled, op-named, group-ruled, entry-in, exit-in}
@@ -62,7 +62,7 @@ module _ (o : Opened) (s : List ℕ) (k : Sound o s) where
 
     -- and the question of scanners, at any point
     pub contains-exact : containsAt o s i q ≡ ok (zoneIn (seg q) (zoneAt (directories o s) i))
-    unfolding containsAt
+    unfolding containsBy
     contains-exact = rw (lt-ltb i (o .zones .count) h) (either (inDomain q) refl)
       where
         either : (b : Bool) → inDomain q ≡ b → cond b (zoneOf o s (pointOf q) i) (ok false) ≡ ok (zoneIn (seg q) (zoneAt (directories o s) i))

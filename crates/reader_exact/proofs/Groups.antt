@@ -19,6 +19,8 @@ use Rattle.shapes.specs.Walk.{floatTests, chunkWalk, chunksWalk}
 use Rattle.shapes.specs.Layout as Layout
 use Rattle.opened.specs.declared.Opened.{Opened}
 use Rattle.reader_groups.specs.Groups.{passAt, chunksFrom, groupScan}
+use Rattle.reader_ways.specs.Ways.{plain}
+use Rattle.reader_ways.proofs.WaysLaws.{by-plain}
 use Rattle.reader_rings.specs.Rings.{groupWalk}
 use Rattle.reader_exact.specs.Directories.{groupRecord, chunkShape, directories}
 use Rattle.reader_exact.specs.Sound.{Sound}
@@ -62,11 +64,11 @@ module _ (o : Opened) (s : List ℕ) (p : Point) where
           let h = held (g .first) (omega (arith, r .names .some, r .names .fits)) in
           rw (← h .there) (chunks-walk (g .exit) (g .count - 1) (g .first) (omega (arith, r .names .some, r .names .fits)) h)
 
-      pub group-walk : groupWalk o s p (groupRecord o s i) ≡ past (Shapes.groupWalk (floatTests p) (Layout.groupAt (directories o s) i)) tt
+      pub group-walk : groupWalk plain o s p i (groupRecord o s i) ≡ past (Shapes.groupWalk (floatTests p) (Layout.groupAt (directories o s) i)) tt
       unfolding groupWalk Shapes.groupWalk parityOf directories Layout.groupAt
       group-walk = pick (relevant (groupRecord o s i .bbox) p) (right (groupRecord o s i .bbox) p) refl refl
         where
-          pick : (a b : Bool) → relevant (groupRecord o s i .bbox) p ≡ a → right (groupRecord o s i .bbox) p ≡ b → groupWalk o s p (groupRecord o s i) ≡ past (Shapes.groupWalk (floatTests p) (Layout.groupAt (directories o s) i)) tt
+          pick : (a b : Bool) → relevant (groupRecord o s i .bbox) p ≡ a → right (groupRecord o s i .bbox) p ≡ b → groupWalk plain o s p i (groupRecord o s i) ≡ past (Shapes.groupWalk (floatTests p) (Layout.groupAt (directories o s) i)) tt
           pick false b e f = rw e
           pick true true e f = rw (e, f)
-          pick true false e f = rw (e, f) group-of
+          pick true false e f = rw (e, f, by-plain o s p i (groupRecord o s i)) group-of

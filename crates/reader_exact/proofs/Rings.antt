@@ -23,8 +23,9 @@ use Rattle.shapes.specs.Layout as Layout
 use Rattle.opened.specs.declared.Opened.{Opened}
 use Rattle.reader_records.specs.declared.GroupRecord.{GroupRecord}
 use Rattle.reader_records.specs.declared.RingRecord.{RingRecord}
-use Rattle.reader_records.specs.Records.{turnsRound, countRule}
+use Rattle.reader_records.specs.Records.{groupIndex, turnsRound, countRule}
 use Rattle.reader_groups.specs.Groups.{One}
+use Rattle.reader_ways.specs.Ways.{plain}
 use Rattle.reader_rings.specs.declared.Turned.{Turned}
 use Rattle.reader_rings.specs.declared.Round.{Round}
 use Rattle.reader_rings.specs.Rings.{turnOf, turnedAt, jointOf, groupWalk, turnWalk, opStep, opsFrom, ringEnd, ringRest, ringOf, ringContains}
@@ -39,11 +40,11 @@ use Rattle.reader_rings.proofs.RingsLaws.{turned-is, end-is}
 use Rattle.plane.specs.Segment.{samePoint}
 
 -- ---- a group as an op has it
-turn-is : (w : ℕ) (g : GroupRecord) → record { entry = cond (turnsRound w) (g .exit) (g .entry); exit = cond (turnsRound w) (g .entry) (g .exit); group = g } ≡ turnOf w g
+turn-is : (w : ℕ) (g : GroupRecord) → record { entry = cond (turnsRound w) (g .exit) (g .entry); exit = cond (turnsRound w) (g .entry) (g .exit); index = groupIndex w; group = g } ≡ turnOf w g
 unfolding turnOf
 turn-is w g = either (turnsRound w)
   where
-    either : (b : Bool) → _≡_ {A = Turned} (record { entry = cond b (g .exit) (g .entry); exit = cond b (g .entry) (g .exit); group = g }) (cond b (record { entry = g .exit; exit = g .entry; group = g }) (record { entry = g .entry; exit = g .exit; group = g }))
+    either : (b : Bool) → _≡_ {A = Turned} (record { entry = cond b (g .exit) (g .entry); exit = cond b (g .entry) (g .exit); index = groupIndex w; group = g }) (cond b (record { entry = g .exit; exit = g .entry; index = groupIndex w; group = g }) (record { entry = g .entry; exit = g .exit; index = groupIndex w; group = g }))
     either true = refl
     either false = refl
 
@@ -68,7 +69,7 @@ module _ (o : Opened) (s : List ℕ) (k : Sound o s) (p : Point) where
   group i = groupRecord o s (opGroup o s i)
 
   abbrev turnedLeg : ℕ → Turned
-  turnedLeg i = record { entry = leg i .from; exit = leg i .to; group = group i }
+  turnedLeg i = record { entry = leg i .from; exit = leg i .to; index = opGroup o s i; group = group i }
 
   -- ---- one op
   module _ (i : ℕ) (h : i < o .ops .count) where
@@ -76,15 +77,15 @@ module _ (o : Opened) (s : List ℕ) (k : Sound o s) (p : Point) where
     unfolding legWalk legAt directories Layout.groupAt
     turned-given = turned-is o s i (opWord o s i) (op-is o s k i h) (group i) (group-is o s k (opGroup o s i) (op-named o s k i h)) (turnedLeg i) (turn-is (opWord o s i) (group i))
 
-    leg-tally : groupWalk o s p (group i) ≡ past (leg i .tally) tt
+    leg-tally : groupWalk plain o s p (opGroup o s i) (group i) ≡ past (leg i .tally) tt
     unfolding legWalk legAt directories
     leg-tally = group-walk o s p k (opGroup o s i) (op-named o s k i h)
 
-    turn-walk : (a : I32Point) → turnWalk o s p a (turnedLeg i) ≡ past (link seg a (leg i .from) ⊕ leg i .tally) tt
+    turn-walk : (a : I32Point) → turnWalk plain o s p a (turnedLeg i) ≡ past (link seg a (leg i .from) ⊕ leg i .tally) tt
     unfolding turnWalk
-    turn-walk a = rw (joint-link p a (leg i .from)) (past-go (link seg a (leg i .from)) tt (λ u. groupWalk o s p (group i)) (leg i .tally) tt leg-tally)
+    turn-walk a = rw (joint-link p a (leg i .from)) (past-go (link seg a (leg i .from)) tt (λ u. groupWalk plain o s p (opGroup o s i) (group i)) (leg i .tally) tt leg-tally)
 
-    step-walk : (z : Round) → opStep o s p i z ≡ past (link seg (z .exit) (leg i .from) ⊕ leg i .tally) (record { exit = leg i .to; sum = z .sum + opPoints o s i })
+    step-walk : (z : Round) → opStep plain o s p i z ≡ past (link seg (z .exit) (leg i .from) ⊕ leg i .tally) (record { exit = leg i .to; sum = z .sum + opPoints o s i })
     unfolding opStep
     step-walk z = rw (← turned-given, turn-walk (z .exit)) (past-done (link seg (z .exit) (leg i .from) ⊕ leg i .tally) tt (record { exit = leg i .to; sum = z .sum + opPoints o s i }))
 
@@ -93,7 +94,7 @@ module _ (o : Opened) (s : List ℕ) (k : Sound o s) (p : Point) where
   end-walk r start z e = sym (end-is p r start z e) ∙ joint-link p (z .exit) start
 
   ops-walk : (r : RingRecord) (start : I32Point) (n i : ℕ) → i + n ≤ o .ops .count → (z : Round) → countRule r (z .sum + total (opPoints o s) n i) ≡ true
-      → (opsFrom o s p n i z go λ w. ringEnd p r start w) ≡ past (onward seg start (z .exit) (map (legWalk (floatTests p)) (run (legAt (directories o s)) n i))) tt
+      → (opsFrom plain o s p n i z go λ w. ringEnd p r start w) ≡ past (onward seg start (z .exit) (map (legWalk (floatTests p)) (run (legAt (directories o s)) n i))) tt
   unfolding opsFrom total run
   ops-walk r start zero i h z e =
       let none-left : z .sum ≡ z .sum + 0 = omega arith in
@@ -102,9 +103,9 @@ module _ (o : Opened) (s : List ℕ) (k : Sound o s) (p : Point) where
       let one : z .sum + opPoints o s i + total (opPoints o s) n (i + 1) ≡ z .sum + (opPoints o s i + total (opPoints o s) n (i + 1)) = omega arith in
       let later = onward seg start (leg i .to) (map (legWalk (floatTests p)) (run (legAt (directories o s)) n (i + 1))) in
       let next : Round = record { exit = leg i .to; sum = z .sum + opPoints o s i } in
-      go-assoc (opStep o s p i z) (λ w. opsFrom o s p n (i + 1) w) (λ w. ringEnd p r start w)
+      go-assoc (opStep plain o s p i z) (λ w. opsFrom plain o s p n (i + 1) w) (λ w. ringEnd p r start w)
       ∙ rw (step-walk i (omega arith) z)
-      (past-go (link seg (z .exit) (leg i .from) ⊕ leg i .tally) next (λ w. opsFrom o s p n (i + 1) w go λ y. ringEnd p r start y) later tt (ops-walk r start n (i + 1) (omega arith) next (ap (countRule r) one ∙ e))
+      (past-go (link seg (z .exit) (leg i .from) ⊕ leg i .tally) next (λ w. opsFrom plain o s p n (i + 1) w go λ y. ringEnd p r start y) later tt (ops-walk r start n (i + 1) (omega arith) next (ap (countRule r) one ∙ e))
       ∙ ap (λ (u : Sight). past u tt) (⊕-assoc (link seg (z .exit) (leg i .from)) (leg i .tally) later))
 
   -- ---- a ring
@@ -124,7 +125,7 @@ module _ (o : Opened) (s : List ℕ) (k : Sound o s) (p : Point) where
         let e : r .count ≡ suc (r .count - 1) = omega (arith, ring-ruled o s k i h .names .some) in
         ap (λ (n : ℕ). total (opPoints o s) n (r .first)) e
 
-    ring-of : ringOf o s p (ringRecord o s i) ≡ past (around seg (map (legWalk (floatTests p)) (run (legAt (directories o s)) (r .count) (r .first)))) tt
+    ring-of : ringOf plain o s p (ringRecord o s i) ≡ past (around seg (map (legWalk (floatTests p)) (run (legAt (directories o s)) (r .count) (r .first)))) tt
     unfolding ringOf ringRest
     ring-of =
         let n = ring-ruled o s k i h .names in
@@ -132,16 +133,16 @@ module _ (o : Opened) (s : List ℕ) (k : Sound o s) (p : Point) where
         let after = onward seg (leg (r .first) .from) (leg (r .first) .to) (map (legWalk (floatTests p)) (run (legAt (directories o s)) (r .count - 1) (r .first + 1))) in
         let start : Round = record { exit = leg (r .first) .to; sum = opPoints o s (r .first) } in
         rw (← turned-given (r .first) j, legs-split, leg-tally (r .first) j)
-        (past-go (leg (r .first) .tally) tt (λ u. opsFrom o s p (r .count - 1) (r .first + 1) start go λ z. ringEnd p r (leg (r .first) .from) z) after tt
+        (past-go (leg (r .first) .tally) tt (λ u. opsFrom plain o s p (r .count - 1) (r .first + 1) start go λ z. ringEnd p r (leg (r .first) .from) z) after tt
         (ops-walk r (leg (r .first) .from) (r .count - 1) (r .first + 1) (omega (arith, n .some, n .fits)) start (ap (countRule r) (sym points-split) ∙ k .ring-counts i h)))
 
-  pub ring-walk : (edge : Bool) (i : ℕ) → i < o .rings .count → ringContains o s p edge i ≡ ok (ringWalk (floatTests p) edge (Layout.ringAt (directories o s) i))
+  pub ring-walk : (edge : Bool) (i : ℕ) → i < o .rings .count → ringContains plain o s p edge i ≡ ok (ringWalk (floatTests p) edge (Layout.ringAt (directories o s) i))
   unfolding ringContains ringWalk Layout.ringAt directories
   ring-walk edge i h = rw (← ring-is o s k i h) (either (contains (ringRecord o s i .bbox) p))
     where
       legs : Sight
       legs = around seg (map (legWalk (floatTests p)) (run (legAt (directories o s)) (ringRecord o s i .count) (ringRecord o s i .first)))
 
-      either : (b : Bool) → cond b (verdict edge (ringOf o s p (ringRecord o s i))) (ok false) ≡ ok (b && Tally.verdict edge legs)
+      either : (b : Bool) → cond b (verdict edge (ringOf plain o s p (ringRecord o s i))) (ok false) ≡ ok (b && Tally.verdict edge legs)
       either true = ap (verdict edge) (ring-of i h) ∙ past-verdict edge legs tt
       either false = refl

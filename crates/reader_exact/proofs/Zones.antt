@@ -14,7 +14,8 @@ use Rattle.shapes.specs.Walk.{floatTests, ringWalk, polygonWalk, zoneWalk}
 use Rattle.shapes.specs.Layout.{ringAt, polygonAt, zoneAt}
 use Rattle.opened.specs.declared.Opened.{Opened}
 use Rattle.reader_rings.specs.Rings.{ringContains}
-use Rattle.reader_zones.specs.Zones.{polyOf, zoneOf, firstSo}
+use Rattle.reader_ways.specs.Ways.{plain}
+use Rattle.reader_zones.specs.Zones.{polyOf, zoneBy, zoneOf, firstSo}
 use Rattle.reader_exact.specs.Directories.{zoneRecord, polyRecord, directories}
 use Rattle.reader_exact.specs.Sound.{Sound}
 use Rattle.reader_exact.proofs.Given.{zone-is, zone-ruled, poly-is, poly-ruled}
@@ -41,13 +42,13 @@ module _ (o : Opened) (s : List ℕ) (k : Sound o s) (p : Point) where
     inOuter : Bool
     inOuter = ringWalk (floatTests p) true (ringAt (directories o s) (polyRecord o s i .first))
 
-    rings-walk : (ringContains o s p true (polyRecord o s i .first) then λ b. cond b (firstSo (ringContains o s p false) false true (polyRecord o s i .count - 1) (polyRecord o s i .first + 1)) (ok false)) ≡ ok (inOuter && not inHole)
+    rings-walk : (ringContains plain o s p true (polyRecord o s i .first) then λ b. cond b (firstSo (ringContains plain o s p false) false true (polyRecord o s i .count - 1) (polyRecord o s i .first + 1)) (ok false)) ≡ ok (inOuter && not inHole)
     unfolding inOuter
     rings-walk =
         let n = poly-ruled o s k i h .names in
         rw (
           ring-walk o s k p true (polyRecord o s i .first) (omega (arith, n .some, n .fits)),
-          seek-some (ringContains o s p false) (ringWalk (floatTests p) false) (ringAt (directories o s)) false true (polyRecord o s i .count - 1) (polyRecord o s i .first + 1) (λ j l m. ring-walk o s k p false j (omega (arith, n .some, n .fits))),
+          seek-some (ringContains plain o s p false) (ringWalk (floatTests p) false) (ringAt (directories o s)) false true (polyRecord o s i .count - 1) (polyRecord o s i .first + 1) (λ j l m. ring-walk o s k p false j (omega (arith, n .some, n .fits))),
         )
         (either inOuter inHole)
       where
@@ -56,17 +57,17 @@ module _ (o : Opened) (s : List ℕ) (k : Sound o s) (p : Point) where
         either true false = refl
         either false c = refl
 
-    poly-walk : polyOf o s p i ≡ ok (polygonWalk (floatTests p) (polygonAt (directories o s) i))
+    poly-walk : polyOf plain o s p i ≡ ok (polygonWalk (floatTests p) (polygonAt (directories o s) i))
     unfolding polyOf polygonWalk polygonAt directories inOuter
     poly-walk = rw (← poly-is o s k i h) (either (contains (polyRecord o s i .bbox) p))
       where
-        either : (b : Bool) → cond b (ringContains o s p true (polyRecord o s i .first) then λ b. cond b (firstSo (ringContains o s p false) false true (polyRecord o s i .count - 1) (polyRecord o s i .first + 1)) (ok false)) (ok false) ≡ ok (b && (inOuter && not inHole))
+        either : (b : Bool) → cond b (ringContains plain o s p true (polyRecord o s i .first) then λ b. cond b (firstSo (ringContains plain o s p false) false true (polyRecord o s i .count - 1) (polyRecord o s i .first + 1)) (ok false)) (ok false) ≡ ok (b && (inOuter && not inHole))
         either true = rings-walk
         either false = refl
 
   -- ---- a zone
   pub zone-walk : (i : ℕ) → i < o .zones .count → zoneOf o s p i ≡ ok (zoneWalk (floatTests p) (zoneAt (directories o s) i))
-  unfolding zoneOf zoneWalk zoneAt directories
+  unfolding zoneBy zoneWalk zoneAt directories
   zone-walk i h = rw (← zone-is o s k i h) (either (contains (zoneRecord o s i .bbox) p))
     where
       inSome : Bool
@@ -76,12 +77,12 @@ module _ (o : Opened) (s : List ℕ) (k : Sound o s) (p : Point) where
       yes true = refl
       yes false = refl
 
-      polygons : firstSo (polyOf o s p) true false (zoneRecord o s i .count) (zoneRecord o s i .first) ≡ ok inSome
+      polygons : firstSo (polyOf plain o s p) true false (zoneRecord o s i .count) (zoneRecord o s i .first) ≡ ok inSome
       polygons =
           let n = zone-ruled o s k i h .names in
-          seek-some (polyOf o s p) (polygonWalk (floatTests p)) (polygonAt (directories o s)) true false (zoneRecord o s i .count) (zoneRecord o s i .first) (λ j l m. poly-walk j (omega (arith, n .some, n .fits)))
+          seek-some (polyOf plain o s p) (polygonWalk (floatTests p)) (polygonAt (directories o s)) true false (zoneRecord o s i .count) (zoneRecord o s i .first) (λ j l m. poly-walk j (omega (arith, n .some, n .fits)))
           ∙ yes inSome
 
-      either : (b : Bool) → cond b (firstSo (polyOf o s p) true false (zoneRecord o s i .count) (zoneRecord o s i .first)) (ok false) ≡ ok (b && inSome)
+      either : (b : Bool) → cond b (firstSo (polyOf plain o s p) true false (zoneRecord o s i .count) (zoneRecord o s i .first)) (ok false) ≡ ok (b && inSome)
       either true = polygons
       either false = refl

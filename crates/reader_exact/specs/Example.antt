@@ -31,7 +31,8 @@ use Rattle.reader_records.specs.Records as Records
 use Rattle.reader_chunks.specs.Chunks.{startOf, endOf, span, bytesOf, chunkPoints, firstIn, scanIn}
 use Rattle.reader_groups.specs.Groups.{nextFirst, skipTo, scanTo, joinedTo, passAt, lastIn, lastAt, chunksFrom, groupScan}
 use Rattle.reader_rings.specs.Rings.{turnOf, turnedAt, jointOf, groupWalk, turnWalk, opStep, opsFrom, ringEnd, ringRest, ringOf, ringContains}
-use Rattle.reader_zones.specs.Zones.{polyOf, zoneOf, containsAt, firstSo}
+use Rattle.reader_ways.specs.Ways.{groupScanBy}
+use Rattle.reader_zones.specs.Zones.{polyOf, zoneBy, containsBy, containsAt, firstSo}
 use Rattle.reader_exact.specs.Directories.{zoneRecord, polyRecord, ringRecord, opWord, groupRecord, chunkShape, directories}
 use Rattle.plane.specs.Segment.{samePoint}
 use Rattle.chunks.specs.Steps.{onward, pointsFrom}
@@ -101,5 +102,5 @@ said (ok b) answer = Bool·beq b answer
 said (refused r) answer = false
 
 pub walked : T (every (λ (r : Row). said (containsAt opened bytes 0 (r .p)) (r .answer)) rows)
-unfolding containsAt zoneOf firstSo polyOf ringContains ringOf ringRest ringEnd opsFrom opStep turnWalk groupWalk jointOf turnedAt turnOf groupScan chunksFrom lastAt lastIn passAt joinedTo scanTo skipTo nextFirst scanIn firstIn scanOf onward walkOf along add Records.countRule contains relevant right rayOf rayAt touches crosses aboveOf parityOf samePoint lt Ieee.le eq ofInt sub div Ieee.ne Ieee.toBits Ieee.ofBits nextUp Records.listAt Records.ringAt Records.opAt Records.groupAt Records.chunkAt Records.ruled Records.recordAt Records.listIn Records.listRule Records.ringIn Records.ringRule Records.opRule Records.groupIn Records.groupRule Records.chunkIn Records.chunkRule Records.boxIn Records.pointIn Records.fitsBelow Loads.inside le ordered boxInDomain inDomain endOf span startOf Points.firstOf Points.nextAt Points.numbersAt Points.movedBy Points.mustLie addDelta fits32 numberAt digits
+unfolding containsBy zoneBy firstSo polyOf ringContains ringOf ringRest ringEnd opsFrom opStep turnWalk groupWalk jointOf turnedAt turnOf groupScanBy groupScan chunksFrom lastAt lastIn passAt joinedTo scanTo skipTo nextFirst scanIn firstIn scanOf onward walkOf along add Records.countRule contains relevant right rayOf rayAt touches crosses aboveOf parityOf samePoint lt Ieee.le eq ofInt sub div Ieee.ne Ieee.toBits Ieee.ofBits nextUp Records.listAt Records.ringAt Records.opAt Records.groupAt Records.chunkAt Records.ruled Records.recordAt Records.listIn Records.listRule Records.ringIn Records.ringRule Records.opRule Records.groupIn Records.groupRule Records.chunkIn Records.chunkRule Records.boxIn Records.pointIn Records.fitsBelow Loads.inside le ordered boxInDomain inDomain endOf span startOf Points.firstOf Points.nextAt Points.numbersAt Points.movedBy Points.mustLie addDelta fits32 numberAt digits
 walked = tt

@@ -8,6 +8,7 @@ use Rattle.reader_groups.specs.Groups.{One, went}
 use Rattle.reader_groups.specs.declared.Went.{Went}
 use Rattle.reader_groups.specs.declared.Went.the-variants as W
 use Rattle.reader_groups.proofs.after.Reads as after-reads
+use Rattle.reader_groups.proofs.scan_alone.Reads as scan-alone-reads
 use Rattle.reader_groups.proofs.scan_group.Reads as scan-group-reads
 
 pub one-went : (a b : Went) (x : Walk One) → went a ≡ x → went b ≡ x → a ≡ b
@@ -25,6 +26,9 @@ one-went = one-told went again back
 
 pub after : Determined after-reads.Learnt
 after κ a r r' e e' p q = one-went r r' _ p q
+
+pub scan-alone : Determined scan-alone-reads.Learnt
+scan-alone κ a r r' e e' p q = one-went r r' _ p q
 
 pub scan-group : Determined scan-group-reads.Learnt
 scan-group κ a r r' e e' p q = one-went r r' _ p q

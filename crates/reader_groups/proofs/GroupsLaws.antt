@@ -19,7 +19,8 @@ use Rattle.reader_records.specs.declared.GroupRecord.{GroupRecord}
 use Rattle.reader_records.specs.declared.ChunkRecord.{ChunkRecord}
 use Rattle.reader_records.specs.Records.{chunkAt}
 use Rattle.reader_chunks.specs.Chunks.{startOf, endOf, firstIn, scanIn}
-use Rattle.reader_groups.specs.Groups.{One, nextFirst, skipTo, scanTo, joinedTo, passAt, lastIn, lastAt, chunksFrom, groupScan}
+use Rattle.reader_groups.specs.Groups.{One, nextFirst, skipTo, scanTo, joinedTo, passAt, lastIn, lastAt, aloneAt, chunksFrom, groupScan}
+use Rattle.reader_groups.specs.Steps.{passAlone}
 
 module _ (o : Opened) (s : List ℕ) (i : ℕ) (n : ChunkRecord) where
   pub next-no : (r : Refusal) → refused r ≡ endOf o s (i + 1) → refused r ≡ nextFirst o s i n
@@ -128,6 +129,38 @@ module _ (o : Opened) (s : List ℕ) (p : Point) (i : ℕ) (v : ChunkRecord) whe
     pub last-is : relevant (v .bbox) p ≡ true → (e : ℕ) → ok e ≡ endOf o s i → lastIn o s p i v x e ≡ lastAt o s p i v x
     unfolding lastAt
     last-is h e k = rw (h, ← k)
+
+  -- where it hands nothing on
+  pub pass-alone-no : (r : Refusal) → broken r ≡ passAt o s p i v → broken r ≡ passAlone o s p i v
+  unfolding passAlone
+  pass-alone-no r h = rw (← h)
+
+  pub pass-alone-on : on ≡ passAt o s p i v → on ≡ passAlone o s p i v
+  unfolding passAlone
+  pass-alone-on h = rw (← h)
+
+  pub pass-alone-is : (b : Bool) (n : ChunkRecord) → off b n ≡ passAt o s p i v → off b tt ≡ passAlone o s p i v
+  unfolding passAlone add
+  pass-alone-is b n h = rw (← h) (ap (λ (t : Bool). off t tt) (sym (⊻-idr b)))
+
+-- ---- a chunk by its number alone
+module _ (o : Opened) (s : List ℕ) (p : Point) (x : I32Point) (follows : Bool) (i : ℕ) where
+  pub alone-no : (r : Refusal) → refused r ≡ chunkAt o s i → broken r ≡ aloneAt o s p x follows i
+  unfolding aloneAt
+  alone-no r h = rw (← h)
+
+  module _ (v : ChunkRecord) (h : ok v ≡ chunkAt o s i) where
+    pub alone-none : relevant (v .bbox) p ≡ false → done tt ≡ aloneAt o s p x follows i
+    unfolding aloneAt
+    alone-none k = rw (← h, k)
+
+    pub alone-pass : relevant (v .bbox) p ≡ true → follows ≡ true → passAlone o s p i v ≡ aloneAt o s p x follows i
+    unfolding aloneAt passAlone
+    alone-pass k f = rw (← h, k, f)
+
+    pub alone-last : relevant (v .bbox) p ≡ true → follows ≡ false → lastAt o s p i v x ≡ aloneAt o s p x follows i
+    unfolding aloneAt
+    alone-last k f = rw (← h, k, f)
 
 -- ---- the loop: n is the number of chunks left, this one with them
 module _ (o : Opened) (s : List ℕ) (p : Point) (x : I32Point) (i : ℕ) (v : ChunkRecord) (n : ℕ) where

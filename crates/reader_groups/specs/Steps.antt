@@ -3,9 +3,10 @@
 use Prim.Native.Nat.{ℕ, _+_}
 use mathlib.Core.List.{List}
 use mathlib.Core.Path.{_≡_}
+use Rattle.plane.specs.declared.Point.{Point}
 use Rattle.plane.specs.declared.I32Point.{I32Point}
 use Rattle.answer.specs.Answers.{Answer, _then_, ok}
-use Rattle.answer.specs.Walks.{Walk, broken, on, off}
+use Rattle.answer.specs.Walks.{Walk, broken, on, off, _go_, done}
 use Rattle.opened.specs.declared.Opened.{Opened}
 use Rattle.reader_records.specs.declared.ChunkRecord.{ChunkRecord}
 use Rattle.reader_chunks.specs.Chunks.{startOf, endOf, firstIn}
@@ -13,7 +14,7 @@ use Rattle.reader_groups.specs.declared.Joined.{Joined}
 use Rattle.reader_groups.specs.declared.Joined.the-variants as J
 use Rattle.reader_groups.specs.declared.Pass.{Pass}
 use Rattle.reader_groups.specs.declared.Pass.the-variants as P
-use Rattle.reader_groups.specs.Groups.{One}
+use Rattle.reader_groups.specs.Groups.{One, passAt}
 use Rattle.reader_groups.specs.declared.Known.{Known}
 use Rattle.reader_groups.specs.declared.Known.the-variants as K
 
@@ -27,6 +28,10 @@ abbrev pub passed : Pass → Walk ChunkRecord
 passed (P.Refused r) = broken r
 passed P.On = on
 passed (P.Off b v k) = off b v
+
+-- past chunk i, with record v, which another follows, handing nothing on
+unfoldable pub passAlone : Opened → List ℕ → Point → ℕ → ChunkRecord → Walk One
+passAlone o s p i v = passAt o s p i v go λ n. done tt
 
 -- ---- The code remembers a chunk's first point where it was read as the end of the chunk before. What is known is what reading would give.
 -- the first point of chunk i, with record v

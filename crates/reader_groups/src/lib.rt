@@ -6,8 +6,8 @@ ghost use Rattle.answer.specs.Walks.{add};
 ghost use Rattle.rays.specs.Ray.{rayOf};
 ghost use Rattle.chunks.specs.Scan.{past};
 ghost use Rattle.reader_chunks.specs.Chunks.{toldPoint, startOf, firstIn, scanIn};
-ghost use Rattle.reader_groups.specs.Groups.{went, nextFirst, skipTo, scanTo, joinedTo, passAt, lastIn, lastAt, chunksFrom, groupScan};
-ghost use Rattle.reader_groups.specs.Steps.{joined, passed, ownFirst, Kept, Leaves, Hands};
+ghost use Rattle.reader_groups.specs.Groups.{went, nextFirst, skipTo, scanTo, joinedTo, passAt, lastIn, lastAt, aloneAt, chunksFrom, groupScan};
+ghost use Rattle.reader_groups.specs.Steps.{joined, passed, passAlone, ownFirst, Kept, Leaves, Hands};
 ghost use Rattle.tzb_core.specs.Reading.{scanned};
 use answer::Refusal;
 use opened::Opened;
@@ -253,6 +253,40 @@ fn last_at(
         }
     } else {
         Went::Off(false)
+    }
+}
+
+// Past chunk i, whose record is v, and which another follows: what is then known of the next is dropped.
+fn pass_alone(o: Opened, s: &[u8], p: Point, i: usize, v: ChunkRecord) -> Went
+    requires { ⌜ i < 0x2_0000_0000 ⌝ }
+    ensures { λ r. ⌜ went r ≡ passAlone o (now (s .entry)) p i v ⌝ }
+{
+    let t = pass_at(o, s, p, i, v, Known::Unread);
+    match t {
+        Pass::Refused(k) => Went::Refused(k),
+        Pass::On => Went::On,
+        Pass::Off(b, _, _) => Went::Off(b),
+    }
+}
+
+// Chunk i by its number alone: x is its group's last point, and another chunk of the group follows it or not.
+pub fn scan_alone(o: Opened, s: &[u8], p: Point, x: I32Point, follows: bool, i: usize) -> Went
+    requires { ⌜ i < 0x2_0000_0000 ⌝ }
+    ensures { λ r. ⌜ went r ≡ aloneAt o (now (s .entry)) p x follows i ⌝ }
+{
+    let t = reader_records::chunk_at(o, s, i);
+    match t {
+        ChunkAt::Refused(k) => Went::Refused(k),
+        ChunkAt::At(v) => {
+            let b = v.bbox;
+            if !b.relevant(p) {
+                return Went::Off(false);
+            }
+            if follows {
+                return pass_alone(o, s, p, i, v);
+            }
+            last_at(o, s, p, i, v, Known::Unread, x)
+        }
     }
 }
 

@@ -14,24 +14,25 @@ use Rattle.opened.specs.declared.Opened.{Opened}
 use Rattle.reader_order.specs.Order.{ordered, insertAll}
 use Rattle.reader_cells.specs.Asked.{candidatesOf}
 use Rattle.replies.specs.Replies.{none, all, listed}
+use Rattle.reader_ways.specs.Ways.{Way}
 use Rattle.reader_lookup.specs.Asking.{scaled, hitAt}
-use Rattle.reader_listing.specs.All.{allHits, hitsAmong, hitsOf, namesRead, placed, listFor, listOf}
+use Rattle.reader_listing.specs.All.{allHits, hitsAmong, hitsOf, namesRead, placed, listFor, listBy}
 
 -- into that many places
-module _ (o : Opened) (s : List ℕ) (lng lat : Float) (places : ℕ) where
-  pub into-no : (k : Refusal) → refused k ≡ candidatesOf o s lng lat → refused k ≡ listOf o s lng lat places
-  unfolding listOf hitsOf
+module _ (w : Way) (o : Opened) (s : List ℕ) (lng lat : Float) (places : ℕ) where
+  pub into-no : (k : Refusal) → refused k ≡ candidatesOf o s lng lat → refused k ≡ listBy w o s lng lat places
+  unfolding listBy hitsOf
   into-no k h = rw (← h)
 
-  pub into-none : ok none ≡ candidatesOf o s lng lat → ok [] ≡ listOf o s lng lat places
-  unfolding listOf hitsOf hitsAmong listFor namesRead placed ordered insertAll
+  pub into-none : ok none ≡ candidatesOf o s lng lat → ok [] ≡ listBy w o s lng lat places
+  unfolding listBy hitsOf hitsAmong listFor namesRead placed ordered insertAll
   into-none h = rw (← h, le-at 0 places (omega arith))
 
   module _ (p : Point) (e : p ≡ scaled lng lat) (n : ℕ) where
-    pub into-all : ok (all n) ≡ candidatesOf o s lng lat → (allHits (hitAt o s p false) n 0 then listFor o s places) ≡ listOf o s lng lat places
-    unfolding listOf hitsOf hitsAmong
+    pub into-all : ok (all n) ≡ candidatesOf o s lng lat → (allHits (hitAt w o s p false) n 0 then listFor o s places) ≡ listBy w o s lng lat places
+    unfolding listBy hitsOf hitsAmong
     into-all h = rw (← h, e)
 
-    pub into-listed : (place : ℕ) → ok (listed n place) ≡ candidatesOf o s lng lat → (allHits (hitAt o s p true) n place then listFor o s places) ≡ listOf o s lng lat places
-    unfolding listOf hitsOf hitsAmong
+    pub into-listed : (place : ℕ) → ok (listed n place) ≡ candidatesOf o s lng lat → (allHits (hitAt w o s p true) n place then listFor o s places) ≡ listBy w o s lng lat places
+    unfolding listBy hitsOf hitsAmong
     into-listed place h = rw (← h, e)

@@ -1,4 +1,4 @@
--- What the two questions mean, for any record and any bytes: the list is in the order of the names and has the very zones that contain the point; lookup gives the first of them; at ±179 and ±89 no candidate goes unlooked-at.
+-- What the two questions mean, for any record, any bytes and either way: the list is in the order of the names and has the very zones that contain the point; lookup gives the first of them; at ±179 and ±89 no candidate goes unlooked-at.
 -- Assumes nothing.
 use Prim.Native.Nat.{ℕ, zero, suc, _+_, _/_, _%_, _≤_}
 use mathlib.Core.Path.{_≡_, refl, sym, ap, _∙_}
@@ -14,19 +14,20 @@ use Rattle.opened.specs.declared.Opened.{Opened}
 use Rattle.reader_named.specs.Asked.{nameOr}
 use Rattle.reader_order.specs.Order.{ordered, inOrder, called, times}
 use Rattle.reader_order.proofs.Sorted.{is-ordered, same-times, as-they-came}
+use Rattle.reader_ways.specs.Ways.{Way}
 use Rattle.reader_lookup.specs.Asking.{orElse, firstHit, strictly, unlooked}
 use Rattle.reader_listing.proofs.Placed.{before-inv}
 use Rattle.replies.specs.Replies.{Sought, nowhere, inZone}
 use Rattle.answer.proofs.AnswersLaws.{then-inv, need-inv, ok-inv}
-use Rattle.reader_listing.specs.All.{also, allHits, hitsOf, namesRead, placed, listFor, listOf}
+use Rattle.reader_listing.specs.All.{also, allHits, hitsOf, namesRead, placed, listFor, listBy}
 
 -- ---- the list
-module _ (o : Opened) (s : List ℕ) (lng lat : Float) (places : ℕ) (l : List ℕ) (h : ok l ≡ listOf o s lng lat places) where
+module _ (w : Way) (o : Opened) (s : List ℕ) (lng lat : Float) (places : ℕ) (l : List ℕ) (h : ok l ≡ listBy w o s lng lat places) where
   -- it is made of the zones that contain the point, which were not too many
-  list-of : (m : List ℕ) × (ok m ≡ hitsOf o s lng lat) × (length m ≤ places) × (l ≡ ordered (nameOr o s) m)
-  unfolding listOf listFor placed
+  list-of : (m : List ℕ) × (ok m ≡ hitsOf w o s lng lat) × (length m ≤ places) × (l ≡ ordered (nameOr o s) m)
+  unfolding listBy listFor placed
   list-of =
-      let t = then-inv (hitsOf o s lng lat) (listFor o s places) l h in
+      let t = then-inv (hitsOf w o s lng lat) (listFor o s places) l h in
       let b = before-inv (namesRead o s (t .0)) (placed o s places (t .0)) l (t .2) in
       let n = need-inv 46 (atMost (length (t .0)) places) (ok (ordered (nameOr o s) (t .0))) l (b .1) in
       (t .0, t .1, at-le _ _ (n .0), ok-inv _ _ (n .1))
@@ -34,7 +35,7 @@ module _ (o : Opened) (s : List ℕ) (lng lat : Float) (places : ℕ) (l : List 
   pub list-in-order : inOrder (nameOr o s) l ≡ true
   list-in-order = ap (inOrder (nameOr o s)) (list-of .3) ∙ is-ordered (nameOr o s) (list-of .0)
 
-  module _ (m : List ℕ) (g : ok m ≡ hitsOf o s lng lat) where
+  module _ (m : List ℕ) (g : ok m ≡ hitsOf w o s lng lat) where
     same-list : list-of .0 ≡ m
     same-list = ok-inv _ _ (list-of .1 ∙ sym g)
 

@@ -11,9 +11,10 @@ use Rattle.answer.specs.declared.Refusal.{Refusal}
 use Rattle.answer.specs.Answers.{Answer, ok, refused, _then_}
 use Rattle.opened.specs.declared.Opened.{Opened}
 use Rattle.reader_cells.specs.Asked.{candidatesOf, candidateAt}
-use Rattle.reader_zones.specs.Zones.{zoneOf}
+use Rattle.reader_zones.specs.Zones.{zoneBy}
+use Rattle.reader_ways.specs.Ways.{Way}
 use Rattle.replies.specs.Replies.{Chosen, none, all, listed, Sought, nowhere, inZone}
-use Rattle.reader_lookup.specs.Asking.{scaled, candidateOf, hitAt, orElse, firstHit, unlooked, lookupAmong, lookupOf}
+use Rattle.reader_lookup.specs.Asking.{scaled, candidateOf, hitAt, orElse, firstHit, unlooked, lookupAmong, lookupBy}
 
 module _ (o : Opened) (s : List ℕ) (grid : Bool) (place : ℕ) where
   pub candidate-listed : grid ≡ true → candidateAt o s place ≡ candidateOf o s grid place
@@ -24,26 +25,26 @@ module _ (o : Opened) (s : List ℕ) (grid : Bool) (place : ℕ) where
   unfolding candidateOf
   candidate-zone h = rw h
 
-  module _ (p : Point) where
-    pub hit-no : (k : Refusal) → refused k ≡ candidateOf o s grid place → refused k ≡ hitAt o s p grid place
+  module _ (w : Way) (p : Point) where
+    pub hit-no : (k : Refusal) → refused k ≡ candidateOf o s grid place → refused k ≡ hitAt w o s p grid place
     unfolding hitAt
     hit-no k h = rw (← h)
 
     module _ (zone : ℕ) (h : ok zone ≡ candidateOf o s grid place) (j : ℕ) (e : j ≡ zone) where
-      pub hit-bad : (k : Refusal) → refused k ≡ zoneOf o s p j → refused k ≡ hitAt o s p grid place
+      pub hit-bad : (k : Refusal) → refused k ≡ zoneBy w o s p j → refused k ≡ hitAt w o s p grid place
       unfolding hitAt
       hit-bad k g = rw (← h, ← e, ← g)
 
-      pub hit-yes : (b : Bool) → ok b ≡ zoneOf o s p j → b ≡ true → ok (inZone zone) ≡ hitAt o s p grid place
+      pub hit-yes : (b : Bool) → ok b ≡ zoneBy w o s p j → b ≡ true → ok (inZone zone) ≡ hitAt w o s p grid place
       unfolding hitAt
       hit-yes b g t =
-          let m : ok b ≡ zoneOf o s p zone = g ∙ ap (zoneOf o s p) e in
+          let m : ok b ≡ zoneBy w o s p zone = g ∙ ap (zoneBy w o s p) e in
           rw (← h, ← m, t)
 
-      pub hit-not : (b : Bool) → ok b ≡ zoneOf o s p j → b ≡ false → ok nowhere ≡ hitAt o s p grid place
+      pub hit-not : (b : Bool) → ok b ≡ zoneBy w o s p j → b ≡ false → ok nowhere ≡ hitAt w o s p grid place
       unfolding hitAt
       hit-not b g t =
-          let m : ok b ≡ zoneOf o s p zone = g ∙ ap (zoneOf o s p) e in
+          let m : ok b ≡ zoneBy w o s p zone = g ∙ ap (zoneBy w o s p) e in
           rw (← h, ← m, t)
 
 -- n candidates left, from place i on
@@ -70,28 +71,28 @@ module _ (hit : ℕ → Answer Sought) (n i : ℕ) where
     pub first-on : ok nowhere ≡ hit i → firstHit hit (n - 1) (i + 1) ≡ firstHit hit n i
     first-on e = rw (first-one, ← e)
 
-module _ (o : Opened) (s : List ℕ) (lng lat : Float) where
+module _ (w : Way) (o : Opened) (s : List ℕ) (lng lat : Float) where
   module _ (n place : ℕ) where
-    pub among-unlooked : unlooked o n lng lat ≡ true → (candidateAt o s place then λ zone. ok (inZone zone)) ≡ lookupAmong o s lng lat (listed n place)
+    pub among-unlooked : unlooked o n lng lat ≡ true → (candidateAt o s place then λ zone. ok (inZone zone)) ≡ lookupAmong w o s lng lat (listed n place)
     unfolding lookupAmong
     among-unlooked h = rw h
 
-    pub among-listed : unlooked o n lng lat ≡ false → (p : Point) → p ≡ scaled lng lat → firstHit (hitAt o s p true) n place ≡ lookupAmong o s lng lat (listed n place)
+    pub among-listed : unlooked o n lng lat ≡ false → (p : Point) → p ≡ scaled lng lat → firstHit (hitAt w o s p true) n place ≡ lookupAmong w o s lng lat (listed n place)
     unfolding lookupAmong
     among-listed h p e = rw (h, e)
 
-  pub among-none : ok nowhere ≡ lookupAmong o s lng lat none
+  pub among-none : ok nowhere ≡ lookupAmong w o s lng lat none
   unfolding lookupAmong
   among-none = refl
 
-  pub among-all : (n : ℕ) (p : Point) → p ≡ scaled lng lat → firstHit (hitAt o s p false) n 0 ≡ lookupAmong o s lng lat (all n)
+  pub among-all : (n : ℕ) (p : Point) → p ≡ scaled lng lat → firstHit (hitAt w o s p false) n 0 ≡ lookupAmong w o s lng lat (all n)
   unfolding lookupAmong
   among-all n p e = rw e
 
-  pub lookup-no : (k : Refusal) → refused k ≡ candidatesOf o s lng lat → refused k ≡ lookupOf o s lng lat
-  unfolding lookupOf
+  pub lookup-no : (k : Refusal) → refused k ≡ candidatesOf o s lng lat → refused k ≡ lookupBy w o s lng lat
+  unfolding lookupBy
   lookup-no k h = rw (← h)
 
-  pub lookup-by : (c : Chosen) (x : Answer Sought) → ok c ≡ candidatesOf o s lng lat → x ≡ lookupAmong o s lng lat c → x ≡ lookupOf o s lng lat
-  unfolding lookupOf
+  pub lookup-by : (c : Chosen) (x : Answer Sought) → ok c ≡ candidatesOf o s lng lat → x ≡ lookupAmong w o s lng lat c → x ≡ lookupBy w o s lng lat
+  unfolding lookupBy
   lookup-by c x h e = rw (← h) e

@@ -2,10 +2,14 @@
 -- Assumes nothing.
 use mathlib.Core.Path.{sym, _∙_}
 use Rattle.basics.specs.Determined.{Determined}
+use Rattle.reader_lookup.proofs.lookup_by.Reads as lookup-by-reads
 use Rattle.reader_lookup.proofs.lookup.Reads as lookup-reads
 use Rattle.replies.proofs.One.{one-found}
 use Rattle.reader_lookup.proofs.scaled_at.Reads as scaled-at-reads
 use Rattle.reader_lookup.proofs.hit_at.Reads as hit-at-reads
+
+pub lookup-by : Determined lookup-by-reads.Learnt
+lookup-by κ a r r' e e' p q = one-found r r' _ p q
 
 pub lookup : Determined lookup-reads.Learnt
 lookup κ a r r' e e' p q = one-found r r' _ p q

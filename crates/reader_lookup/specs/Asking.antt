@@ -1,4 +1,4 @@
--- Document 01, "Asking": which zone a position lies in. For any opened record and any bytes.
+-- Document 01, "Asking": which zone a position lies in. For any opened record, any bytes and either way through a group's chunks.
 -- Assumes nothing.
 use Prim.Native.Nat.{ℕ, zero, suc, _+_, _/_, _%_}
 use mathlib.Core.Bool.{Bool, true, false, _&&_, cond}
@@ -10,7 +10,8 @@ use Rattle.answer.specs.Answers.{Answer, ok, _then_}
 use Rattle.answer.specs.Checks.{same}
 use Rattle.opened.specs.declared.Opened.{Opened}
 use Rattle.reader_cells.specs.Asked.{candidatesOf, candidateAt}
-use Rattle.reader_zones.specs.Zones.{zoneOf}
+use Rattle.reader_zones.specs.Zones.{zoneBy}
+use Rattle.reader_ways.specs.Ways.{Way, plain}
 use Rattle.replies.specs.Replies.{Chosen, none, all, listed, Sought, nowhere, inZone}
 
 -- ---- the point, and one candidate
@@ -23,8 +24,8 @@ unfoldable pub candidateOf : Opened → List ℕ → Bool → ℕ → Answer ℕ
 candidateOf o s grid place = cond grid (candidateAt o s place) (ok place)
 
 -- that candidate, where it contains the point
-unfoldable pub hitAt : Opened → List ℕ → Point → Bool → ℕ → Answer Sought
-hitAt o s p grid place = candidateOf o s grid place then λ zone. zoneOf o s p zone then λ b. ok (cond b (inZone zone) nowhere)
+unfoldable pub hitAt : Way → Opened → List ℕ → Point → Bool → ℕ → Answer Sought
+hitAt w o s p grid place = candidateOf o s grid place then λ zone. zoneBy w o s p zone then λ b. ok (cond b (inZone zone) nowhere)
 
 -- ---- lookup
 -- the first candidate that contains the point wins: of n candidates from place i on
@@ -44,13 +45,17 @@ unfoldable pub unlooked : Opened → ℕ → Float → Float → Bool
 unlooked o n lng lat = same n 1 && (same (o .flags / 2 % 2) 0 && (strictly 179 lng && strictly 89 lat))
 
 -- only GRID lists candidates
-unfoldable pub lookupAmong : Opened → List ℕ → Float → Float → Chosen → Answer Sought
-lookupAmong o s lng lat none = ok nowhere
-lookupAmong o s lng lat (all n) = firstHit (hitAt o s (scaled lng lat) false) n 0
-lookupAmong o s lng lat (listed n place) =
+unfoldable pub lookupAmong : Way → Opened → List ℕ → Float → Float → Chosen → Answer Sought
+lookupAmong w o s lng lat none = ok nowhere
+lookupAmong w o s lng lat (all n) = firstHit (hitAt w o s (scaled lng lat) false) n 0
+lookupAmong w o s lng lat (listed n place) =
     cond (unlooked o n lng lat)
     (candidateAt o s place then λ zone. ok (inZone zone))
-    (firstHit (hitAt o s (scaled lng lat) true) n place)
+    (firstHit (hitAt w o s (scaled lng lat) true) n place)
 
-unfoldable pub lookupOf : Opened → List ℕ → Float → Float → Answer Sought
-lookupOf o s lng lat = candidatesOf o s lng lat then lookupAmong o s lng lat
+unfoldable pub lookupBy : Way → Opened → List ℕ → Float → Float → Answer Sought
+lookupBy w o s lng lat = candidatesOf o s lng lat then lookupAmong w o s lng lat
+
+-- by the plain walk
+abbrev pub lookupOf : Opened → List ℕ → Float → Float → Answer Sought
+lookupOf o s lng lat = lookupBy plain o s lng lat

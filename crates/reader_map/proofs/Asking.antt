@@ -14,8 +14,8 @@ use Rattle.answer.proofs.AnswersLaws.{need-inv, ok-inv, zero-one}
 use Rattle.shapes.specs.Layout.{zoneAt}
 use Rattle.shapes.specs.Outline.{outlines, zoneDrawable}
 use Rattle.geojson.specs.Text.{mapText}
-use Rattle.geojson.specs.Over.{over}
-use Rattle.geojson.proofs.OverLaws.{over-all}
+use Rattle.answer.specs.Over.{over}
+use Rattle.answer.proofs.OverLaws.{over-all}
 use Rattle.opened.specs.declared.Opened.{Opened}
 use Rattle.reader_exact.specs.Directories.{directories}
 use Rattle.reader_map.specs.Map.{zoneText, inRoom}

@@ -13,8 +13,8 @@ use Rattle.answer.specs.declared.Refusal.{Refusal}
 use Rattle.answer.specs.Refusals.{refusal}
 use Rattle.answer.specs.Answers.{Answer, ok, refused, need}
 use Rattle.answer.proofs.AnswersLaws.{need-met, need-not, need-inv, ok-inv, zero-one}
-use Rattle.geojson.specs.Over.{over}
-use Rattle.geojson.proofs.OverLaws.{Written, wrote, _behind_, length-over}
+use Rattle.answer.specs.Over.{over}
+use Rattle.answer.proofs.OverLaws.{Written, wrote, _behind_, length-over}
 use Rattle.reader_map.specs.Steps.{toCome, DrawnAs}
 use Rattle.reader_map.proofs.Rows.{run-first}
 

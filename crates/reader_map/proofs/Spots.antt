@@ -15,8 +15,8 @@ use Rattle.geojson.specs.Text.{positionText, ringText}
 use Rattle.reader_outline.specs.Held.{spots, pointsIn}
 use Rattle.reader_outline.proofs.Spots.{spot-is, points-length}
 use Rattle.reader_map.specs.Steps.{toCome, way, spotOf, spotText}
-use Rattle.geojson.specs.Over.{over}
-use Rattle.geojson.proofs.OverLaws.{Written, wrote}
+use Rattle.answer.specs.Over.{over}
+use Rattle.answer.proofs.OverLaws.{Written, wrote}
 use Rattle.reader_map.proofs.Rows.{listed-row, run-list}
 use Rattle.reader_map.proofs.Onward.{Row, row-start, row-step, row-done, row-most}
 

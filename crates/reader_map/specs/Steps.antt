@@ -14,7 +14,7 @@ use Rattle.shapes.specs.Layout.{ringAt, polygonAt}
 use Rattle.shapes.specs.Outline.{ringPositions, drawable, outline}
 use Rattle.geojson.specs.Ascii.{ascii}
 use Rattle.geojson.specs.Text.{positionText, ringText, polygonText}
-use Rattle.geojson.specs.Over.{over}
+use Rattle.answer.specs.Over.{over}
 use Rattle.opened.specs.declared.Opened.{Opened}
 use Rattle.reader_exact.specs.Directories.{directories}
 

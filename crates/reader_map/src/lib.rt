@@ -10,7 +10,7 @@ ghost use Rattle.answer.specs.Answers.{howMany, left};
 ghost use Rattle.shapes.specs.Layout.{ringAt, polygonAt, zoneAt};
 ghost use Rattle.shapes.specs.Outline.{outline, outlines, zoneDrawable};
 ghost use Rattle.geojson.specs.Text.{ringText, mapText};
-ghost use Rattle.geojson.specs.Over.{over};
+ghost use Rattle.answer.specs.Over.{over};
 ghost use Rattle.reader_exact.specs.Directories.{directories};
 ghost use Rattle.reader_outline.specs.Held.{pointsIn};
 ghost use Rattle.reader_outline.specs.Told.{Ready};

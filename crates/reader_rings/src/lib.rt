@@ -5,6 +5,7 @@ ghost use Prim.Native.Nat.{_+_, _-_, _≤_, _<_};
 ghost use Rattle.answer.specs.Walks.{verdict};
 ghost use Rattle.reader_groups.specs.Groups.{went};
 ghost use Rattle.reader_records.specs.Records.{groupIn};
+ghost use Rattle.reader_ways.specs.Ways.{wayOf};
 ghost use lib.ListN.{length};
 ghost use Rattle.reader_rings.specs.Rings.{turnOf, turnedAt, jointOf, groupWalk, turnWalk, opStep, opsFrom, ringEnd, ringRest, ringOf, ringContains};
 ghost use Rattle.replies.specs.Replies.{verdictTold};
@@ -23,10 +24,11 @@ use reader_records::RingAt;
 use reader_records::RingRecord;
 use replies::Verdict;
 
-// A group with its ends as a ring op has them.
+// A group with its index, and its ends as a ring op has them.
 pub struct Turned {
     pub entry: I32Point,
     pub exit: I32Point,
+    pub index: usize,
     pub group: GroupRecord,
 }
 
@@ -73,16 +75,19 @@ fn turned_in(s: &[u8], w: usize, at: usize) -> Turned
     let g = reader_records::group_in(s, at);
     let a = g.entry;
     let b = g.exit;
+    let index = w % 0x8000_0000;
     if w < 0x8000_0000 {
         Turned {
             entry: a,
             exit: b,
+            index,
             group: g,
         }
     } else {
         Turned {
             entry: b,
             exit: a,
+            index,
             group: g,
         }
     }
@@ -103,8 +108,16 @@ fn joint(p: Point, a: I32Point, b: I32Point) -> Went
 }
 
 // Past a group: nothing, by its ends alone, or through its chunks.
-fn group_walk(o: Opened, s: &[u8], p: Point, g: GroupRecord) -> Went
-    ensures { λ r. ⌜ went r ≡ groupWalk o (now (s .entry)) p g ⌝ }
+fn group_walk(
+    striped: bool,
+    numbers: &[u32],
+    o: Opened,
+    s: &[u8],
+    p: Point,
+    index: usize,
+    g: GroupRecord,
+) -> Went
+    ensures { λ r. ⌜ went r ≡ groupWalk (wayOf striped (now (numbers .entry))) o (now (s .entry)) p index g ⌝ }
 {
     let b = g.bbox;
     if b.relevant(p) {
@@ -113,7 +126,7 @@ fn group_walk(o: Opened, s: &[u8], p: Point, g: GroupRecord) -> Went
             let x = g.exit;
             Went::Off(tzb_core::raycast::endpoint_parity(a, x, p))
         } else {
-            reader_groups::scan_group(o, s, p, g)
+            reader_ways::scan_by(striped, numbers, o, s, p, index, g)
         }
     } else {
         Went::Off(false)
@@ -121,8 +134,16 @@ fn group_walk(o: Opened, s: &[u8], p: Point, g: GroupRecord) -> Went
 }
 
 // Past a group, from the exit a of the group before.
-fn turn_walk(o: Opened, s: &[u8], p: Point, a: I32Point, t: Turned) -> Went
-    ensures { λ r. ⌜ went r ≡ turnWalk o (now (s .entry)) p a t ⌝ }
+fn turn_walk(
+    striped: bool,
+    numbers: &[u32],
+    o: Opened,
+    s: &[u8],
+    p: Point,
+    a: I32Point,
+    t: Turned,
+) -> Went
+    ensures { λ r. ⌜ went r ≡ turnWalk (wayOf striped (now (numbers .entry))) o (now (s .entry)) p a t ⌝ }
 {
     let e = t.entry;
     let w = joint(p, a, e);
@@ -131,15 +152,23 @@ fn turn_walk(o: Opened, s: &[u8], p: Point, a: I32Point, t: Turned) -> Went
         Went::On => Went::On,
         Went::Off(b) => {
             let g = t.group;
-            reader_groups::after(b, group_walk(o, s, p, g))
+            reader_groups::after(b, group_walk(striped, numbers, o, s, p, t.index, g))
         }
     }
 }
 
 // Past op i, after z.
-fn op_step(o: Opened, s: &[u8], p: Point, i: usize, z: Round) -> Rounds
+fn op_step(
+    striped: bool,
+    numbers: &[u32],
+    o: Opened,
+    s: &[u8],
+    p: Point,
+    i: usize,
+    z: Round,
+) -> Rounds
     requires { ⌜ z .sum < 0x4000_0000_0000_0000 ⌝ }
-    ensures { λ r. ⌜ (rounds r ≡ opStep o (now (s .entry)) p i z) × (sumAfter (z .sum) r ≤ z .sum + 0x1_0000_0000) ⌝ }
+    ensures { λ r. ⌜ (rounds r ≡ opStep (wayOf striped (now (numbers .entry))) o (now (s .entry)) p i z) × (sumAfter (z .sum) r ≤ z .sum + 0x1_0000_0000) ⌝ }
 {
     let u = leg_at(o, s, i);
     match u {
@@ -147,7 +176,7 @@ fn op_step(o: Opened, s: &[u8], p: Point, i: usize, z: Round) -> Rounds
         LegAt::At(word, at) => {
             let t = turned_in(s, word, at);
             let a = z.exit;
-            let w = turn_walk(o, s, p, a, t);
+            let w = turn_walk(striped, numbers, o, s, p, a, t);
             match w {
                 Went::Refused(k) => Rounds::Refused(k),
                 Went::On => Rounds::On,
@@ -167,16 +196,25 @@ fn op_step(o: Opened, s: &[u8], p: Point, i: usize, z: Round) -> Rounds
 }
 
 // Past the ops from `from` on, `count` with the first.
-fn ops_from(o: Opened, s: &[u8], p: Point, count: u16, from: usize, so: Round) -> Rounds
+fn ops_from(
+    striped: bool,
+    numbers: &[u32],
+    o: Opened,
+    s: &[u8],
+    p: Point,
+    count: u16,
+    from: usize,
+    so: Round,
+) -> Rounds
     requires { ⌜ (from < 0x2_0000_0000) × (so .sum < 0x1_0000_0000) ⌝ }
-    ensures { λ r. ⌜ rounds r ≡ opsFrom o (now (s .entry)) p (count - 1) from so ⌝ }
+    ensures { λ r. ⌜ rounds r ≡ opsFrom (wayOf striped (now (numbers .entry))) o (now (s .entry)) p (count - 1) from so ⌝ }
 {
     let mut i = from;
     let mut z = so;
     let mut odd = false;
     let mut left = count;
     while 1 < left {
-        let t = op_step(o, s, p, i, z);
+        let t = op_step(striped, numbers, o, s, p, i, z);
         match t {
             Rounds::Refused(k) => {
                 return Rounds::Refused(k);
@@ -208,15 +246,32 @@ fn ring_end(p: Point, r: RingRecord, start: I32Point, z: Round) -> Went
 }
 
 // Past the groups after the first, t.
-fn ring_rest(o: Opened, s: &[u8], p: Point, r: RingRecord, t: Turned) -> Went
-    ensures { λ w. ⌜ went w ≡ ringRest o (now (s .entry)) p r t ⌝ }
+fn ring_rest(
+    striped: bool,
+    numbers: &[u32],
+    o: Opened,
+    s: &[u8],
+    p: Point,
+    r: RingRecord,
+    t: Turned,
+) -> Went
+    ensures { λ w. ⌜ went w ≡ ringRest (wayOf striped (now (numbers .entry))) o (now (s .entry)) p r t ⌝ }
 {
     let x = t.exit;
     let so = Round {
         exit: x,
         sum: fields::wide(t.group.points),
     };
-    let w = ops_from(o, s, p, r.count, fields::wide(r.first) + 1, so);
+    let w = ops_from(
+        striped,
+        numbers,
+        o,
+        s,
+        p,
+        r.count,
+        fields::wide(r.first) + 1,
+        so,
+    );
     match w {
         Rounds::Refused(k) => Went::Refused(k),
         Rounds::On => Went::On,
@@ -228,8 +283,8 @@ fn ring_rest(o: Opened, s: &[u8], p: Point, r: RingRecord, t: Turned) -> Went
 }
 
 // Past all groups of a ring, and back to the start.
-fn ring_walk(o: Opened, s: &[u8], p: Point, r: RingRecord) -> Went
-    ensures { λ w. ⌜ went w ≡ ringOf o (now (s .entry)) p r ⌝ }
+fn ring_walk(striped: bool, numbers: &[u32], o: Opened, s: &[u8], p: Point, r: RingRecord) -> Went
+    ensures { λ w. ⌜ went w ≡ ringOf (wayOf striped (now (numbers .entry))) o (now (s .entry)) p r ⌝ }
 {
     let u = leg_at(o, s, fields::wide(r.first));
     match u {
@@ -237,11 +292,11 @@ fn ring_walk(o: Opened, s: &[u8], p: Point, r: RingRecord) -> Went
         LegAt::At(word, at) => {
             let t = turned_in(s, word, at);
             let g = t.group;
-            let w = group_walk(o, s, p, g);
+            let w = group_walk(striped, numbers, o, s, p, t.index, g);
             match w {
                 Went::Refused(k) => Went::Refused(k),
                 Went::On => Went::On,
-                Went::Off(b) => reader_groups::after(b, ring_rest(o, s, p, r, t)),
+                Went::Off(b) => reader_groups::after(b, ring_rest(striped, numbers, o, s, p, r, t)),
             }
         }
     }
@@ -259,8 +314,16 @@ fn verdict_of(edge: bool, w: Went) -> Verdict
 }
 
 // Whether ring `index` contains the point; one on an edge gets `edge`.
-pub fn ring_contains(o: Opened, s: &[u8], p: Point, edge: bool, index: usize) -> Verdict
-    ensures { λ r. ⌜ verdictTold r ≡ ringContains o (now (s .entry)) p edge index ⌝ }
+pub fn ring_contains(
+    striped: bool,
+    numbers: &[u32],
+    o: Opened,
+    s: &[u8],
+    p: Point,
+    edge: bool,
+    index: usize,
+) -> Verdict
+    ensures { λ r. ⌜ verdictTold r ≡ ringContains (wayOf striped (now (numbers .entry))) o (now (s .entry)) p edge index ⌝ }
 {
     let t = reader_records::ring_at(o, s, index);
     match t {
@@ -268,7 +331,7 @@ pub fn ring_contains(o: Opened, s: &[u8], p: Point, edge: bool, index: usize) ->
         RingAt::At(r) => {
             let b = r.bbox;
             if b.contains(p) {
-                verdict_of(edge, ring_walk(o, s, p, r))
+                verdict_of(edge, ring_walk(striped, numbers, o, s, p, r))
             } else {
                 Verdict::Is(false)
             }

@@ -16,8 +16,9 @@ use Rattle.opened.specs.declared.Opened.{Opened}
 use Rattle.reader_records.specs.declared.ListRecord.{ListRecord}
 use Rattle.reader_records.specs.Records.{polyAt, tzAt}
 use Rattle.reader_rings.specs.Rings.{ringContains}
+use Rattle.reader_ways.specs.Ways.{Way}
 use Rattle.plane.specs.Places.{pointOf}
-use Rattle.reader_zones.specs.Zones.{holesOut, polyInside, polyOf, zoneOf, containsAt, firstSo}
+use Rattle.reader_zones.specs.Zones.{holesOut, polyInside, polyOf, zoneBy, containsBy, firstSo}
 
 module _ (f : ℕ → Answer Bool) (found other : Bool) (n i : ℕ) where
   pub seek-end : n ≡ 0 → ok other ≡ firstSo f found other n i
@@ -40,53 +41,53 @@ module _ (f : ℕ → Answer Bool) (found other : Bool) (n i : ℕ) where
     pub seek-on : (b : Bool) → ok b ≡ f i → b ≡ false → firstSo f found other (n - 1) (i + 1) ≡ firstSo f found other n i
     seek-on b e g = rw (seek-one, ← e, g)
 
-module _ (o : Opened) (s : List ℕ) (p : Point) (q : ListRecord) (j : ℕ) (g : j ≡ q .first) where
-  pub inside-no : (r : Refusal) → refused r ≡ ringContains o s p true j → refused r ≡ polyInside o s p q
+module _ (w : Way) (o : Opened) (s : List ℕ) (p : Point) (q : ListRecord) (j : ℕ) (g : j ≡ q .first) where
+  pub inside-no : (r : Refusal) → refused r ≡ ringContains w o s p true j → refused r ≡ polyInside w o s p q
   inside-no r k = rw (← g, ← k)
 
-  pub inside-not : (b : Bool) → ok b ≡ ringContains o s p true j → b ≡ false → ok false ≡ polyInside o s p q
+  pub inside-not : (b : Bool) → ok b ≡ ringContains w o s p true j → b ≡ false → ok false ≡ polyInside w o s p q
   inside-not b k z = rw (← g, ← k, z)
 
-  pub inside-is : (b : Bool) → ok b ≡ ringContains o s p true j → b ≡ true → holesOut o s p (q .count - 1) (j + 1) ≡ polyInside o s p q
+  pub inside-is : (b : Bool) → ok b ≡ ringContains w o s p true j → b ≡ true → holesOut w o s p (q .count - 1) (j + 1) ≡ polyInside w o s p q
   inside-is b k z = rw (← g, ← k, z)
 
-module _ (o : Opened) (s : List ℕ) (p : Point) (i : ℕ) where
-  pub poly-no : (r : Refusal) → refused r ≡ polyAt o s i → refused r ≡ polyOf o s p i
+module _ (w : Way) (o : Opened) (s : List ℕ) (p : Point) (i : ℕ) where
+  pub poly-no : (r : Refusal) → refused r ≡ polyAt o s i → refused r ≡ polyOf w o s p i
   unfolding polyOf
   poly-no r h = rw (← h)
 
   module _ (q : ListRecord) (h : ok q ≡ polyAt o s i) where
-    pub poly-out : contains (q .bbox) p ≡ false → ok false ≡ polyOf o s p i
+    pub poly-out : contains (q .bbox) p ≡ false → ok false ≡ polyOf w o s p i
     unfolding polyOf
     poly-out e = rw (← h, e)
 
-    pub poly-in : contains (q .bbox) p ≡ true → polyInside o s p q ≡ polyOf o s p i
+    pub poly-in : contains (q .bbox) p ≡ true → polyInside w o s p q ≡ polyOf w o s p i
     unfolding polyOf
     poly-in e = rw (← h, e)
 
-  pub zone-no : (r : Refusal) → refused r ≡ tzAt o s i → refused r ≡ zoneOf o s p i
-  unfolding zoneOf
+  pub zone-no : (r : Refusal) → refused r ≡ tzAt o s i → refused r ≡ zoneBy w o s p i
+  unfolding zoneBy
   zone-no r h = rw (← h)
 
   module _ (z : ListRecord) (h : ok z ≡ tzAt o s i) where
-    pub zone-out : contains (z .bbox) p ≡ false → ok false ≡ zoneOf o s p i
-    unfolding zoneOf
+    pub zone-out : contains (z .bbox) p ≡ false → ok false ≡ zoneBy w o s p i
+    unfolding zoneBy
     zone-out e = rw (← h, e)
 
-    pub zone-is : contains (z .bbox) p ≡ true → (j : ℕ) → j ≡ z .first → firstSo (polyOf o s p) true false (z .count) j ≡ zoneOf o s p i
-    unfolding zoneOf
+    pub zone-is : contains (z .bbox) p ≡ true → (j : ℕ) → j ≡ z .first → firstSo (polyOf w o s p) true false (z .count) j ≡ zoneBy w o s p i
+    unfolding zoneBy
     zone-is e j g = rw (← h, e, ← g)
 
-module _ (o : Opened) (s : List ℕ) (zone : ℕ) (q : I32Point) where
-  pub whole-over : o .zones .count ≤ zone → no 45 ≡ containsAt o s zone q
-  unfolding containsAt
+module _ (w : Way) (o : Opened) (s : List ℕ) (zone : ℕ) (q : I32Point) where
+  pub whole-over : o .zones .count ≤ zone → no 45 ≡ containsBy w o s zone q
+  unfolding containsBy
   whole-over h = rw (le-ltb zone (o .zones .count) h)
 
   module _ (h : zone < o .zones .count) where
-    pub whole-off : inDomain q ≡ false → ok false ≡ containsAt o s zone q
-    unfolding containsAt
+    pub whole-off : inDomain q ≡ false → ok false ≡ containsBy w o s zone q
+    unfolding containsBy
     whole-off e = rw (lt-ltb zone (o .zones .count) h, e)
 
-    pub whole-is : inDomain q ≡ true → zoneOf o s (pointOf q) zone ≡ containsAt o s zone q
-    unfolding containsAt
+    pub whole-is : inDomain q ≡ true → zoneBy w o s (pointOf q) zone ≡ containsBy w o s zone q
+    unfolding containsBy
     whole-is e = rw (lt-ltb zone (o .zones .count) h, e)

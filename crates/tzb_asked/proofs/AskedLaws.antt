@@ -15,9 +15,11 @@ use Rattle.reader_records.specs.declared.ChunkRecord.{ChunkRecord}
 use Rattle.reader_records.specs.Records.{chunkAt}
 use Rattle.reader_chunks.specs.Chunks.{decodeIn}
 use Rattle.tzb_record.specs.Layout.{recordOf}
-use Rattle.tzb_asked.specs.Asked.{nameAsked, endsAsked, decodeAsked, listAsked}
+use Rattle.tzb_asked.specs.Asked.{nameAsked, endsAsked, decodeAsked, listAskedBy, stripesAsked}
 use Rattle.tzb_asked.specs.Steps.{chunkCount}
-use Rattle.reader_listing.specs.All.{listOf}
+use Rattle.reader_listing.specs.All.{listBy}
+use Rattle.reader_stripes.specs.Building.{stripesOf}
+use Rattle.reader_ways.specs.Ways.{Way}
 
 -- ---- the record is refused, or the question is asked of it
 module _ {A : Type 0} (b : List ℕ) (f : Opened → Answer A) where
@@ -56,14 +58,23 @@ module _ (b s : List ℕ) (chunk : ℕ) (out : List ℤ) where
   unfolding decodeAsked
   decode-asked o e = rw (← e)
 
-module _ (b s : List ℕ) (lng lat : Float) (places : ℕ) where
-  pub list-barred : (k : Refusal) → refused k ≡ recordOf b → refused k ≡ listAsked b s lng lat places
-  unfolding listAsked
+module _ (w : Way) (b s : List ℕ) (lng lat : Float) (places : ℕ) where
+  pub list-barred : (k : Refusal) → refused k ≡ recordOf b → refused k ≡ listAskedBy w b s lng lat places
+  unfolding listAskedBy
   list-barred k e = rw (← e)
 
-  pub list-asked : (o : Opened) → ok o ≡ recordOf b → listOf o s lng lat places ≡ listAsked b s lng lat places
-  unfolding listAsked
+  pub list-asked : (o : Opened) → ok o ≡ recordOf b → listBy w o s lng lat places ≡ listAskedBy w b s lng lat places
+  unfolding listAskedBy
   list-asked o e = rw (← e)
+
+module _ (b s : List ℕ) (room : ℕ) where
+  pub stripes-barred : (k : Refusal) → refused k ≡ recordOf b → refused k ≡ stripesAsked b s room
+  unfolding stripesAsked
+  stripes-barred k e = rw (← e)
+
+  pub stripes-asked : (o : Opened) → ok o ≡ recordOf b → stripesOf o s room ≡ stripesAsked b s room
+  unfolding stripesAsked
+  stripes-asked o e = rw (← e)
 
 module _ (o : Opened) (s : List ℕ) (i : ℕ) where
   pub count-no : (k : Refusal) → refused k ≡ chunkAt o s i → 0 ≡ chunkCount o s i

@@ -6,11 +6,13 @@ use Rattle.tzb_asked.proofs.name_bounds.Reads as name-bounds-reads
 use Rattle.tzb_asked.proofs.name_ends.Reads as name-ends-reads
 use Rattle.tzb_asked.proofs.candidates.Reads as candidates-reads
 use Rattle.tzb_asked.proofs.candidate_at.Reads as candidate-at-reads
-use Rattle.tzb_asked.proofs.contains.Reads as contains-reads
+use Rattle.tzb_asked.proofs.contains_by.Reads as contains-by-reads
 use Rattle.tzb_asked.proofs.decode.Reads as decode-reads
-use Rattle.tzb_asked.proofs.lookup.Reads as lookup-reads
-use Rattle.tzb_asked.proofs.lookup_into.Reads as lookup-into-reads
-use Rattle.replies.proofs.One.{one-bounds, one-choice, one-candidate, one-verdict, one-found, one-listing, one-count}
+use Rattle.tzb_asked.proofs.lookup_by.Reads as lookup-by-reads
+use Rattle.tzb_asked.proofs.lookup_into_by.Reads as lookup-into-by-reads
+use Rattle.tzb_asked.proofs.stripes_need.Reads as stripes-need-reads
+use Rattle.tzb_asked.proofs.stripes.Reads as stripes-reads
+use Rattle.replies.proofs.One.{one-bounds, one-choice, one-candidate, one-verdict, one-found, one-listing, one-count, one-needed}
 use Rattle.answer.proofs.AnswersLaws.{checked-one}
 
 pub name-bounds : Determined name-bounds-reads.Learnt
@@ -29,8 +31,8 @@ candidates κ a r r' e e' p q = one-choice r r' _ p q
 pub candidate-at : Determined candidate-at-reads.Learnt
 candidate-at κ a r r' e e' p q = one-candidate r r' _ p q
 
-pub contains : Determined contains-reads.Learnt
-contains κ a r r' e e' p q = one-verdict r r' _ p q
+pub contains-by : Determined contains-by-reads.Learnt
+contains-by κ a r r' e e' p q = one-verdict r r' _ p q
 
 pub decode : Determined decode-reads.Learnt
 decode κ a r r' e e' p q = one-count r r' _ (p .0) (q .0)
@@ -39,12 +41,22 @@ decode κ a r r' e e' p q = one-count r r' _ (p .0) (q .0)
 pub decode-memory : DeterminedMemory decode-reads.Learnt (λ κ e. e .1 .1 .1 .0 .now)
 decode-memory κ a r r' e e' p q = p .1 ∙ sym (q .1)
 
-pub lookup : Determined lookup-reads.Learnt
-lookup κ a r r' e e' p q = one-found r r' _ p q
+pub lookup-by : Determined lookup-by-reads.Learnt
+lookup-by κ a r r' e e' p q = one-found r r' _ p q
 
-pub lookup-into : Determined lookup-into-reads.Learnt
-lookup-into κ a r r' e e' p q = one-listing r r' _ (p .0) (q .0)
+pub lookup-into-by : Determined lookup-into-by-reads.Learnt
+lookup-into-by κ a r r' e e' p q = one-listing r r' _ (p .0) (q .0)
 
 -- the lent places at exit
-pub lookup-into-memory : DeterminedMemory lookup-into-reads.Learnt (λ κ e. e .1 .1 .1 .1 .0 .now)
-lookup-into-memory κ a r r' e e' p q = p .1 ∙ sym (q .1)
+pub lookup-into-by-memory : DeterminedMemory lookup-into-by-reads.Learnt (λ κ e. e .1 .1 .1 .1 .1 .1 .0 .now)
+lookup-into-by-memory κ a r r' e e' p q = p .1 ∙ sym (q .1)
+
+pub stripes-need : Determined stripes-need-reads.Learnt
+stripes-need κ a r r' e e' p q = one-needed r r' _ p q
+
+pub stripes : Determined stripes-reads.Learnt
+stripes κ a r r' e e' p q = one-needed r r' _ (p .0) (q .0)
+
+-- the lent numbers at exit
+pub stripes-memory : DeterminedMemory stripes-reads.Learnt (λ κ e. e .1 .1 .0 .now)
+stripes-memory κ a r r' e e' p q = p .1 ∙ sym (q .1)

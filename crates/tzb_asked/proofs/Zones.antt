@@ -1,4 +1,4 @@
--- A zone that a lookup gives is one of the record's: its number is below the zone count. For any record and any bytes.
+-- A zone that a lookup gives is one of the record's: its number is below the zone count. For any record, any bytes and either way of walking.
 -- Assumes nothing.
 use Prim.Native.Nat.{ℕ, zero, suc, _+_, _*_, _%_, _<_}
 use native.Mathlib.Omega.{arith}
@@ -15,8 +15,9 @@ use Rattle.fields.specs.Loads.{loadAt}
 use Rattle.opened.specs.declared.Grid.{Grid}
 use Rattle.opened.specs.declared.Opened.{Opened}
 use Rattle.reader_cells.specs.Asked.{onEarth, inGrid, read, cellOf, cellCandidates, candidatesOf, candidatePlace, zoneBelow, candidateAt}
-use Rattle.reader_zones.specs.Zones.{zoneOf}
-use Rattle.reader_lookup.specs.Asking.{orElse, candidateOf, hitAt, firstHit, unlooked, scaled, lookupAmong, lookupOf}
+use Rattle.reader_zones.specs.Zones.{zoneBy}
+use Rattle.reader_ways.specs.Ways.{Way}
+use Rattle.reader_lookup.specs.Asking.{orElse, candidateOf, hitAt, firstHit, unlooked, scaled, lookupAmong, lookupBy}
 use Rattle.replies.specs.Replies.{Chosen, none, all, listed, Sought, nowhere, inZone}
 use Rattle.answer.proofs.AnswersLaws.{zero-one, then-inv, need-inv, ok-inv}
 
@@ -52,17 +53,17 @@ module _ (n : ℕ) where
   all-of o s lng lat e = all-zones (o .zones .count) (same (o .flags % 2) 0) _ (not-cell s (o .grid) _ _) (not-none (onEarth lng lat) _ e)
 
 -- ---- a candidate that contains the point
-module _ (zone : ℕ) where
+module _ (w : Way) (zone : ℕ) where
   -- what is found is what was asked for
   found-is : (b : Bool) (z : ℕ) → inZone zone ≡ cond b (inZone z) nowhere → zone ≡ z
   found-is true z e = cc
   found-is false z e = let z : _≡_ {A = ℕ} 0 1 = cc in absurd (zero-one z)
 
-  hit-is : (o : Opened) (s : List ℕ) (p : Point) (grid : Bool) (place : ℕ) → ok (inZone zone) ≡ hitAt o s p grid place → ok zone ≡ candidateOf o s grid place
+  hit-is : (o : Opened) (s : List ℕ) (p : Point) (grid : Bool) (place : ℕ) → ok (inZone zone) ≡ hitAt w o s p grid place → ok zone ≡ candidateOf o s grid place
   unfolding hitAt
   hit-is o s p grid place e =
-      let t = then-inv (candidateOf o s grid place) (λ z. zoneOf o s p z then λ b. ok (cond b (inZone z) nowhere)) (inZone zone) e in
-      let u = then-inv (zoneOf o s p (t .0)) (λ b. ok (cond b (inZone (t .0)) nowhere)) (inZone zone) (t .2) in
+      let t = then-inv (candidateOf o s grid place) (λ z. zoneBy w o s p z then λ b. ok (cond b (inZone z) nowhere)) (inZone zone) e in
+      let u = then-inv (zoneBy w o s p (t .0)) (λ b. ok (cond b (inZone (t .0)) nowhere)) (inZone zone) (t .2) in
       ap ok (found-is (u .0) (t .0) (ok-inv _ _ (u .2))) ∙ t .1
 
   -- the first that does so stands at one of the places
@@ -79,16 +80,16 @@ module _ (zone : ℕ) where
       by (inZone z) h e later = (i, omega arith, e ∙ h)
 
   module _ (o : Opened) (s : List ℕ) (p : Point) where
-    first-zone : (n : ℕ) → n ≡ o .zones .count → ok (inZone zone) ≡ firstHit (hitAt o s p false) n 0 → zone < o .zones .count
+    first-zone : (n : ℕ) → n ≡ o .zones .count → ok (inZone zone) ≡ firstHit (hitAt w o s p false) n 0 → zone < o .zones .count
     unfolding candidateOf
     first-zone n h e =
-        let r = first-is (hitAt o s p false) n 0 e in
+        let r = first-is (hitAt w o s p false) n 0 e in
         omega (arith, r .1, h, ok-inv _ _ (hit-is o s p false (r .0) (r .2)))
 
-    first-listed : (n place : ℕ) → ok (inZone zone) ≡ firstHit (hitAt o s p true) n place → zone < o .zones .count
+    first-listed : (n place : ℕ) → ok (inZone zone) ≡ firstHit (hitAt w o s p true) n place → zone < o .zones .count
     unfolding candidateOf
     first-listed n place e =
-        let r = first-is (hitAt o s p true) n place e in
+        let r = first-is (hitAt w o s p true) n place e in
         listed-below o s (r .0) zone (hit-is o s p true (r .0) (r .2))
 
   -- ---- the whole
@@ -99,18 +100,18 @@ module _ (zone : ℕ) where
         let same-zone : zone ≡ t .0 = found-is true (t .0) (ok-inv _ _ (t .2)) in
         omega (arith, listed-below o s place (t .0) (t .1), same-zone)
 
-    among-below : (c : Chosen) → ok c ≡ candidatesOf o s lng lat → ok (inZone zone) ≡ lookupAmong o s lng lat c → zone < o .zones .count
+    among-below : (c : Chosen) → ok c ≡ candidatesOf o s lng lat → ok (inZone zone) ≡ lookupAmong w o s lng lat c → zone < o .zones .count
     unfolding lookupAmong
     among-below none h e = let z : _≡_ {A = ℕ} 0 1 = cc in absurd (zero-one z)
     among-below (all n) h e = first-zone o s (scaled lng lat) n (all-of n o s lng lat h) e
     among-below (listed n place) h e = by (unlooked o n lng lat) e
       where
-        by : (b : Bool) → ok (inZone zone) ≡ cond b (candidateAt o s place then λ z. ok (inZone z)) (firstHit (hitAt o s (scaled lng lat) true) n place) → zone < o .zones .count
+        by : (b : Bool) → ok (inZone zone) ≡ cond b (candidateAt o s place then λ z. ok (inZone z)) (firstHit (hitAt w o s (scaled lng lat) true) n place) → zone < o .zones .count
         by true e = unlooked-below place e
         by false e = first-listed o s (scaled lng lat) n place e
 
-    pub found-below : ok (inZone zone) ≡ lookupOf o s lng lat → zone < o .zones .count
-    unfolding lookupOf
+    pub found-below : ok (inZone zone) ≡ lookupBy w o s lng lat → zone < o .zones .count
+    unfolding lookupBy
     found-below e =
-        let t = then-inv (candidatesOf o s lng lat) (lookupAmong o s lng lat) (inZone zone) e in
+        let t = then-inv (candidatesOf o s lng lat) (lookupAmong w o s lng lat) (inZone zone) e in
         among-below (t .0) (t .1) (t .2)

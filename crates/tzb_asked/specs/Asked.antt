@@ -11,11 +11,13 @@ use Rattle.answer.specs.Answers.{left, Answer, ok, need, _then_}
 use Rattle.reader_named.specs.Asked as N
 use Rattle.reader_cells.specs.Asked as G
 use Rattle.reader_chunks.specs.Chunks.{decodeIn}
-use Rattle.reader_zones.specs.Zones.{containsAt}
-use Rattle.reader_lookup.specs.Asking.{lookupOf}
+use Rattle.reader_zones.specs.Zones.{containsBy}
+use Rattle.reader_lookup.specs.Asking.{lookupBy}
 use Rattle.tzb_record.specs.Layout.{recordOf}
 use Rattle.replies.specs.Replies.{Chosen, Sought}
-use Rattle.reader_listing.specs.All.{listOf}
+use Rattle.reader_listing.specs.All.{listBy}
+use Rattle.reader_stripes.specs.Building.{stripesNeed, stripesOf}
+use Rattle.reader_ways.specs.Ways.{Way, plain}
 
 -- ---- questions
 -- how many zones
@@ -42,18 +44,34 @@ choiceAsked b s lng lat = recordOf b then λ o. G.candidatesOf o s lng lat
 unfoldable pub candidateAsked : List ℕ → List ℕ → ℕ → Answer ℕ
 candidateAsked b s place = recordOf b then λ o. G.candidateAt o s place
 
--- whether a zone contains a point of whole numbers
-unfoldable pub containsAsked : List ℕ → List ℕ → ℕ → I32Point → Answer Bool
-containsAsked b s zone q = recordOf b then λ o. containsAt o s zone q
+-- whether a zone contains a point of whole numbers, walked plainly or by stripes
+unfoldable pub containsAskedBy : Way → List ℕ → List ℕ → ℕ → I32Point → Answer Bool
+containsAskedBy w b s zone q = recordOf b then λ o. containsBy w o s zone q
+
+abbrev pub containsAsked : List ℕ → List ℕ → ℕ → I32Point → Answer Bool
+containsAsked b s zone q = containsAskedBy plain b s zone q
 
 -- the points of a chunk, into lent numbers
 unfoldable pub decodeAsked : List ℕ → List ℕ → ℕ → List ℤ → Answer (List I32Point)
 decodeAsked b s chunk out = recordOf b then λ o. decodeIn o s chunk out
 
 -- the zone that a position lies in
-unfoldable pub lookupAsked : List ℕ → List ℕ → Float → Float → Answer Sought
-lookupAsked b s lng lat = recordOf b then λ o. lookupOf o s lng lat
+unfoldable pub lookupAskedBy : Way → List ℕ → List ℕ → Float → Float → Answer Sought
+lookupAskedBy w b s lng lat = recordOf b then λ o. lookupBy w o s lng lat
+
+abbrev pub lookupAsked : List ℕ → List ℕ → Float → Float → Answer Sought
+lookupAsked b s lng lat = lookupAskedBy plain b s lng lat
 
 -- all zones that it lies in, in the order of their names, into that many places
-unfoldable pub listAsked : List ℕ → List ℕ → Float → Float → ℕ → Answer (List ℕ)
-listAsked b s lng lat places = recordOf b then λ o. listOf o s lng lat places
+unfoldable pub listAskedBy : Way → List ℕ → List ℕ → Float → Float → ℕ → Answer (List ℕ)
+listAskedBy w b s lng lat places = recordOf b then λ o. listBy w o s lng lat places
+
+abbrev pub listAsked : List ℕ → List ℕ → Float → Float → ℕ → Answer (List ℕ)
+listAsked b s lng lat places = listAskedBy plain b s lng lat places
+
+-- how many numbers the stripes take, and the stripes in that much room
+unfoldable pub needAsked : List ℕ → List ℕ → Answer ℕ
+needAsked b s = recordOf b then λ o. stripesNeed o s
+
+unfoldable pub stripesAsked : List ℕ → List ℕ → ℕ → Answer (List ℕ)
+stripesAsked b s room = recordOf b then λ o. stripesOf o s room

@@ -4,9 +4,10 @@ ghost use lib.ListN.{length};
 ghost use Rattle.answer.specs.Answers.{checkedTold, outcome, left, howMany};
 ghost use Rattle.chunks.specs.Decode.{filled};
 ghost use Rattle.reader_chunks.specs.Chunks.{decodeIn};
-ghost use Rattle.tzb_asked.specs.Asked.{nameAsked, endsAsked, endsAfter, choiceAsked, candidateAsked, containsAsked, decodeAsked, lookupAsked, listAsked};
+ghost use Rattle.tzb_asked.specs.Asked.{nameAsked, endsAsked, endsAfter, choiceAsked, candidateAsked, containsAskedBy, decodeAsked, lookupAskedBy, listAskedBy, needAsked, stripesAsked};
+ghost use Rattle.reader_ways.specs.Ways.{wayOf};
 ghost use Rattle.plane.specs.Places.{point};
-ghost use Rattle.replies.specs.Replies.{boundsTold, choiceTold, candidateTold, verdictTold, countTold, foundTold, listingTold};
+ghost use Rattle.replies.specs.Replies.{boundsTold, choiceTold, candidateTold, verdictTold, countTold, foundTold, listingTold, neededTold};
 ghost use Rattle.tzb_asked.specs.Steps.{chunkCount};
 use answer::Checked;
 use opened::Opened;
@@ -17,6 +18,7 @@ use replies::Choice;
 use replies::Count;
 use replies::Found;
 use replies::Listing;
+use replies::Needed;
 use replies::Verdict;
 use tzb_record::RecordRead;
 
@@ -72,14 +74,22 @@ pub fn candidate_at(record: &[u8], file: &[u8], place: u32) -> Candidate
     }
 }
 
-// Whether the zone contains the point of whole numbers.
-pub fn contains(record: &[u8], file: &[u8], zone: u32, x: i32, y: i32) -> Verdict
-    ensures { λ r. ⌜ verdictTold r ≡ containsAsked (now («record» .entry)) (now (file .entry)) zone (point x y) ⌝ }
+// Whether the zone contains the point of whole numbers, walked plainly or by the stripes that the numbers say.
+pub fn contains_by(
+    striped: bool,
+    numbers: &[u32],
+    record: &[u8],
+    file: &[u8],
+    zone: u32,
+    x: i32,
+    y: i32,
+) -> Verdict
+    ensures { λ r. ⌜ verdictTold r ≡ containsAskedBy (wayOf striped (now (numbers .entry))) (now («record» .entry)) (now (file .entry)) zone (point x y) ⌝ }
 {
     let a = tzb_record::read_record(record);
     match a {
         RecordRead::Refused(k) => Verdict::Refused(k),
-        RecordRead::Is(o) => reader_zones::contains(o, file, zone, x, y),
+        RecordRead::Is(o) => reader_zones::contains_by(striped, numbers, o, file, zone, x, y),
     }
 }
 
@@ -120,24 +130,70 @@ pub fn decode(record: &[u8], file: &[u8], chunk: u32, out: &mut [i32]) -> Count
 }
 
 // The zone that a position lies in.
-pub fn lookup(record: &[u8], file: &[u8], lng: f64, lat: f64) -> Found
-    ensures { λ r. ⌜ foundTold r ≡ lookupAsked (now («record» .entry)) (now (file .entry)) lng lat ⌝ }
+pub fn lookup_by(
+    striped: bool,
+    numbers: &[u32],
+    record: &[u8],
+    file: &[u8],
+    lng: f64,
+    lat: f64,
+) -> Found
+    ensures { λ r. ⌜ foundTold r ≡ lookupAskedBy (wayOf striped (now (numbers .entry))) (now («record» .entry)) (now (file .entry)) lng lat ⌝ }
 {
     let a = tzb_record::read_record(record);
     match a {
         RecordRead::Refused(k) => Found::Refused(k),
-        RecordRead::Is(o) => reader_lookup::lookup(o, file, lng, lat),
+        RecordRead::Is(o) => reader_lookup::lookup_by(striped, numbers, o, file, lng, lat),
     }
 }
 
 // All zones that a position lies in, in the order of their names, into the first places of `zones`: how many there are. A refusal leaves the lent places as they were, and those behind the zones are never touched.
-pub fn lookup_into(record: &[u8], file: &[u8], lng: f64, lat: f64, zones: &mut [u32]) -> Listing
-    ensures { λ r. ⌜ listingTold r ≡ howMany (listAsked (now («record» .entry)) (now (file .entry)) lng lat (length (now (zones .entry)))) ⌝ }
-    ensures memory { λ r. ⌜ now (zones .exit) ≡ left (now (zones .entry)) (listAsked (now («record» .entry)) (now (file .entry)) lng lat (length (now (zones .entry)))) ⌝ }
+pub fn lookup_into_by(
+    striped: bool,
+    numbers: &[u32],
+    record: &[u8],
+    file: &[u8],
+    lng: f64,
+    lat: f64,
+    zones: &mut [u32],
+) -> Listing
+    ensures { λ r. ⌜ listingTold r ≡ howMany (listAskedBy (wayOf striped (now (numbers .entry))) (now («record» .entry)) (now (file .entry)) lng lat (length (now (zones .entry)))) ⌝ }
+    ensures memory { λ r. ⌜ now (zones .exit) ≡ left (now (zones .entry)) (listAskedBy (wayOf striped (now (numbers .entry))) (now («record» .entry)) (now (file .entry)) lng lat (length (now (zones .entry)))) ⌝ }
 {
     let a = tzb_record::read_record(record);
     match a {
         RecordRead::Refused(k) => Listing::Refused(k),
-        RecordRead::Is(o) => reader_listing::lookup_into(o, file, lng, lat, zones),
+        RecordRead::Is(o) => reader_listing::lookup_into_by(
+            striped,
+            numbers,
+            o,
+            file,
+            lng,
+            lat,
+            zones,
+        ),
+    }
+}
+
+// How many numbers the stripes of the file take.
+pub fn stripes_need(record: &[u8], file: &[u8]) -> Needed
+    ensures { λ r. ⌜ neededTold r ≡ needAsked (now («record» .entry)) (now (file .entry)) ⌝ }
+{
+    let a = tzb_record::read_record(record);
+    match a {
+        RecordRead::Refused(k) => Needed::Refused(k),
+        RecordRead::Is(o) => reader_stripes::stripes_need(o, file),
+    }
+}
+
+// The stripes into lent numbers: how many were written. A refusal leaves the lent numbers as they were, and those behind the stripes are never touched.
+pub fn stripes(record: &[u8], file: &[u8], numbers: &mut [u32]) -> Needed
+    ensures { λ r. ⌜ neededTold r ≡ howMany (stripesAsked (now («record» .entry)) (now (file .entry)) (length (now (numbers .entry)))) ⌝ }
+    ensures memory { λ r. ⌜ now (numbers .exit) ≡ left (now (numbers .entry)) (stripesAsked (now («record» .entry)) (now (file .entry)) (length (now (numbers .entry)))) ⌝ }
+{
+    let a = tzb_record::read_record(record);
+    match a {
+        RecordRead::Refused(k) => Needed::Refused(k),
+        RecordRead::Is(o) => reader_stripes::stripes(o, file, numbers),
     }
 }

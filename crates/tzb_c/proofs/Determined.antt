@@ -24,6 +24,11 @@ use Rattle.tzb_c.proofs.tzb_decode.Reads as decode-reads
 use Rattle.tzb_c.proofs.tzb_lookup.Reads as lookup-reads
 use Rattle.tzb_c.proofs.tzb_ask.Reads as ask-reads
 use Rattle.tzb_c.proofs.tzb_ask_all.Reads as ask-all-reads
+use Rattle.tzb_c.proofs.tzb_stripes_need.Reads as stripes-need-reads
+use Rattle.tzb_c.proofs.tzb_stripes.Reads as stripes-reads
+use Rattle.tzb_c.proofs.tzb_contains_striped.Reads as contains-striped-reads
+use Rattle.tzb_c.proofs.tzb_ask_striped.Reads as ask-striped-reads
+use Rattle.tzb_c.proofs.tzb_ask_all_striped.Reads as ask-all-striped-reads
 use Rattle.tzb_c.proofs.tzb_full_check.Reads as full-check-reads
 use Rattle.tzb_c.proofs.tzb_full_check_rule.Reads as full-check-rule-reads
 use Rattle.tzb_c.proofs.tzb_map.Reads as map-reads
@@ -83,6 +88,30 @@ ask-all κ a r r' e e' p q = p .0 ∙ sym (q .0)
 -- the lent places at exit
 pub ask-all-memory : DeterminedMemory ask-all-reads.Learnt (λ κ e. e .1 .1 .1 .1 .0 .now)
 ask-all-memory κ a r r' e e' p q = p .1 ∙ sym (q .1)
+
+-- stripes
+pub stripes-need : Determined stripes-need-reads.Learnt
+stripes-need κ a r r' e e' p q = p ∙ sym q
+
+pub stripes : Determined stripes-reads.Learnt
+stripes κ a r r' e e' p q = p .0 ∙ sym (q .0)
+
+-- the lent numbers at exit
+pub stripes-memory : DeterminedMemory stripes-reads.Learnt (λ κ e. e .1 .1 .0 .now)
+stripes-memory κ a r r' e e' p q = p .1 ∙ sym (q .1)
+
+pub contains-striped : Determined contains-striped-reads.Learnt
+contains-striped κ a r r' e e' p q = p ∙ sym q
+
+pub ask-striped : Determined ask-striped-reads.Learnt
+ask-striped κ a r r' e e' p q = p ∙ sym q
+
+pub ask-all-striped : Determined ask-all-striped-reads.Learnt
+ask-all-striped κ a r r' e e' p q = p .0 ∙ sym (q .0)
+
+-- the lent places at exit
+pub ask-all-striped-memory : DeterminedMemory ask-all-striped-reads.Learnt (λ κ e. e .1 .1 .1 .1 .1 .0 .now)
+ask-all-striped-memory κ a r r' e e' p q = p .1 ∙ sym (q .1)
 
 pub full-check : Determined full-check-reads.Learnt
 full-check κ a r r' e e' p q = p ∙ sym q

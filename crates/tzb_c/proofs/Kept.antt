@@ -15,7 +15,8 @@ use Rattle.tzb_record.specs.Layout.{recordWide, recordOf, Held}
 use Rattle.tzb_record.proofs.RoundTrip.{written-back}
 use Rattle.tzb.specs.Opening.{openOf}
 use Rattle.tzb.proofs.Given.{opened-is, zones-few}
-use Rattle.tzb_asked.specs.Asked.{nameAsked, lookupAsked}
+use Rattle.reader_ways.specs.Ways.{plain}
+use Rattle.tzb_asked.specs.Asked.{nameAsked, lookupAsked, lookupAskedBy}
 use Rattle.tzb_asked.proofs.Zones.{found-below}
 use Rattle.tzb_c.specs.Opens.{openInto, lookupOnce}
 use Rattle.replies.specs.Replies.{inZone}
@@ -44,7 +45,7 @@ module _ (s room : List ℕ) (byte : (i : ℕ) → getD s i 0 < 256) (o : Opened
 
   -- and the zone of a position is that of opening and asking at once
   pub lookup-kept : (lng lat : Float) → lookupAsked (take recordWide (left room (openInto s room))) s lng lat ≡ lookupOnce s lng lat
-  unfolding lookupAsked lookupOnce
+  unfolding lookupAskedBy lookupOnce
   lookup-kept lng lat = asked-once (λ o. lookupOf o s lng lat)
 
 -- a zone of a file that was opened has a number below 65,535
@@ -52,4 +53,4 @@ pub once-small : (s : List ℕ) (lng lat : Float) (zone : ℕ) → ok (inZone zo
 unfolding lookupOnce
 once-small s lng lat zone e =
     let t = then-inv (openOf s) (λ o. lookupOf o s lng lat) (inZone zone) e in
-    omega (arith, found-below zone (t .0) s lng lat (t .2), zones-few s (t .0) (t .1))
+    omega (arith, found-below plain zone (t .0) s lng lat (t .2), zones-few s (t .0) (t .1))

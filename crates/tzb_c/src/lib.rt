@@ -10,8 +10,9 @@ ghost use Rattle.rays.specs.Ray.{rayOf, parityOf};
 ghost use Rattle.varints.specs.Varint.{numberAt};
 ghost use Rattle.chunks.specs.Decode.{filled};
 ghost use Rattle.tzb.specs.FullCheck.{fullCheckOf};
-ghost use Rattle.tzb_asked.specs.Asked.{zonesAsked, nameAsked, endsAsked, endsAfter, choiceAsked, candidateAsked, containsAsked, decodeAsked, lookupAsked, listAsked};
-ghost use Rattle.tzb_codes.specs.Codes.{bitOf, doneCode, kindCode, listedOf, insideCode, zoneCode, checkCode, ruleOf, drawnCode, seenCode, numberCode, startCode, endCode};
+ghost use Rattle.tzb_asked.specs.Asked.{zonesAsked, nameAsked, endsAsked, endsAfter, choiceAsked, candidateAsked, containsAsked, decodeAsked, lookupAsked, listAsked, containsAskedBy, lookupAskedBy, listAskedBy, needAsked, stripesAsked};
+ghost use Rattle.reader_ways.specs.Ways.{striped, wayOf};
+ghost use Rattle.tzb_codes.specs.Codes.{bitOf, doneCode, kindCode, listedOf, insideCode, zoneCode, checkCode, ruleOf, neededCode, drawnCode, seenCode, numberCode, startCode, endCode};
 ghost use Rattle.tzb_map.specs.Map.{mapOf, mapIn, howLong, asAnswer};
 ghost use Rattle.tzb_c.specs.Opens.{openInto, lookupOnce};
 ghost use Rattle.tzb_c.specs.Exports.{numberOf, lengthFrom, boxOf};
@@ -129,7 +130,8 @@ pub extern "C" fn tzb_candidate(record: &[u8], file: &[u8], place: u32) -> i64
 pub extern "C" fn tzb_contains(record: &[u8], file: &[u8], zone: u32, x: i32, y: i32) -> i32
     ensures { λ r. ⌜ r ≡ insideCode (containsAsked (now («record» .entry)) (now (file .entry)) zone (point x y)) ⌝ }
 {
-    tzb_codes::inside_code(tzb_asked::contains(record, file, zone, x, y))
+    let none = [0u32; 0];
+    tzb_codes::inside_code(tzb_asked::contains_by(false, &none, record, file, zone, x, y))
 }
 
 // The points of a chunk into lent numbers, two a point: how many points, or -1000 - n for refusal n, and then nothing is written.
@@ -173,7 +175,28 @@ pub extern "C" fn tzb_lookup(file: &[u8], lng: f64, lat: f64) -> i32
 pub extern "C" fn tzb_ask(record: &[u8], file: &[u8], lng: f64, lat: f64) -> i64
     ensures { λ r. ⌜ r ≡ zoneCode (lookupAsked (now («record» .entry)) (now (file .entry)) lng lat) ⌝ }
 {
-    tzb_codes::zone_code(tzb_asked::lookup(record, file, lng, lat))
+    let none = [0u32; 0];
+    tzb_codes::zone_code(tzb_asked::lookup_by(false, &none, record, file, lng, lat))
+}
+
+// All zones of a position, walked plainly or by stripes: how many there are, as a number.
+fn ask_all_by(
+    way: bool,
+    numbers: &[u32],
+    record: &[u8],
+    file: &[u8],
+    lng: f64,
+    lat: f64,
+    zones: &mut [u32],
+) -> i64
+    ensures { λ r. ⌜ r ≡ numberCode (howMany (listAskedBy (wayOf way (now (numbers .entry))) (now («record» .entry)) (now (file .entry)) lng lat (length (now (zones .entry))))) ⌝ }
+    ensures memory { λ r. ⌜ now (zones .exit) ≡ left (now (zones .entry)) (listAskedBy (wayOf way (now (numbers .entry))) (now («record» .entry)) (now (file .entry)) lng lat (length (now (zones .entry)))) ⌝ }
+{
+    let a = tzb_asked::lookup_into_by(way, numbers, record, file, lng, lat, zones);
+    match a {
+        Listing::Refused(k) => tzb_codes::refusal_code64(k),
+        Listing::Zones(n) => n as i64,
+    }
 }
 
 // All zones that a position lies in, in the order of their names, into lent places: how many there are, or -1000 - n for refusal n, and then nothing is written.
@@ -188,12 +211,75 @@ pub extern "C" fn tzb_ask_all(
     ensures { λ r. ⌜ r ≡ numberCode (howMany (listAsked (now («record» .entry)) (now (file .entry)) lng lat (length (now (zones .entry))))) ⌝ }
     ensures memory { λ r. ⌜ now (zones .exit) ≡ left (now (zones .entry)) (listAsked (now («record» .entry)) (now (file .entry)) lng lat (length (now (zones .entry)))) ⌝ }
 {
-    let a = tzb_asked::lookup_into(record, file, lng, lat, zones);
-    match a {
-        Listing::Refused(k) => tzb_codes::refusal_code64(k),
-        Listing::Zones(n) => n as i64,
-    }
+    let none = [0u32; 0];
+    ask_all_by(false, &none, record, file, lng, lat, zones)
 }
+
+// ---- stripes
+
+// How many numbers the stripes of the file take, or -1000 - n for refusal n: 49 where, in a group of two chunks or more, a chunk's box leaves the group's in y.
+#[no_mangle]
+pub extern "C" fn tzb_stripes_need(record: &[u8], file: &[u8]) -> i64
+    ensures { λ r. ⌜ r ≡ neededCode (needAsked (now («record» .entry)) (now (file .entry))) ⌝ }
+{
+    tzb_codes::needed_code(tzb_asked::stripes_need(record, file))
+}
+
+// The stripes of the file into lent numbers: how many were written, or -1000 - n for refusal n, and then nothing is written. The refusals of the need come first, then 46 where there is no room.
+#[no_mangle]
+pub extern "C" fn tzb_stripes(record: &[u8], file: &[u8], numbers: &mut [u32]) -> i64
+    ensures { λ r. ⌜ r ≡ neededCode (howMany (stripesAsked (now («record» .entry)) (now (file .entry)) (length (now (numbers .entry))))) ⌝ }
+    ensures memory { λ r. ⌜ now (numbers .exit) ≡ left (now (numbers .entry)) (stripesAsked (now («record» .entry)) (now (file .entry)) (length (now (numbers .entry)))) ⌝ }
+{
+    tzb_codes::needed_code(tzb_asked::stripes(record, file, numbers))
+}
+
+// The same as tzb_contains, by stripes: what tzb_contains answers, where the numbers are those of this record and this file. Of other numbers 44 for a place past them, 34 for a chunk outside its group or a height of 0.
+#[no_mangle]
+pub extern "C" fn tzb_contains_striped(
+    record: &[u8],
+    numbers: &[u32],
+    file: &[u8],
+    zone: u32,
+    x: i32,
+    y: i32,
+) -> i32
+    ensures { λ r. ⌜ r ≡ insideCode (containsAskedBy (striped (now (numbers .entry))) (now («record» .entry)) (now (file .entry)) zone (point x y)) ⌝ }
+{
+    tzb_codes::inside_code(tzb_asked::contains_by(true, numbers, record, file, zone, x, y))
+}
+
+// The same as tzb_ask, by stripes.
+#[no_mangle]
+pub extern "C" fn tzb_ask_striped(
+    record: &[u8],
+    numbers: &[u32],
+    file: &[u8],
+    lng: f64,
+    lat: f64,
+) -> i64
+    ensures { λ r. ⌜ r ≡ zoneCode (lookupAskedBy (striped (now (numbers .entry))) (now («record» .entry)) (now (file .entry)) lng lat) ⌝ }
+{
+    tzb_codes::zone_code(tzb_asked::lookup_by(true, numbers, record, file, lng, lat))
+}
+
+// The same as tzb_ask_all, by stripes.
+#[no_mangle]
+pub extern "C" fn tzb_ask_all_striped(
+    record: &[u8],
+    numbers: &[u32],
+    file: &[u8],
+    lng: f64,
+    lat: f64,
+    zones: &mut [u32],
+) -> i64
+    ensures { λ r. ⌜ r ≡ numberCode (howMany (listAskedBy (striped (now (numbers .entry))) (now («record» .entry)) (now (file .entry)) lng lat (length (now (zones .entry))))) ⌝ }
+    ensures memory { λ r. ⌜ now (zones .exit) ≡ left (now (zones .entry)) (listAskedBy (striped (now (numbers .entry))) (now («record» .entry)) (now (file .entry)) lng lat (length (now (zones .entry)))) ⌝ }
+{
+    ask_all_by(true, numbers, record, file, lng, lat, zones)
+}
+
+// ---- the full check
 
 // Checks F1 to F6 over the whole file: 0 where it is accepted; -1000 - n for opening's refusal n; -1047 where another rule is broken. Of an accepted file no question is refused but for a number that is too large, a place of the candidate list that no cell lists, or room that is too short.
 #[no_mangle]

@@ -6,8 +6,7 @@ use mathlib.Core.Path.{_≡_, refl, ap}
 use lib.IntN.{pos, negsuc}
 use Rattle.answer.specs.declared.Refusal.{Refusal}
 use Rattle.answer.specs.Answers.{Answer, ok, refused, outcome}
-use Rattle.tzb_codes.specs.Codes.{refusalCode, doneCode, numberCode, startCode, endCode, drawnCode}
-use Rattle.replies.specs.Replies.{drawn}
+use Rattle.tzb_codes.specs.Codes.{refusalCode, doneCode, numberCode, startCode, endCode, wholeCode}
 
 module _ (r : Refusal) where
   pub code-small : r .number < 1000 → negsuc (999 + r .number) ≡ refusalCode r
@@ -33,10 +32,10 @@ start-told from to = refl
 pub end-told : (from to : ℕ) → pos to ≡ endCode (ok (from, to))
 end-told from to = refl
 
--- a map's length, as a number of 64 bits holds it
+-- a length or a count, as a number of 64 bits holds it
 module _ (n : ℕ) where
-  pub drawn-short : n < 0x8000_0000_0000_0000 → pos n ≡ drawnCode (drawn n)
-  drawn-short h = ap pos (omega arith)
+  pub whole-short : n < 0x8000_0000_0000_0000 → pos n ≡ wholeCode n
+  whole-short h = ap pos (omega arith)
 
-  pub drawn-long : 0x8000_0000_0000_0000 ≤ n → pos 0x7fff_ffff_ffff_ffff ≡ drawnCode (drawn n)
-  drawn-long h = ap pos (omega arith)
+  pub whole-long : 0x8000_0000_0000_0000 ≤ n → pos 0x7fff_ffff_ffff_ffff ≡ wholeCode n
+  whole-long h = ap pos (omega arith)

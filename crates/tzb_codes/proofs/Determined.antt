@@ -12,6 +12,7 @@ use Rattle.tzb_codes.proofs.inside_code.Reads as inside-code-reads
 use Rattle.tzb_codes.proofs.zone_code.Reads as zone-code-reads
 use Rattle.tzb_codes.proofs.check_code.Reads as check-code-reads
 use Rattle.tzb_codes.proofs.rule_of.Reads as rule-of-reads
+use Rattle.tzb_codes.proofs.needed_code.Reads as needed-code-reads
 use Rattle.tzb_codes.proofs.drawing_code.Reads as drawing-code-reads
 use Rattle.tzb_codes.proofs.seen_code.Reads as seen-code-reads
 
@@ -44,6 +45,9 @@ check-code κ a r r' e e' p q = p ∙ sym q
 
 pub rule-of : Determined rule-of-reads.Learnt
 rule-of κ a r r' e e' p q = p ∙ sym q
+
+pub needed-code : Determined needed-code-reads.Learnt
+needed-code κ a r r' e e' p q = p ∙ sym q
 
 pub drawing-code : Determined drawing-code-reads.Learnt
 drawing-code κ a r r' e e' p q = p ∙ sym q

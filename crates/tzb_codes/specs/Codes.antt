@@ -28,6 +28,15 @@ abbrev pub numberCode : Answer ℕ → ℤ
 numberCode (ok n) = pos n
 numberCode (refused k) = refusalCode k
 
+-- a length or a count of 64 bits; one of 2 ^ 63 or more, which none is, would be told as 2 ^ 63 - 1
+abbrev pub wholeCode : ℕ → ℤ
+wholeCode n = pos (min n 0x7fff_ffff_ffff_ffff)
+
+-- how many numbers stripes take, or were written
+abbrev pub neededCode : Answer ℕ → ℤ
+neededCode (ok n) = wholeCode n
+neededCode (refused k) = refusalCode k
+
 -- where a name starts, and where it ends
 abbrev pub startCode : Answer (ℕ × ℕ) → ℤ
 startCode (ok b) = pos (b .0)
@@ -75,9 +84,9 @@ ruleOf accepted = 0
 ruleOf (refusedBy k) = 0
 ruleOf (brokenAt k rule) = rule
 
--- a map: how many bytes it has; a refusal; 47, whose rule is told apart. A length of 2 ^ 63 or more, which no text in memory has, would be told as 2 ^ 63 - 1.
+-- a map: how many bytes it has; a refusal; 47, whose rule is told apart
 abbrev pub drawnCode : Drawn ℕ → ℤ
-drawnCode (drawn n) = pos (min n 0x7fff_ffff_ffff_ffff)
+drawnCode (drawn n) = wholeCode n
 drawnCode (undrawn k) = refusalCode k
 drawnCode (unsound k rule) = refusalCode k
 

@@ -2,8 +2,8 @@
 ghost use mathlib.Core.Path.{_≡_};
 ghost use Rattle.answer.specs.Answers.{checkedTold};
 ghost use Rattle.plane.specs.Sight.{seenTold};
-ghost use Rattle.tzb_codes.specs.Codes.{bitOf, refusalCode, doneCode, kindCode, listedOf, insideCode, zoneCode, checkCode, ruleOf, drawnCode, seenCode};
-ghost use Rattle.replies.specs.Replies.{checkTold, choiceTold, verdictTold, foundTold, drawingTold};
+ghost use Rattle.tzb_codes.specs.Codes.{bitOf, refusalCode, doneCode, kindCode, listedOf, insideCode, zoneCode, checkCode, ruleOf, wholeCode, neededCode, drawnCode, seenCode};
+ghost use Rattle.replies.specs.Replies.{checkTold, choiceTold, verdictTold, foundTold, neededTold, drawingTold};
 use answer::Checked;
 use answer::Refusal;
 use plane::Seen;
@@ -11,6 +11,7 @@ use replies::Choice;
 use replies::Drawing;
 use replies::Found;
 use replies::FullCheck;
+use replies::Needed;
 use replies::Verdict;
 
 // 1 yes, 0 no.
@@ -118,18 +119,33 @@ pub fn rule_of(c: FullCheck) -> u32
     }
 }
 
-// A map: how many bytes it has, a refusal, or -1047. A length of 2 ^ 63 or more, which no text in memory has, is told as 2 ^ 63 - 1.
+// A length or a count. One of 2 ^ 63 or more, which none is, is told as 2 ^ 63 - 1.
+fn whole_code(n: u64) -> i64
+    ensures { λ r. ⌜ r ≡ wholeCode n ⌝ }
+{
+    if n < 0x8000_0000_0000_0000 {
+        n as i64
+    } else {
+        0x7fff_ffff_ffff_ffff
+    }
+}
+
+// How many numbers the stripes of a file take, or were written.
+pub fn needed_code(a: Needed) -> i64
+    ensures { λ r. ⌜ r ≡ neededCode (neededTold a) ⌝ }
+{
+    match a {
+        Needed::Numbers(n) => whole_code(n),
+        Needed::Refused(k) => refusal_code64(k),
+    }
+}
+
+// A map: how many bytes it has, a refusal, or -1047.
 pub fn drawing_code(d: Drawing) -> i64
     ensures { λ r. ⌜ r ≡ drawnCode (drawingTold d) ⌝ }
 {
     match d {
-        Drawing::Drawn(n) => {
-            if n < 0x8000_0000_0000_0000 {
-                n as i64
-            } else {
-                0x7fff_ffff_ffff_ffff
-            }
-        }
+        Drawing::Drawn(n) => whole_code(n as u64),
         Drawing::Refused(k) => refusal_code64(k),
         Drawing::Broken(k, _) => refusal_code64(k),
     }

@@ -17,7 +17,7 @@ use Rattle.reader_names.specs.Names as N
 use Rattle.reader_named.specs.Asked as Q
 use Rattle.reader_grid.specs.Word as W
 use Rattle.reader_grid.specs.Grid as G
-use Rattle.reader_cells.specs.Floor as F
+use Rattle.floors.specs.Floor as F
 use Rattle.reader_cells.specs.Asked as C
 use Rattle.reader_records.specs.Records as S
 use Rattle.reader_dirs.specs.Dirs as D

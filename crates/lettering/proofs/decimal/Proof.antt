@@ -9,7 +9,7 @@ use lib.Signed.{natAbs-le}
 use mir.Syntax.{w32}
 use borrow.Author.Needs.{needs}
 use Rattle.geojson.specs.Decimals.{hundredThousandths, minus, decimal}
-use Rattle.geojson.proofs.OverLaws.{over-none, near, wrote, being, _behind_}
+use Rattle.answer.proofs.OverLaws.{over-none, near, wrote, being, _behind_}
 use Rattle.geojson.proofs.Lengths.{decimal-most}
 use Rattle.fields.proofs.Signs.{below, above}
 use Rattle.lettering.proofs.decimal.Statement.{statement}

@@ -3,7 +3,7 @@
 use Prim.Native.Nat.{_/_}
 use native.Mathlib.Omega.{arith}
 use borrow.Author.Needs.{needs}
-use Rattle.geojson.proofs.OverLaws.{wrote, being, _behind_}
+use Rattle.answer.proofs.OverLaws.{wrote, being, _behind_}
 use Rattle.geojson.proofs.Lengths.{digits-hundred, digits-five, digits-most, places-placed}
 use Rattle.lettering.proofs.digits.Statement.{statement}
 use Rattle.lettering.proofs.digits.Tie as tie

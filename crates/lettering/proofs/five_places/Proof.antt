@@ -1,7 +1,7 @@
 -- `lettering::five_places` meets its contract: a digit, and twice two behind it.
 -- Assumes nothing.
 use borrow.Author.Needs.{needs}
-use Rattle.geojson.proofs.OverLaws.{wrote, being, _behind_}
+use Rattle.answer.proofs.OverLaws.{wrote, being, _behind_}
 use Rattle.geojson.proofs.Lengths.{five, places-placed, places-told}
 use Rattle.lettering.proofs.five_places.Statement.{statement}
 use Rattle.lettering.proofs.five_places.Tie as tie

@@ -5,7 +5,7 @@ use native.Mathlib.Omega.{arith}
 use mathlib.Core.Path.{sym, ap}
 use borrow.Author.Needs.{needs}
 use Rattle.geojson.specs.Decimals.{hundredThousandths}
-use Rattle.geojson.proofs.OverLaws.{over-past, wrote, _behind_}
+use Rattle.answer.proofs.OverLaws.{over-past, wrote, _behind_}
 use Rattle.geojson.proofs.Lengths.{digits-most, places-placed}
 use Rattle.lettering.proofs.hundred_thousandths.Statement.{statement}
 use Rattle.lettering.proofs.hundred_thousandths.Tie as tie

@@ -5,8 +5,8 @@ use Prim.Native.Nat.{_-_, _≤_}
 use mathlib.Core.Path.{_≡_, refl, sym, _∙_}
 use lib.ListN.{length, take}
 use borrow.Author.Needs.{needs}
-use Rattle.geojson.specs.Over.{over}
-use Rattle.geojson.proofs.OverLaws.{over-none, next-laid, all-laid}
+use Rattle.answer.specs.Over.{over}
+use Rattle.answer.proofs.OverLaws.{over-none, next-laid, all-laid}
 use Rattle.lettering.proofs.lay.Statement.{statement}
 use Rattle.lettering.proofs.lay.Tie as tie
 

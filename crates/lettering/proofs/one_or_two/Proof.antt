@@ -1,7 +1,7 @@
 -- `lettering::one_or_two` meets its contract: one digit below 10, else two.
 -- Assumes nothing.
 use borrow.Author.Needs.{needs}
-use Rattle.geojson.proofs.OverLaws.{wrote, being}
+use Rattle.answer.proofs.OverLaws.{wrote, being}
 use Rattle.geojson.proofs.Lengths.{digits-one, digits-two, places-placed}
 use Rattle.lettering.proofs.one_or_two.Statement.{statement}
 use Rattle.lettering.proofs.one_or_two.Tie as tie

@@ -8,7 +8,7 @@ use borrow.Author.Needs.{needs}
 use Rattle.plane.specs.Places.{point}
 use Rattle.geojson.specs.Decimals.{decimal}
 use Rattle.geojson.specs.Text.{positionText}
-use Rattle.geojson.proofs.OverLaws.{near, wrote, being, _behind_}
+use Rattle.answer.proofs.OverLaws.{near, wrote, being, _behind_}
 use Rattle.geojson.proofs.Lengths.{position-most}
 use Rattle.lettering.proofs.position.Statement.{statement}
 use Rattle.lettering.proofs.position.Tie as tie

@@ -2,7 +2,7 @@
 -- Assumes nothing.
 use mathlib.Core.Path.{refl, sym}
 use borrow.Author.Needs.{needs}
-use Rattle.geojson.proofs.OverLaws.{over-one, over-past}
+use Rattle.answer.proofs.OverLaws.{over-one, over-past}
 use Rattle.lettering.proofs.put.Statement.{statement}
 use Rattle.lettering.proofs.put.Tie as tie
 

@@ -2,7 +2,7 @@
 -- Assumes nothing.
 use borrow.Author.Needs.{needs}
 use Rattle.geojson.specs.Decimals.{places}
-use Rattle.geojson.proofs.OverLaws.{wrote, being, _behind_}
+use Rattle.answer.proofs.OverLaws.{wrote, being, _behind_}
 use Rattle.geojson.proofs.Lengths.{two}
 use Rattle.lettering.proofs.two_places.Statement.{statement}
 use Rattle.lettering.proofs.two_places.Tie as tie

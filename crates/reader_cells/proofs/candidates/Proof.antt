@@ -5,7 +5,7 @@ use lib.IntN.{ℤ, _-ℤ_}
 use mir.Syntax.{w16, w64}
 use Rattle.answer.proofs.CheckLaws.{told-yes, told-no}
 use Rattle.reader_cells.proofs.Asking.{off-earth, no-grid, by-grid}
-use Rattle.reader_cells.specs.Floor.{floorOf}
+use Rattle.floors.specs.Floor.{floorOf}
 use Rattle.basics.specs.Signed.{back}
 use Rattle.reader_cells.proofs.Bounds.{lng-small, lat-small}
 use borrow.Author.Needs.{needs}

@@ -2,6 +2,7 @@
 -- Assumes nothing.
 use mathlib.Core.Path.{sym, ap, _∙_}
 use Rattle.answer.specs.Answers.{checkedTold}
+use Rattle.reader_ways.specs.Ways.{wayOf}
 use Rattle.reader_lookup.specs.Asking.{hitAt}
 use Rattle.reader_listing.proofs.Gathered.{Gathering, gather-start, gather-no, gather-miss, gather-hit, gather-end, gather-bad}
 use borrow.Author.Needs.{needs}
@@ -10,13 +11,13 @@ use Rattle.reader_listing.proofs.gather.Tie as tie
 use Rattle.replies.specs.Replies.{foundTold}
 
 abbrev Inv-loop : tie.InvT-loop
-Inv-loop o s p grid n from held₀ names₀ k₀ place₀ rest₀ held names k place rest = Gathering o s (hitAt o s p grid) n from held₀ held (checkedTold names) k place rest
+Inv-loop striped numbers o s p grid n from held₀ names₀ k₀ place₀ rest₀ held names k place rest = Gathering o s (hitAt (wayOf striped numbers) o s p grid) n from held₀ held (checkedTold names) k place rest
 
 abbrev μ-loop : tie.MeasureT-loop
-μ-loop o s p grid n from held₀ names₀ k₀ place₀ rest₀ held names k place rest = rest
+μ-loop striped numbers o s p grid n from held₀ names₀ k₀ place₀ rest₀ held names k place rest = rest
 
 loop-holds : tie.Need-loop-holds Inv-loop μ-loop
-loop-holds c = gather-start _ _ _ _ _ _ (c .before .before .pre)
+loop-holds c = gather-start _ _ _ _ _ _ (c .before .before .before .pre)
 
 hit-at-requires : tie.Need-hit-at-requires Inv-loop μ-loop
 hit-at-requires c κs = search needs

@@ -9,7 +9,7 @@ use Rattle.replies.specs.Replies.{listingTold}
 use Rattle.answer.specs.Answers.{howMany, left}
 
 gather-requires : tie.Need-gather-requires
-gather-requires c κs = c .before .before .before .before .pre
+gather-requires c κs = c .before .before .before .before .before .pre
 
 enum-known-t : tie.Need-enum-known-t
 enum-known-t c = search needs
@@ -18,7 +18,7 @@ place-hits-requires : tie.Need-place-hits-requires
 place-hits-requires c κs =
     let t = c .before .before .before in
     let g = t .before .before .before .before in
-    let start = g .before .before .before .before .before in
+    let start = g .before .before .before .before .before .before in
     (start .pre, list-kept _ _ _ _ _ _ (sym (ap listingTold (t .t .given .1)) ∙ g .gather .ensures .0) _ _ (g .gather .ensures .1))
 
 enum-known-t-2 : tie.Need-enum-known-t-2
@@ -35,7 +35,7 @@ returns c =
     let w = c .before .before in
     let t = w .before .before .before .before in
     let g = t .before .before .before .before in
-    let start = g .before .before .before .before .before in
+    let start = g .before .before .before .before .before .before in
     let e = list-is _ _ _ _ _ _ (sym (ap listingTold (t .t .given .1)) ∙ g .gather .ensures .0) _ in
     (w .place-hits .ensures .0 ∙ ap howMany e, w .place-hits .ensures .1 ∙ ap (left (start .args .out .now)) e)
 
@@ -45,7 +45,7 @@ same-length-3 c = search needs
 returns-2 : tie.Need-returns-2
 returns-2 c =
     let g = c .before .before .before .before .before in
-    let start = g .before .before .before .before .before in
+    let start = g .before .before .before .before .before .before in
     let e = list-no _ _ _ _ _ _ _ (sym (ap listingTold (c .before .t2 .given .1)) ∙ g .gather .ensures .0) in
     (ap howMany e, ap (left (start .args .out .now)) e)
 

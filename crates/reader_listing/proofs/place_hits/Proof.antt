@@ -17,13 +17,13 @@ refuse-requires c κs = search needs
 
 returns : tie.Need-returns
 returns c =
-    let start = c .before .before .before .before .before .before in
+    let start = c .before .before .before .before .before .before .before in
     let e = place-short _ _ _ (start .pre .1) (start .args .out .now) _ _ _ (c .before .before .wide .ensures .0) (c .before .if1 .taken) in
     (ap refused (c .refuse .ensures) ∙ ap howMany e, ap (left (start .args .out .now)) e)
 
 write-hits-requires : tie.Need-write-hits-requires
 write-hits-requires c κs =
-    let start = c .before .before .before .before .before .before in
+    let start = c .before .before .before .before .before .before .before in
     (start .pre .0, (kept-by _ _ _ _ (start .pre .1) (c .before .before .wide .ensures .0), c .before .if1 .left))
 
 slice-relend-prefix-sort-zones : tie.Need-slice-relend-prefix-sort-zones
@@ -32,7 +32,7 @@ slice-relend-prefix-sort-zones c = search needs
 slice-aggregate-sort-zones : tie.Need-slice-aggregate-sort-zones
 slice-aggregate-sort-zones c =
     let w = c .before .before .before in
-    sym (length-take-le _ _ (omega (arith, w .write-hits .kept .1 .1 .1 .1 .1 .1 .1 .1 .0, w .before .before .if1 .left)))
+    sym (length-take-le _ _ (omega (arith, w .write-hits .kept .1 .1 .1 .1 .1 .1 .1 .1 .1 .1 .0, w .before .before .if1 .left)))
 
 sort-zones-requires : tie.Need-sort-zones-requires
 sort-zones-requires c κs = search needs
@@ -44,7 +44,7 @@ returns-2 : tie.Need-returns-2
 returns-2 c =
     let w = c .before .before .before .before .before .before in
     let t = w .before .before in
-    let start = t .before .before .before .before .before in (
+    let start = t .before .before .before .before .before .before in (
       place-count _ _ _ (start .pre .1) (start .args .out .now) _ _ _ (t .before .wide .ensures .0) (t .if1 .left),
       place-memory _ _ _ (start .pre .1) (start .args .out .now) _ _ _ (t .before .wide .ensures .0) (t .if1 .left) _ (w .write-hits .ensures) _ (c .before .before .sort-zones .ensures),
     )

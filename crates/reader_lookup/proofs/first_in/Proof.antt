@@ -3,6 +3,7 @@
 use Prim.Native.Nat.{_+_, _<_}
 use mathlib.Core.Path.{_≡_, refl, sym, ap, _∙_}
 use Rattle.reader_lookup.specs.Asking.{hitAt, firstHit}
+use Rattle.reader_ways.specs.Ways.{wayOf}
 use native.Mathlib.Omega.{arith}
 use borrow.Author.Needs.{needs}
 use Rattle.reader_lookup.proofs.first_in.Statement.{statement}
@@ -11,13 +12,13 @@ use Rattle.replies.specs.Replies.{foundTold}
 use Rattle.reader_lookup.proofs.AskingLaws.{first-end, first-no, first-yes, first-on}
 
 abbrev Inv-loop : tie.InvT-loop
-Inv-loop o s p grid n from place₀ left₀ place left = (place + left < 0x1_0000_0000) × (firstHit (hitAt o s p grid) left place ≡ firstHit (hitAt o s p grid) n from)
+Inv-loop striped numbers o s p grid n from place₀ left₀ place left = (place + left < 0x1_0000_0000) × (firstHit (hitAt (wayOf striped numbers) o s p grid) left place ≡ firstHit (hitAt (wayOf striped numbers) o s p grid) n from)
 
 abbrev μ-loop : tie.MeasureT-loop
-μ-loop o s p grid n from place₀ left₀ place left = left
+μ-loop striped numbers o s p grid n from place₀ left₀ place left = left
 
 loop-holds : tie.Need-loop-holds Inv-loop μ-loop
-loop-holds c = (c .before .pre, refl)
+loop-holds c = (c .before .before .pre, refl)
 
 hit-at-requires : tie.Need-hit-at-requires Inv-loop μ-loop
 hit-at-requires c κs = search needs

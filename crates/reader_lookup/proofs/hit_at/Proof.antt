@@ -29,27 +29,27 @@ enum-known-v-2 : tie.Need-enum-known-v-2
 enum-known-v-2 c = search needs
 
 returns : tie.Need-returns
-returns c = hit-no _ _ _ _ _ _ (sym (ap candidateTold (c .before .c .given .1)) ∙ c .before .before .before .candidate .ensures)
+returns c = hit-no _ _ _ _ _ _ _ (sym (ap candidateTold (c .before .c .given .1)) ∙ c .before .before .before .candidate .ensures)
 
 returns-2 : tie.Need-returns-2
 returns-2 c =
     let t = c .before .before .before in
     let m = t .before .before .before in
-    hit-bad _ _ _ _ _ _ (sym (ap candidateTold (m .c2 .given .1)) ∙ m .before .before .candidate .ensures) _ (t .before .wide .ensures .0) _ (sym (ap verdictTold (c .before .v .given .1)) ∙ t .timezone-contains .ensures)
+    hit-bad _ _ _ _ _ _ _ (sym (ap candidateTold (m .c2 .given .1)) ∙ m .before .before .candidate .ensures) _ (t .before .wide .ensures .0) _ (sym (ap verdictTold (c .before .v .given .1)) ∙ t .timezone-contains .ensures)
 
 returns-3 : tie.Need-returns-3
 returns-3 c =
     let v = c .before .before in
     let t = v .before .before in
     let m = t .before .before .before in
-    hit-yes _ _ _ _ _ _ (sym (ap candidateTold (m .c2 .given .1)) ∙ m .before .before .candidate .ensures) _ (t .before .wide .ensures .0) _ (sym (ap verdictTold (v .v2 .given .1)) ∙ t .timezone-contains .ensures) (c .if1 .taken)
+    hit-yes _ _ _ _ _ _ _ (sym (ap candidateTold (m .c2 .given .1)) ∙ m .before .before .candidate .ensures) _ (t .before .wide .ensures .0) _ (sym (ap verdictTold (v .v2 .given .1)) ∙ t .timezone-contains .ensures) (c .if1 .taken)
 
 returns-4 : tie.Need-returns-4
 returns-4 c =
     let v = c .before .before in
     let t = v .before .before in
     let m = t .before .before .before in
-    hit-not _ _ _ _ _ _ (sym (ap candidateTold (m .c2 .given .1)) ∙ m .before .before .candidate .ensures) _ (t .before .wide .ensures .0) _ (sym (ap verdictTold (v .v2 .given .1)) ∙ t .timezone-contains .ensures) (c .if1 .left)
+    hit-not _ _ _ _ _ _ _ (sym (ap candidateTold (m .c2 .given .1)) ∙ m .before .before .candidate .ensures) _ (t .before .wide .ensures .0) _ (sym (ap verdictTold (v .v2 .given .1)) ∙ t .timezone-contains .ensures) (c .if1 .left)
 
 pub hit-at-spec : {M : Type 1} → statement M
 hit-at-spec =

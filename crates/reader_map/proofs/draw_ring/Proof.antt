@@ -1,7 +1,7 @@
 -- `draw_ring` meets its contract: the outline in the lent numbers, then its text; 48 is handed on.
 -- Assumes nothing.
 use mathlib.Core.Path.{sym, ap, _∙_}
-use Rattle.geojson.proofs.OverLaws.{wrote, being}
+use Rattle.answer.proofs.OverLaws.{wrote, being}
 use Rattle.reader_outline.specs.Told.{outlinedTold}
 use Rattle.reader_map.proofs.Onward.{drawn-so, drawn-no}
 use Rattle.reader_map.proofs.Parts.{outline-no, outline-fits, outline-some, outline-few, outline-is}

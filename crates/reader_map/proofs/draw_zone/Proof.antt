@@ -2,7 +2,7 @@
 -- Assumes nothing.
 use mathlib.Core.Path.{sym, ap, _∙_}
 use Rattle.geojson.specs.Text.{headText, tailText}
-use Rattle.geojson.proofs.OverLaws.{wrote, being, _behind_}
+use Rattle.answer.proofs.OverLaws.{wrote, being, _behind_}
 use Rattle.reader_records.specs.Records.{toldList}
 use Rattle.reader_map.specs.Map.{textTold}
 use Rattle.reader_map.proofs.Onward.{drawn-so, drawn-no, drawn-was, drawn-not}

@@ -15,17 +15,17 @@ right-requires c κs = search needs
 endpoint-parity-requires : tie.Need-endpoint-parity-requires
 endpoint-parity-requires c κs = search needs
 
-scan-group-requires : tie.Need-scan-group-requires
-scan-group-requires c κs = search needs
+scan-by-requires : tie.Need-scan-by-requires
+scan-by-requires c κs = search needs
 
 returns : tie.Need-returns
-returns c = let d = c .before .before .before in walk-skip _ _ _ _ (sym (d .before .before .before .relevant .ensures) ∙ d .before .before .if1 .taken) (sym (d .before .right .ensures) ∙ d .if2 .taken) _ (c .endpoint-parity .ensures)
+returns c = let d = c .before .before .before in walk-skip _ _ _ _ _ _ (sym (d .before .before .before .relevant .ensures) ∙ d .before .before .if1 .taken) (sym (d .before .right .ensures) ∙ d .if2 .taken) _ (c .endpoint-parity .ensures)
 
 returns-2 : tie.Need-returns-2
-returns-2 c = let d = c .before in c .scan-group .ensures ∙ walk-scan _ _ _ _ (sym (d .before .before .before .relevant .ensures) ∙ d .before .before .if1 .taken) (sym (d .before .right .ensures) ∙ d .if2 .left)
+returns-2 c = let d = c .before in c .scan-by .ensures ∙ walk-scan _ _ _ _ _ _ (sym (d .before .before .before .relevant .ensures) ∙ d .before .before .if1 .taken) (sym (d .before .right .ensures) ∙ d .if2 .left)
 
 returns-3 : tie.Need-returns-3
-returns-3 c = walk-none _ _ _ _ (sym (c .before .relevant .ensures) ∙ c .if1 .left)
+returns-3 c = walk-none _ _ _ _ _ _ (sym (c .before .relevant .ensures) ∙ c .if1 .left)
 
 pub group-walk-spec : {M : Type 1} → statement M
 group-walk-spec =
@@ -34,7 +34,7 @@ group-walk-spec =
     relevant-requires
     right-requires
     endpoint-parity-requires
-    scan-group-requires
+    scan-by-requires
     returns
     returns-2
     returns-3)

@@ -37,30 +37,30 @@ enum-known-w-2 c = search needs
 wide-requires : tie.Need-wide-requires
 wide-requires c κs = search needs
 
-add-t19 : tie.Need-add-t19
-add-t19 c = search needs
+add-t21 : tie.Need-add-t21
+add-t21 c = search needs
 
 returns : tie.Need-returns
-returns c = (step-no _ _ _ _ _ _ (sym (ap (legTold _) (c .before .u .given .1)) ∙ c .before .before .before .leg-at .ensures .0), omega arith)
+returns c = (step-no _ _ _ _ _ _ _ (sym (ap (legTold _) (c .before .u .given .1)) ∙ c .before .before .before .leg-at .ensures .0), omega arith)
 
 returns-2 : tie.Need-returns-2
 returns-2 c =
     let i = c .before .before .before .before .before in
     let h = ap ok (i .turned-in .ensures) ∙ sym (ap (legTold _) (i .before .before .u2 .given .1)) ∙ i .before .before .before .before .leg-at .ensures .0 in
-    (step-bad _ _ _ _ _ _ h _ (sym (ap went (c .before .w .given .1)) ∙ c .before .before .before .turn-walk .ensures), omega arith)
+    (step-bad _ _ _ _ _ _ _ h _ (sym (ap went (c .before .w .given .1)) ∙ c .before .before .before .turn-walk .ensures), omega arith)
 
 returns-3 : tie.Need-returns-3
 returns-3 c =
     let i = c .before .before .before .before in
     let h = ap ok (i .turned-in .ensures) ∙ sym (ap (legTold _) (i .before .before .u2 .given .1)) ∙ i .before .before .before .before .leg-at .ensures .0 in
-    (step-on _ _ _ _ _ _ h (sym (ap went (c .enum-told .given .1)) ∙ c .before .before .turn-walk .ensures), omega arith)
+    (step-on _ _ _ _ _ _ _ h (sym (ap went (c .enum-told .given .1)) ∙ c .before .before .turn-walk .ensures), omega arith)
 
 returns-4 : tie.Need-returns-4
 returns-4 c =
     let w = c .before .before .before .before in
     let i = w .before .before .before .before in
     let h = ap ok (i .turned-in .ensures) ∙ sym (ap (legTold _) (i .before .before .u2 .given .1)) ∙ i .before .before .before .before .leg-at .ensures .0 in
-    (step-is _ _ _ _ _ _ h _ (sym (ap went (w .w2 .given .1)) ∙ w .before .before .turn-walk .ensures) _ (c .before .wide .ensures .0), omega (arith, c .before .wide .ensures .1))
+    (step-is _ _ _ _ _ _ _ h _ (sym (ap went (w .w2 .given .1)) ∙ w .before .before .turn-walk .ensures) _ (c .before .wide .ensures .0), omega (arith, c .before .wide .ensures .1))
 
 pub op-step-spec : {M : Type 1} → statement M
 op-step-spec =
@@ -75,7 +75,7 @@ op-step-spec =
     enum-told
     enum-known-w-2
     wide-requires
-    add-t19
+    add-t21
     returns
     returns-2
     returns-3

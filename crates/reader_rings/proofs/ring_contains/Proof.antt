@@ -26,15 +26,15 @@ verdict-of-requires : tie.Need-verdict-of-requires
 verdict-of-requires c κs = search needs
 
 returns : tie.Need-returns
-returns c = contains-no _ _ _ _ _ _ (sym (ap toldRing (c .before .t .given .1)) ∙ c .before .before .before .ring-at .ensures)
+returns c = contains-no _ _ _ _ _ _ _ (sym (ap toldRing (c .before .t .given .1)) ∙ c .before .before .before .ring-at .ensures)
 
 returns-2 : tie.Need-returns-2
 returns-2 c =
     let t = c .before .before .before .before .before .before in
-    c .verdict-of .ensures ∙ contains-is _ _ _ _ _ _ (sym (ap toldRing (t .t2 .given .1)) ∙ t .before .before .ring-at .ensures) (sym (c .before .before .before .contains .ensures) ∙ c .before .before .if1 .taken) _ (c .before .ring-walk .ensures)
+    c .verdict-of .ensures ∙ contains-is _ _ _ _ _ _ _ (sym (ap toldRing (t .t2 .given .1)) ∙ t .before .before .ring-at .ensures) (sym (c .before .before .before .contains .ensures) ∙ c .before .before .if1 .taken) _ (c .before .ring-walk .ensures)
 
 returns-3 : tie.Need-returns-3
-returns-3 c = let t = c .before .before .before .before in contains-out _ _ _ _ _ _ (sym (ap toldRing (t .t2 .given .1)) ∙ t .before .before .ring-at .ensures) (sym (c .before .contains .ensures) ∙ c .if1 .left)
+returns-3 c = let t = c .before .before .before .before in contains-out _ _ _ _ _ _ _ (sym (ap toldRing (t .t2 .given .1)) ∙ t .before .before .ring-at .ensures) (sym (c .before .contains .ensures) ∙ c .if1 .left)
 
 pub ring-contains-spec : {M : Type 1} → statement M
 ring-contains-spec =

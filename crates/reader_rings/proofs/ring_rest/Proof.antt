@@ -37,18 +37,18 @@ after-requires c κs = search needs
 returns : tie.Need-returns
 returns c =
     let f = c .before .before .before in
-    rest-no _ _ _ _ _ _ _ (f .before .wide2 .ensures .0) (f .before .before .wide .ensures .0) _ (f .ops-from .ensures) _ (sym (ap rounds (c .before .w .given .1)))
+    rest-no _ _ _ _ _ _ _ _ (f .before .wide2 .ensures .0) (f .before .before .wide .ensures .0) _ (f .ops-from .ensures) _ (sym (ap rounds (c .before .w .given .1)))
 
 returns-2 : tie.Need-returns-2
 returns-2 c =
     let f = c .before .before in
-    rest-on _ _ _ _ _ _ _ (f .before .wide2 .ensures .0) (f .before .before .wide .ensures .0) _ (f .ops-from .ensures) (sym (ap rounds (c .enum-told .given .1)))
+    rest-on _ _ _ _ _ _ _ _ (f .before .wide2 .ensures .0) (f .before .before .wide .ensures .0) _ (f .ops-from .ensures) (sym (ap rounds (c .enum-told .given .1)))
 
 returns-3 : tie.Need-returns-3
 returns-3 c =
     let f = c .before .before .before .before .before .before in
     c .after .ensures
-    ∙ rest-is _ _ _ _ _ _ _ (f .before .wide2 .ensures .0) (f .before .before .wide .ensures .0) _ (f .ops-from .ensures) _ _ (sym (ap rounds (c .before .before .before .before .w2 .given .1))) _ (c .before .ring-end .ensures)
+    ∙ rest-is _ _ _ _ _ _ _ _ (f .before .wide2 .ensures .0) (f .before .before .wide .ensures .0) _ (f .ops-from .ensures) _ _ (sym (ap rounds (c .before .before .before .before .w2 .given .1))) _ (c .before .ring-end .ensures)
 
 pub ring-rest-spec : {M : Type 1} → statement M
 ring-rest-spec =

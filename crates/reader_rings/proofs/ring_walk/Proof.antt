@@ -45,28 +45,28 @@ after-requires c κs = search needs
 returns : tie.Need-returns
 returns c =
     let l = c .before .before .before in
-    ring-no _ _ _ _ _ (l .before .wide .ensures .0) _ (sym (ap (legTold _) (c .before .u .given .1)) ∙ l .leg-at .ensures .0)
+    ring-no _ _ _ _ _ _ (l .before .wide .ensures .0) _ (sym (ap (legTold _) (c .before .u .given .1)) ∙ l .leg-at .ensures .0)
 
 returns-2 : tie.Need-returns-2
 returns-2 c =
     let i = c .before .before .before .before .before in
     let l = i .before .before .before .before in
     let h = ap ok (i .turned-in .ensures) ∙ sym (ap (legTold _) (i .before .before .u2 .given .1)) ∙ l .leg-at .ensures .0 in
-    ring-bad _ _ _ _ _ (l .before .wide .ensures .0) _ h _ (sym (ap went (c .before .w .given .1)) ∙ c .before .before .before .group-walk .ensures)
+    ring-bad _ _ _ _ _ _ (l .before .wide .ensures .0) _ h _ (sym (ap went (c .before .w .given .1)) ∙ c .before .before .before .group-walk .ensures)
 
 returns-3 : tie.Need-returns-3
 returns-3 c =
     let i = c .before .before .before .before in
     let l = i .before .before .before .before in
     let h = ap ok (i .turned-in .ensures) ∙ sym (ap (legTold _) (i .before .before .u2 .given .1)) ∙ l .leg-at .ensures .0 in
-    ring-on _ _ _ _ _ (l .before .wide .ensures .0) _ h (sym (ap went (c .enum-told .given .1)) ∙ c .before .before .group-walk .ensures)
+    ring-on _ _ _ _ _ _ (l .before .wide .ensures .0) _ h (sym (ap went (c .enum-told .given .1)) ∙ c .before .before .group-walk .ensures)
 
 returns-4 : tie.Need-returns-4
 returns-4 c =
     let i = c .before .before .before .before .before .before .before in
     let l = i .before .before .before .before in
     let h = ap ok (i .turned-in .ensures) ∙ sym (ap (legTold _) (i .before .before .u2 .given .1)) ∙ l .leg-at .ensures .0 in
-    c .after .ensures ∙ ring-is _ _ _ _ _ (l .before .wide .ensures .0) _ h _ (sym (ap went (c .before .before .before .w2 .given .1)) ∙ c .before .before .before .before .before .group-walk .ensures) _ (c .before .ring-rest .ensures)
+    c .after .ensures ∙ ring-is _ _ _ _ _ _ (l .before .wide .ensures .0) _ h _ (sym (ap went (c .before .before .before .w2 .given .1)) ∙ c .before .before .before .before .before .group-walk .ensures) _ (c .before .ring-rest .ensures)
 
 pub ring-walk-spec : {M : Type 1} → statement M
 ring-walk-spec =

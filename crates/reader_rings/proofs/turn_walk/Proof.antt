@@ -26,13 +26,13 @@ after-requires : tie.Need-after-requires
 after-requires c κs = search needs
 
 returns : tie.Need-returns
-returns c = turn-no _ _ _ _ _ _ (sym (ap went (c .before .w .given .1)) ∙ c .before .before .before .joint .ensures)
+returns c = turn-no _ _ _ _ _ _ _ (sym (ap went (c .before .w .given .1)) ∙ c .before .before .before .joint .ensures)
 
 returns-2 : tie.Need-returns-2
-returns-2 c = turn-on _ _ _ _ _ (sym (ap went (c .enum-told .given .1)) ∙ c .before .before .joint .ensures)
+returns-2 c = turn-on _ _ _ _ _ _ (sym (ap went (c .enum-told .given .1)) ∙ c .before .before .joint .ensures)
 
 returns-3 : tie.Need-returns-3
-returns-3 c = let w = c .before .before .before .before in c .after .ensures ∙ turn-is _ _ _ _ _ _ (sym (ap went (w .w2 .given .1)) ∙ w .before .before .joint .ensures) _ (c .before .group-walk .ensures)
+returns-3 c = let w = c .before .before .before .before in c .after .ensures ∙ turn-is _ _ _ _ _ _ _ (sym (ap went (w .w2 .given .1)) ∙ w .before .before .joint .ensures) _ (c .before .group-walk .ensures)
 
 pub turn-walk-spec : {M : Type 1} → statement M
 turn-walk-spec =

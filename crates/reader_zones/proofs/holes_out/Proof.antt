@@ -4,6 +4,7 @@ use mathlib.Core.Path.{_≡_, refl, sym, ap, _∙_}
 use mathlib.Core.Bool.{true, false}
 use Prim.Native.Nat.{_+_, _-_, _<_}
 use Rattle.reader_rings.specs.Rings.{ringContains}
+use Rattle.reader_ways.specs.Ways.{wayOf}
 use native.Mathlib.Omega.{arith}
 use borrow.Author.Needs.{needs}
 use Rattle.reader_zones.proofs.holes_out.Statement.{statement}
@@ -13,10 +14,10 @@ use Rattle.reader_zones.proofs.ZonesLaws.{seek-no, seek-yes, seek-on, s
 use Rattle.reader_zones.specs.Zones.{firstSo}
 
 abbrev Inv-loop : tie.InvT-loop
-Inv-loop o s p count from i₀ left₀ i left = (firstSo (ringContains o s p false) false true (left - 1) i ≡ firstSo (ringContains o s p false) false true (count - 1) i₀) × (i + left < 0x2_0001_0000)
+Inv-loop striped numbers o s p count from i₀ left₀ i left = (firstSo (ringContains (wayOf striped numbers) o s p false) false true (left - 1) i ≡ firstSo (ringContains (wayOf striped numbers) o s p false) false true (count - 1) i₀) × (i + left < 0x2_0001_0000)
 
 abbrev μ-loop : tie.MeasureT-loop
-μ-loop o s p count from i₀ left₀ i left = left
+μ-loop striped numbers o s p count from i₀ left₀ i left = left
 
 loop-holds : tie.Need-loop-holds Inv-loop μ-loop
 loop-holds c = (refl, omega arith)

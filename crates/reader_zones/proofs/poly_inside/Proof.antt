@@ -28,20 +28,20 @@ holes-out-requires c κs = search needs
 returns : tie.Need-returns
 returns c =
     let r = c .before .before .before in
-    let q = r .before .before .before .args .q in
-    inside-no _ _ _ q _ (r .before .wide .ensures .0) _ (sym (ap verdictTold (c .before .u .given .1)) ∙ r .ring-contains .ensures)
+    let q = r .before .before .before .before .args .q in
+    inside-no _ _ _ _ q _ (r .before .wide .ensures .0) _ (sym (ap verdictTold (c .before .u .given .1)) ∙ r .ring-contains .ensures)
 
 returns-2 : tie.Need-returns-2
 returns-2 c =
     let r = c .before .before .before .before .before in
-    let q = r .before .before .before .args .q in
-    c .holes-out .ensures ∙ inside-is _ _ _ q _ (r .before .wide .ensures .0) _ (sym (ap verdictTold (c .before .before .before .u2 .given .1)) ∙ r .ring-contains .ensures) (c .before .if1 .taken)
+    let q = r .before .before .before .before .args .q in
+    c .holes-out .ensures ∙ inside-is _ _ _ _ q _ (r .before .wide .ensures .0) _ (sym (ap verdictTold (c .before .before .before .u2 .given .1)) ∙ r .ring-contains .ensures) (c .before .if1 .taken)
 
 returns-3 : tie.Need-returns-3
 returns-3 c =
     let r = c .before .before .before .before in
-    let q = r .before .before .before .args .q in
-    inside-not _ _ _ q _ (r .before .wide .ensures .0) _ (sym (ap verdictTold (c .before .before .u2 .given .1)) ∙ r .ring-contains .ensures) (c .if1 .left)
+    let q = r .before .before .before .before .args .q in
+    inside-not _ _ _ _ q _ (r .before .wide .ensures .0) _ (sym (ap verdictTold (c .before .before .u2 .given .1)) ∙ r .ring-contains .ensures) (c .if1 .left)
 
 pub poly-inside-spec : {M : Type 1} → statement M
 poly-inside-spec =

@@ -7,6 +7,7 @@ use Prim.Native.Nat.{_+_, _<_}
 use Rattle.answer.specs.Answers.{ok}
 use Rattle.reader_records.specs.Records.{toldList}
 use Rattle.reader_zones.specs.Zones.{polyOf, firstSo}
+use Rattle.reader_ways.specs.Ways.{wayOf}
 use native.Mathlib.Omega.{arith}
 use borrow.Author.Needs.{needs}
 use Rattle.reader_zones.proofs.polys_from.Statement.{statement}
@@ -15,10 +16,10 @@ use Rattle.replies.specs.Replies.{verdictTold}
 use Rattle.reader_zones.proofs.ZonesLaws.{seek-no, seek-yes, seek-on, seek-end, poly-no, poly-in, poly-out}
 
 abbrev Inv-loop : tie.InvT-loop
-Inv-loop o s p count from off all below i₀ left₀ i left = (firstSo (polyOf o s p) true false left i ≡ firstSo (polyOf o s p) true false count i₀) × (i + left < 0x1_0001_0000)
+Inv-loop striped numbers o s p count from off all below i₀ left₀ i left = (firstSo (polyOf (wayOf striped numbers) o s p) true false left i ≡ firstSo (polyOf (wayOf striped numbers) o s p) true false count i₀) × (i + left < 0x1_0001_0000)
 
 abbrev μ-loop : tie.MeasureT-loop
-μ-loop o s p count from off all below i₀ left₀ i left = left
+μ-loop striped numbers o s p count from off all below i₀ left₀ i left = left
 
 loop-holds : tie.Need-loop-holds Inv-loop μ-loop
 loop-holds c = (refl, omega arith)
@@ -33,7 +34,7 @@ returns : tie.Need-returns Inv-loop μ-loop
 returns c =
     let l = c .before .before .before in
     let h = sym (ap toldList (c .before .t .given .1)) ∙ l .list-at .ensures in
-    seek-no _ _ _ _ _ (l .before .loop-test .taken) _ (poly-no _ _ _ _ _ h) ∙ l .before .before .loop .inv .0
+    seek-no _ _ _ _ _ (l .before .loop-test .taken) _ (poly-no _ _ _ _ _ _ h) ∙ l .before .before .loop .inv .0
 
 enum-known-t-2 : tie.Need-enum-known-t-2 Inv-loop μ-loop
 enum-known-t-2 c = search needs
@@ -54,7 +55,7 @@ returns-2 c =
     let l = t .before .before in
     let h = sym (ap toldList (t .t2 .given .1)) ∙ l .list-at .ensures in
     let e = sym (i .before .before .contains .ensures) ∙ i .before .if1 .taken in
-    seek-no _ _ _ _ _ (l .before .loop-test .taken) _ (sym (ap verdictTold (c .before .v .given .1)) ∙ i .poly-inside .ensures ∙ poly-in _ _ _ _ _ h e) ∙ l .before .before .loop .inv .0
+    seek-no _ _ _ _ _ (l .before .loop-test .taken) _ (sym (ap verdictTold (c .before .v .given .1)) ∙ i .poly-inside .ensures ∙ poly-in _ _ _ _ _ _ h e) ∙ l .before .before .loop .inv .0
 
 enum-known-v-2 : tie.Need-enum-known-v-2 Inv-loop μ-loop
 enum-known-v-2 c = search needs
@@ -66,7 +67,7 @@ returns-3 c =
     let l = t .before .before in
     let h = sym (ap toldList (t .t2 .given .1)) ∙ l .list-at .ensures in
     let e = sym (i .before .before .contains .ensures) ∙ i .before .if1 .taken in
-    seek-yes _ _ _ _ _ (l .before .loop-test .taken) _ (sym (ap verdictTold (c .before .before .v2 .given .1)) ∙ i .poly-inside .ensures ∙ poly-in _ _ _ _ _ h e) (c .if2 .taken) ∙ l .before .before .loop .inv .0
+    seek-yes _ _ _ _ _ (l .before .loop-test .taken) _ (sym (ap verdictTold (c .before .before .v2 .given .1)) ∙ i .poly-inside .ensures ∙ poly-in _ _ _ _ _ _ h e) (c .if2 .taken) ∙ l .before .before .loop .inv .0
 
 add-i : tie.Need-add-i Inv-loop μ-loop
 add-i c = search needs
@@ -86,8 +87,8 @@ loop-again c =
     let b = c .before .contains .ensures in
     let f =
     ⊎-elim
-    (λ w. ap ok (sym (w .5 .left)) ∙ sym (ap verdictTold (w .3 .given .1)) ∙ w .1 .ensures ∙ poly-in _ _ _ _ _ h (sym b ∙ w .0 .taken))
-    (λ w. poly-out _ _ _ _ _ h (sym b ∙ w .left))
+    (λ w. ap ok (sym (w .5 .left)) ∙ sym (ap verdictTold (w .3 .given .1)) ∙ w .1 .ensures ∙ poly-in _ _ _ _ _ _ h (sym b ∙ w .0 .taken))
+    (λ w. poly-out _ _ _ _ _ _ h (sym b ∙ w .left))
     (c .if1 .came)
     in
     (seek-on _ _ _ _ _ (l .before .loop-test .taken) _ f refl ∙ l .before .before .loop .inv .0, omega arith)

@@ -29,19 +29,19 @@ returns : tie.Need-returns
 returns c =
     let t = c .before in
     let h = sym (ap toldList (t .t .given .1)) ∙ t .before .before .tz-at .ensures in
-    zone-no _ _ _ _ _ h
+    zone-no _ _ _ _ _ _ h
 
 returns-2 : tie.Need-returns-2
 returns-2 c =
     let t = c .before .before .before .before .before .before in
     let h = sym (ap toldList (t .t2 .given .1)) ∙ t .before .before .tz-at .ensures in
-    c .polys-from .ensures ∙ zone-is _ _ _ _ _ h (sym (c .before .before .before .contains .ensures) ∙ c .before .before .if1 .taken) _ (c .before .wide .ensures .0)
+    c .polys-from .ensures ∙ zone-is _ _ _ _ _ _ h (sym (c .before .before .before .contains .ensures) ∙ c .before .before .if1 .taken) _ (c .before .wide .ensures .0)
 
 returns-3 : tie.Need-returns-3
 returns-3 c =
     let t = c .before .before .before .before in
     let h = sym (ap toldList (t .t2 .given .1)) ∙ t .before .before .tz-at .ensures in
-    zone-out _ _ _ _ _ h (sym (c .before .contains .ensures) ∙ c .if1 .left)
+    zone-out _ _ _ _ _ _ h (sym (c .before .contains .ensures) ∙ c .if1 .left)
 
 pub timezone-contains-spec : {M : Type 1} → statement M
 timezone-contains-spec =

@@ -8,14 +8,17 @@ use borrow.Author.Needs.{needs}
 use Rattle.tzb_c.proofs.tzb_ask.Statement.{statement}
 use Rattle.tzb_c.proofs.tzb_ask.Tie as tie
 
-lookup-requires : tie.Need-lookup-requires
-lookup-requires c κs = search needs
+slice-aggregate-lookup-by : tie.Need-slice-aggregate-lookup-by
+slice-aggregate-lookup-by c = search needs
+
+lookup-by-requires : tie.Need-lookup-by-requires
+lookup-by-requires c κs = search needs
 
 zone-code-requires : tie.Need-zone-code-requires
 zone-code-requires c κs = search needs
 
 returns : tie.Need-returns
-returns c = back w64 _ (c .zone-code .ok) ∙ c .zone-code .ensures ∙ ap zoneCode (c .before .lookup .ensures)
+returns c = back w64 _ (c .zone-code .ok) ∙ c .zone-code .ensures ∙ ap zoneCode (c .before .lookup-by .ensures)
 
 pub tzb-ask-spec : {M : Type 1} → statement M
-tzb-ask-spec = tie.close (tie.spec lookup-requires zone-code-requires returns)
+tzb-ask-spec = tie.close (tie.spec slice-aggregate-lookup-by lookup-by-requires zone-code-requires returns)

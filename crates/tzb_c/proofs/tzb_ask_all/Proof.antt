@@ -1,61 +1,27 @@
--- `tzb_ask_all` meets its contract: a refusal, or how many zones.
+-- `tzb_ask_all` meets its contract: all zones of a position, plainly.
 -- Assumes nothing.
-use native.Mathlib.Omega.{arith}
-use mathlib.Core.Path.{sym, ap, _∙_}
+use mathlib.Core.Path.{_∙_}
 use mir.Syntax.{w64}
-use mir.ValLaws.{toZ-pos}
 use Rattle.basics.specs.Signed.{back}
 use borrow.Author.Needs.{needs}
 use Rattle.tzb_c.proofs.tzb_ask_all.Statement.{statement}
 use Rattle.tzb_c.proofs.tzb_ask_all.Tie as tie
-use Rattle.replies.specs.Replies.{listingTold}
-use Rattle.tzb_codes.specs.Codes.{numberCode}
 
-lookup-into-requires : tie.Need-lookup-into-requires
-lookup-into-requires c κs = search needs
+slice-aggregate-ask-all-by : tie.Need-slice-aggregate-ask-all-by
+slice-aggregate-ask-all-by c = search needs
 
-enum-known-a : tie.Need-enum-known-a
-enum-known-a c = search needs
-
-refusal-code64-requires : tie.Need-refusal-code64-requires
-refusal-code64-requires c κs = search needs
-
-enum-known-a-2 : tie.Need-enum-known-a-2
-enum-known-a-2 c = search needs
-
-cast-result : tie.Need-cast-result
-cast-result c = search needs
+ask-all-by-requires : tie.Need-ask-all-by-requires
+ask-all-by-requires c κs = search needs
 
 same-length : tie.Need-same-length
 same-length c = search needs
 
 returns : tie.Need-returns
 returns c =
-    let d = c .before .before .before .before .before .before in (
-      back w64 _ (c .refusal-code64 .ok) ∙ c .refusal-code64 .ensures ∙ ap numberCode (sym (ap listingTold (c .before .before .a .given .1)) ∙ d .lookup-into .ensures .0),
-      d .lookup-into .ensures .1,
-    )
-
-same-length-2 : tie.Need-same-length-2
-same-length-2 c = search needs
-
-returns-2 : tie.Need-returns-2
-returns-2 c =
-    let d = c .before .before .before .before .before in (
-      toZ-pos w64 _ (omega arith) ∙ ap numberCode (sym (ap listingTold (c .before .a2 .given .1)) ∙ d .lookup-into .ensures .0),
-      d .lookup-into .ensures .1,
+    let d = c .before .before in (
+      back w64 _ (d .ask-all-by .ok) ∙ d .ask-all-by .ensures .0,
+      d .ask-all-by .ensures .1,
     )
 
 pub tzb-ask-all-spec : {M : Type 1} → statement M
-tzb-ask-all-spec =
-    tie.close
-    (tie.spec
-    lookup-into-requires
-    enum-known-a
-    refusal-code64-requires
-    enum-known-a-2
-    cast-result
-    same-length
-    returns
-    same-length-2
-    returns-2)
+tzb-ask-all-spec = tie.close (tie.spec slice-aggregate-ask-all-by ask-all-by-requires same-length returns)

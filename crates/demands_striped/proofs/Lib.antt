@@ -1,0 +1,2 @@
+-- Demand 3 by stripes, of every file.
+pub mod Striped

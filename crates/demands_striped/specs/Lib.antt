@@ -1,0 +1,2 @@
+-- Demand 3 by stripes.
+pub mod Striped
