@@ -15,9 +15,9 @@ pub mod striped;
 pub mod tables;
 
 pub use cases::cases;
-#[cfg(test)]
-pub use examples::one_zone;
-pub use examples::{at_the_shortcuts_ends, bases, chunks, departing, kinds, least, marked};
+pub use examples::{
+    at_the_shortcuts_ends, bases, chunks, departing, kinds, least, marked, one_zone,
+};
 pub use grid::Grid;
 pub use shape::{Chunks, Op, Shape};
 

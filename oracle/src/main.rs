@@ -31,6 +31,7 @@ oracle compare exact FILE.tzb [SECONDS [SEED]]
 oracle compare wide [SECONDS [SEED]]
 oracle compare map [SECONDS [SEED]]
 oracle compare striped [SECONDS [SEED]]
+oracle compare striped FILE.tzb [SECONDS [SEED]]
 oracle load [INPUTS [SEED]] [--from NUMBER]
 oracle stack [SEED]
 oracle short [SECONDS [SEED]]
@@ -68,11 +69,8 @@ fn main() {
         ["compare", "map", seconds] => compare::map::run(number(seconds), random::fresh_seed()),
         ["compare", "map", seconds, seed] => compare::map::run(number(seconds), number(seed)),
         ["compare", "striped"] => compare::striped::run(60, random::fresh_seed()),
-        ["compare", "striped", seconds] => {
-            compare::striped::run(number(seconds), random::fresh_seed())
-        }
-        ["compare", "striped", seconds, seed] => {
-            compare::striped::run(number(seconds), number(seed))
+        ["compare", "striped", one, ref rest @ ..] if rest.len() < 3 => {
+            timed(one, rest, compare::striped::run, compare::striped::one)
         }
         ["compare", "wide"] => compare::wide::run(60, random::fresh_seed()),
         ["compare", "wide", seconds] => compare::wide::run(number(seconds), random::fresh_seed()),

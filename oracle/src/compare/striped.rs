@@ -374,6 +374,21 @@ impl Run {
         out
     }
 
+    /// A file of less than two megabytes whose stripes take more than 2^32 numbers: their need is told, and no room is enough. The original
+    /// would build them as it opens, so it is not asked.
+    fn too_many(&mut self) -> Result<(), (Vec<u8>, String)> {
+        let file = striped::too_many();
+        self.tally.add("files with more than 2^32 numbers", 1);
+        let record = open_into(&file, SIZE).expect("a file of the builder");
+        let built = self.build(Subject { record: &record, file: &file });
+        let built = built.map_err(|why| (file.clone(), why))?;
+        assert_eq!(built, Err(46), "so many numbers are not built");
+        // A chunk stands in all 256 stripes of a group, but for the last one, which is a point.
+        let need = 257 * (5 + 3 * 256 + 65_534 * 256 + 1);
+        assert_eq!(self.port.need(&record, &file), Ok(need), "by hand");
+        Ok(())
+    }
+
     /// Files that are fixed: one of each valid kind, those that break a rule, those at which the original departs.
     fn fixed(&mut self) -> Result<(), (Vec<u8>, String)> {
         let mut files = file::kinds();
@@ -392,6 +407,7 @@ impl Run {
 mod with_the_archive {
     use super::*;
     use crate::compare::stop;
+    use std::path::Path;
     use std::time::{Duration, Instant};
 
     #[cfg(striped)]
@@ -423,13 +439,35 @@ mod with_the_archive {
         }
         let mut run = Run::new(PORT, seed);
         run.fixed().unwrap_or_else(|found| end(seed, found));
+        run.too_many().unwrap_or_else(|found| end(seed, found));
         let sample = std::fs::read(SAMPLE).expect("the sample");
         run.tally.add("the sample", 1);
         run.file(&sample, &[], OF_SAMPLE).unwrap_or_else(|why| end(seed, (sample, why)));
         for_seconds(&mut run, seconds, seed);
-        run.tally.print();
-        run.met.print();
-        println!("seed {seed}: 0 differences");
+        run.print(seed);
+    }
+
+    /// A large file: beside every box of its groups and chunks, then beside some until the time is over.
+    pub fn one(path: &Path, seconds: u64, seed: u64) {
+        println!("seed {seed}, {} for {seconds} s", path.display());
+        let file = std::fs::read(path).expect("the file");
+        let mut run = Run::new(PORT, seed);
+        let mut most = usize::MAX;
+        let start = Instant::now();
+        while most == usize::MAX || start.elapsed() < Duration::from_secs(seconds) {
+            run.tally.add("times the file", 1);
+            run.file(&file, &[], most).unwrap_or_else(|why| end(seed, (file.clone(), why)));
+            most = 1000;
+        }
+        run.print(seed);
+    }
+
+    impl Run {
+        fn print(&self, seed: u64) {
+            self.tally.print();
+            self.met.print();
+            println!("seed {seed}: 0 differences");
+        }
     }
 
     /// Random files alone; all that is told of a run is told in one line.
@@ -443,7 +481,7 @@ mod with_the_archive {
     }
 }
 
-pub use with_the_archive::{run, short};
+pub use with_the_archive::{one, run, short};
 
 #[cfg(test)]
 mod tests;

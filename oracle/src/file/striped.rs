@@ -164,6 +164,15 @@ fn share(random: &mut Random, draft: &mut Draft) {
     part(draft, GROUPDIR).extend(words.flat_map(i32::to_le_bytes));
 }
 
+/// 257 groups that share 65,535 chunks, each as tall as the group: every chunk stands in each of 256 stripes, of every group.
+pub fn too_many() -> Vec<u8> {
+    let point = |i: usize| vec![(0, if i.is_multiple_of(2) { -1000 } else { 1000 })];
+    let mut draft = one_zone(Chunks((0..65_535).map(point).collect()), usize::MAX, false);
+    let groups = part(&mut draft, GROUPDIR);
+    *groups = groups.repeat(257);
+    draft.lay()
+}
+
 /// The least file with a group of so many chunks, all of them a point at 0, 0. The last one's box reaches one below its group's, or above.
 #[cfg(test)]
 pub fn leaving(chunks: usize, above: bool) -> Vec<u8> {

@@ -57,7 +57,7 @@ pub fn of(o: &Opened, random: &mut Random, most: usize) -> Vec<Question> {
         let place = beside(random, boxes[of], which);
         at(o, random, place, &mut out);
     }
-    for _ in 0..1 + most / 40 {
+    for _ in 0..1 + (most / 40).min(3) {
         let (x, y) = (random.pick(&SPECIAL), random.pick(&SPECIAL));
         out.extend([Question::Lookup(x, y), Question::LookupInto(x, y, 16)]);
         let anywhere = (random.part() * 3.6e7 - 1.8e7, random.part() * 1.8e7 - 9e6);
