@@ -34,11 +34,6 @@ fn main() {
     if !library.exists() {
         stop(&format!("{} is not there: run 'rt staticlib tzb_c' first", library.display()));
     }
-    // What calls the exports of stripes is built where the archive has them.
-    println!("cargo:rustc-check-cfg=cfg(striped)");
-    if env::var_os("CARGO_FEATURE_STAND_IN").is_some() || names(&library, b"tzb_stripes_need") {
-        println!("cargo:rustc-cfg=striped");
-    }
     println!("cargo:rerun-if-changed={}", library.display());
     println!("cargo:rustc-env=TZB_ARCHIVE={}", library.display());
     println!("cargo:rerun-if-changed=shims/tzb");
@@ -49,12 +44,6 @@ fn main() {
 fn folder(root: &Path, variable: &str, default: &str) -> PathBuf {
     println!("cargo:rerun-if-env-changed={variable}");
     root.join(env::var(variable).unwrap_or(default.to_string()))
-}
-
-/// Whether the archive's bytes have that name.
-fn names(library: &Path, name: &[u8]) -> bool {
-    let bytes = fs::read(library).unwrap();
-    bytes.windows(name.len()).any(|part| part == name)
 }
 
 fn read(path: &Path) -> String {

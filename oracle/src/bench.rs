@@ -4,7 +4,6 @@ mod asking;
 pub mod hostile;
 mod large;
 pub mod map;
-#[cfg(striped)]
 mod striped;
 pub mod zones;
 

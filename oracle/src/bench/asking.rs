@@ -89,7 +89,6 @@ pub fn run(file: &[u8]) {
     both.lookup_into("near borders", &borders);
     both.contains("near borders, the zones there", &places);
     both.contains("random zones and points", &far);
-    #[cfg(striped)]
     super::striped::run(file, &anywhere, &borders, &places);
     both.decode(opened.chunks() as u32);
     both.names(opened.zones as u32);

@@ -3,7 +3,7 @@
 //! them are those of the plain walk: the rules', the port's and the original's. Lent memory is looked at to its last number.
 
 pub mod questions;
-#[cfg(any(test, not(striped), feature = "stand_in"))]
+#[cfg(test)]
 mod stand_in;
 
 use super::Tally;
@@ -410,10 +410,7 @@ mod with_the_archive {
     use std::path::Path;
     use std::time::{Duration, Instant};
 
-    #[cfg(striped)]
     use crate::port::striped::PORT;
-    #[cfg(not(striped))]
-    use stand_in::STAND_IN as PORT;
 
     const SAMPLE: &str = concat!(env!("CARGO_MANIFEST_DIR"), "/../sample/real-ne.tzb");
     /// So many places of the sample.
@@ -434,9 +431,6 @@ mod with_the_archive {
     /// The kept files and the sample; then random files until the time is over.
     pub fn run(seconds: u64, seed: u64) {
         println!("seed {seed}, random files for {seconds} s");
-        if cfg!(not(striped)) {
-            println!("the archive has no stripes: the rules stand in its place");
-        }
         let mut run = Run::new(PORT, seed);
         run.fixed().unwrap_or_else(|found| end(seed, found));
         run.too_many().unwrap_or_else(|found| end(seed, found));

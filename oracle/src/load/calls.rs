@@ -3,7 +3,6 @@
 use super::Tally;
 use super::fence::PAGE;
 use super::fence::{Lent, Room};
-#[cfg(striped)]
 use super::inputs::NUMBERS;
 use super::inputs::{Input, LONGEST, SHORT};
 use super::watch;
@@ -16,7 +15,6 @@ pub struct Caller {
     file: Lent,
     record: Lent,
     part: Lent,
-    #[cfg(striped)]
     numbers: Lent,
     rooms: [Room; 6],
     pub tally: Tally,
@@ -47,7 +45,6 @@ impl Caller {
             file: Lent::new(LONGEST),
             record: Lent::new(SHORT),
             part: Lent::new(SHORT),
-            #[cfg(striped)]
             numbers: Lent::new(4 * NUMBERS),
             rooms: [(); 6].map(|()| Room::new()),
             tally: Tally::new(),
@@ -65,10 +62,7 @@ impl Caller {
         self.names(input, record, file)?;
         self.candidates(input, record, file)?;
         let walked = self.walks(input, record, file)?;
-        #[cfg(striped)]
         self.stripes(input, record, file, &walked)?;
-        #[cfg(not(striped))]
-        let _ = walked;
         let part = self.part.put(&input.part, input.at_end[2]);
         self.parts(input, part)
     }
@@ -228,7 +222,6 @@ impl Caller {
 
     /// The need, then the numbers, 46 exactly where the room is below it; then the walks' questions, with these numbers or others. With the
     /// numbers that were built they are answered as without.
-    #[cfg(striped)]
     fn stripes(
         &mut self,
         input: &Input,
@@ -258,7 +251,6 @@ impl Caller {
         self.by_stripes(input, (r, size), (f, length), (written.is_some(), built), plain)
     }
 
-    #[cfg(striped)]
     fn by_stripes(
         &mut self,
         input: &Input,

@@ -259,7 +259,6 @@ fn a_wrong_map_is_found_out() {
     assert!(told(Exports { map_length: length_that_is_one_more, ..PORT }).is_some());
 }
 
-#[cfg(striped)]
 mod of_stripes {
     use super::*;
 

@@ -1,9 +1,7 @@
 //! The original's own stripes, in document 02's numbers.
 
 use super::opening::Opened;
-#[cfg(striped)]
 use super::opening::said;
-#[cfg(striped)]
 use crate::rules::Said;
 use crate::rules::stripes::{OF_GROUP, OF_STRIPE, halves};
 
@@ -27,7 +25,6 @@ impl Opened<'_> {
     }
 
     /// Builds them anew.
-    #[cfg(striped)]
     pub fn build_stripes(&mut self) -> Said<()> {
         said(|| self.reader.build_stripes())
     }

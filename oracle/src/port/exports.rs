@@ -1,7 +1,6 @@
 //! Every export of `include/tzb.h`, in its order. Declared once, and as a table, so that a test can put a wrong one in the place of any.
 
 type Bytes = *const u8;
-#[cfg(striped)]
 type Numbers = *const u32;
 
 /// For each export: when it is there, its place in `NAMES`, its field in the table, and its declaration.
@@ -63,25 +62,20 @@ exports! {
         record: Bytes, size: usize, file: Bytes, length: usize,
         lng: f64, lat: f64, zones: *mut u32, places: usize
     ) -> i64;
-    #[cfg(striped)]
     StripesNeed stripes_need: unsafe fn tzb_stripes_need(
         record: Bytes, size: usize, file: Bytes, length: usize
     ) -> i64;
-    #[cfg(striped)]
     Stripes stripes: unsafe fn tzb_stripes(
         record: Bytes, size: usize, file: Bytes, length: usize, numbers: *mut u32, room: usize
     ) -> i64;
-    #[cfg(striped)]
     ContainsStriped contains_striped: unsafe fn tzb_contains_striped(
         record: Bytes, size: usize, numbers: Numbers, count: usize, file: Bytes, length: usize,
         zone: u32, x: i32, y: i32
     ) -> i32;
-    #[cfg(striped)]
     AskStriped ask_striped: unsafe fn tzb_ask_striped(
         record: Bytes, size: usize, numbers: Numbers, count: usize, file: Bytes, length: usize,
         lng: f64, lat: f64
     ) -> i64;
-    #[cfg(striped)]
     AskAllStriped ask_all_striped: unsafe fn tzb_ask_all_striped(
         record: Bytes, size: usize, numbers: Numbers, count: usize, file: Bytes, length: usize,
         lng: f64, lat: f64, zones: *mut u32, places: usize

@@ -1,6 +1,5 @@
 //! Stripes by the port (document 02, 2026-02). The five exports stand in a table, so that a test can put others in their place.
 
-#[cfg(striped)]
 use super::exports::*;
 use super::opening::{AT_ODDS, CHANGED, said, unless_changed};
 use crate::rules::Said;
@@ -33,7 +32,6 @@ pub struct Stripes {
     pub ask_all: AskAll,
 }
 
-#[cfg(striped)]
 pub const PORT: Stripes = Stripes {
     need: tzb_stripes_need,
     build: tzb_stripes,

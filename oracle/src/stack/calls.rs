@@ -15,7 +15,6 @@ pub struct Lent {
     ends: Vec<u64>,
     points: Vec<i32>,
     zones: Vec<u32>,
-    #[cfg(striped)]
     numbers: Vec<u32>,
     text: Vec<u8>,
 }
@@ -28,7 +27,6 @@ impl Lent {
             ends: vec![0; 2],
             points: vec![0; 2 * 65_535],
             zones: vec![0; 65_535],
-            #[cfg(striped)]
             numbers: vec![0; 0x10_0000],
             text: vec![0; 0x40_0000],
         }
@@ -162,7 +160,6 @@ fn of_file(
     call(Export::Utf8, utf8 as *const (), &[f, length], none);
     call(Export::Open, open as *const (), &[f, length, record, 0], none);
     call(Export::Open, open as *const (), &[f, length, record, SIZE as u64], none);
-    #[cfg(striped)]
     build([record, SIZE as u64, f, length], lent, &mut call);
     for turn in 0..turns {
         let at = position(random, turn);
@@ -170,13 +167,11 @@ fn of_file(
             call(Export::Lookup, lookup as *const (), &[f, length], at);
         }
         questions(random, [record, SIZE as u64, f, length], at, lent, &mut call);
-        #[cfg(striped)]
         by_stripes(random, [record, SIZE as u64, f, length], at, lent, &mut call);
     }
 }
 
 /// The stripes' numbers. Where they are refused, those of a file before stay.
-#[cfg(striped)]
 fn build(
     [r, size, f, length]: [u64; 4],
     lent: &mut Lent,
@@ -191,7 +186,6 @@ fn build(
 }
 
 /// The walks' questions with the numbers that were built last, whole or cut.
-#[cfg(striped)]
 fn by_stripes(
     random: &mut Random,
     [r, size, f, length]: [u64; 4],

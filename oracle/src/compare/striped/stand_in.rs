@@ -1,11 +1,9 @@
-//! The rules behind the exports' forms, for tests that change one thing, and wherever the archive does not have the exports.
+//! The rules behind the exports' forms, for tests that change one thing.
 
-#[cfg(any(test, not(striped)))]
 use crate::port::striped::Stripes;
 use crate::rules::{Judge, Opened, Said};
 use std::slice::{from_raw_parts, from_raw_parts_mut};
 
-#[cfg(any(test, not(striped)))]
 pub const STAND_IN: Stripes = Stripes { need, build, contains, ask, ask_all };
 
 fn code(said: Said<i64>) -> i64 {
@@ -30,13 +28,11 @@ unsafe fn lay(answer: Said<Vec<u32>>, to: *mut u32, room: usize) -> i64 {
     }))
 }
 
-#[cfg_attr(feature = "stand_in", unsafe(export_name = "tzb_stripes_need"))]
 pub unsafe extern "C" fn need(r: *const u8, size: usize, f: *const u8, length: usize) -> i64 {
     let opened = unsafe { opened(r, size, f, length) };
     code(opened.and_then(|o| o.stripes_need()).map(|need| need as i64))
 }
 
-#[cfg_attr(feature = "stand_in", unsafe(export_name = "tzb_stripes"))]
 pub unsafe extern "C" fn build(
     r: *const u8,
     size: usize,
@@ -59,7 +55,6 @@ unsafe fn striped<'a>(
 }
 
 #[allow(clippy::too_many_arguments)]
-#[cfg_attr(feature = "stand_in", unsafe(export_name = "tzb_contains_striped"))]
 pub unsafe extern "C" fn contains(
     r: *const u8,
     size: usize,
@@ -76,7 +71,6 @@ pub unsafe extern "C" fn contains(
 }
 
 #[allow(clippy::too_many_arguments)]
-#[cfg_attr(feature = "stand_in", unsafe(export_name = "tzb_ask_striped"))]
 pub unsafe extern "C" fn ask(
     r: *const u8,
     size: usize,
@@ -93,7 +87,6 @@ pub unsafe extern "C" fn ask(
 }
 
 #[allow(clippy::too_many_arguments)]
-#[cfg_attr(feature = "stand_in", unsafe(export_name = "tzb_ask_all_striped"))]
 pub unsafe extern "C" fn ask_all(
     r: *const u8,
     size: usize,

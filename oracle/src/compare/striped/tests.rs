@@ -1,5 +1,5 @@
-//! That the comparison can fail: the rules stand in the exports' place, and are changed in one thing. Where the archive has the exports,
-//! these are compared as well.
+//! That the comparison can fail: the rules stand in the exports' place, and are changed in one thing. The archive's exports are compared as
+//! well.
 
 use super::stand_in::{STAND_IN, ask, ask_all, build, contains, need};
 use super::*;
@@ -17,7 +17,6 @@ fn the_rules_are_not_found_fault_with() {
     assert_eq!(found(STAND_IN), None);
 }
 
-#[cfg(striped)]
 #[test]
 fn the_port_is_not_found_fault_with() {
     assert_eq!(found(crate::port::striped::PORT), None);
