@@ -16,4 +16,4 @@ COUNTS=target/counts qemu-x86_64 -plugin "$PWD/target/count.so" "$built" bench "
 printf '%-46s%16s%16s%8s\n' item port original ratio
 sed 1d target/counted >target/counted.rows
 paste -d ' ' - - - <target/counts | paste -d '|' target/counted.rows - |
-  awk -F '|' '{ split($2, at, " "); p = at[2] - at[1]; o = at[3] - at[2]; printf "%-46s%16d%16d%8.2f\n", $1, p, o, o / p }'
+  awk -F '|' '{ split($2, at, " "); p = at[2] - at[1]; o = at[3] - at[2]; printf "%-46s%16.0f%16.0f%8.2f\n", $1, p, o, o / p }'

@@ -24,6 +24,8 @@ pub fn run() {
         let parts = shape_of(zigzag(points)).parts();
         of_chunks(&format!("{MOST} chunks of {points}"), &file_of(parts, &one));
     }
+    let parts = shape_of(rising()).parts();
+    of_chunks(&format!("{MOST} flat chunks"), &file_of(parts, &one));
     let [groups, ring] = shared();
     of_chunks(&format!("{MOST} chunks, {SHARED} groups of them"), &file_of(groups, &one));
     of_chunks(&format!("{MOST} chunks, {SHARED} times in a ring"), &file_of(ring, &one));
@@ -68,6 +70,12 @@ fn zigzag(points: usize) -> Chunks {
     let point = |i: usize| if i % 2 == 0 { (-1000, -1000) } else { (1000, 1000) };
     let chunk = |c: usize| (c * points..(c + 1) * points).map(point).collect();
     Chunks((0..MOST).map(chunk).collect())
+}
+
+/// A point in each chunk, each one higher than the last.
+fn rising() -> Chunks {
+    let point = |i: usize| (if i.is_multiple_of(2) { -1000 } else { 1000 }, i as i32 - 30_000);
+    Chunks((0..MOST).map(|i| vec![point(i)]).collect())
 }
 
 /// The same chunks in so many groups, of which the ring has one; and their one group so many times in the ring.
@@ -137,6 +145,29 @@ fn of_chunks(what: &str, file: &[u8]) {
     let other = original::opening::open(file).ok().expect("a file that opens");
     let mut contains = || unsafe { tzb_contains(r, size, f, length, 0, -1, 0) } as u64;
     row(&format!("{what}: contains"), &mut contains, Some(&mut || other.is_in(0, -1, 0) as u64));
+    of_stripes(what, file, other);
+}
+
+/// Building stripes, where they fit into half a gigabyte, and asking by them. The original has them in every row.
+fn of_stripes(what: &str, file: &[u8], mut other: original::opening::Opened) {
+    let opened = port::opening::open(file).expect("a file that opens");
+    let (r, size, f, length) = opened.parts();
+    let mut measure = || unsafe { tzb_stripes_need(r, size, f, length) } as u64;
+    let need = measure();
+    row(&format!("{what}: the need, {need} numbers"), &mut measure, None);
+    if need > 1 << 27 {
+        return;
+    }
+    let mut numbers = vec![0u32; need as usize];
+    let (to, room) = (numbers.as_mut_ptr(), numbers.len());
+    let mut build = || unsafe { tzb_stripes(r, size, f, length, to, room) } as u64;
+    let mut other_build = || other.build_stripes().map_or(0, |()| need);
+    row(&format!("{what}: building them"), &mut build, Some(&mut other_build));
+    let (n, count) = (numbers.as_ptr(), numbers.len());
+    let mut contains =
+        || unsafe { tzb_contains_striped(r, size, n, count, f, length, 0, -1, 0) } as u64;
+    let name = format!("{what}: contains by stripes");
+    row(&name, &mut contains, Some(&mut || other.is_in(0, -1, 0) as u64));
 }
 
 /// Opening and the full check, which the original has not.
