@@ -4,6 +4,7 @@ mod asking;
 pub mod hostile;
 mod large;
 pub mod map;
+mod mixed;
 mod striped;
 pub mod zones;
 
@@ -76,6 +77,9 @@ pub fn run(file: Option<&Path>, wanted: &str) {
     head();
     if let Some(file) = &file {
         of_file(file);
+    }
+    for (kind, one, two) in mixed::MIXES {
+        asking::decoding(kind, &mixed::file(one, two));
     }
     of_bytes("CRC-32", &[whole], tzb_crc32, original_crc32);
     of_bytes("CRC-32, messages of one byte", &vec![vec![0]; 2_000], tzb_crc32, original_crc32);

@@ -21,6 +21,7 @@ use std::path::Path;
 include!(concat!(env!("OUT_DIR"), "/original.rs"));
 
 const USAGE: &str = "oracle compare [SECONDS [SEED]]
+oracle compare numbers
 oracle compare files [SECONDS [SEED]]
 oracle compare file FILE.tzb
 oracle compare tables [SECONDS [SEED]]
@@ -47,6 +48,7 @@ fn main() {
     let words: Vec<&str> = words.iter().map(String::as_str).collect();
     match words[..] {
         ["compare"] => compare::run(60, random::fresh_seed()),
+        ["compare", "numbers"] => compare::varint::run(),
         ["compare", "files"] => compare::files::run(60, random::fresh_seed()),
         ["compare", "files", seconds] => compare::files::run(number(seconds), random::fresh_seed()),
         ["compare", "files", seconds, seed] => compare::files::run(number(seconds), number(seed)),

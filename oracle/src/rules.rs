@@ -15,6 +15,7 @@ mod walk;
 
 pub use asking::Judge;
 pub use bytes::crc32;
+pub use chunk::reading;
 pub use full::{Broken, full_check};
 pub use questions::Candidates;
 pub use records::Bounds;

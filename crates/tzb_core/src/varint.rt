@@ -1,7 +1,7 @@
 // The varint: zigzag LEB128, Protocol Buffers' sint32. A place is a value; a number read there comes with the place after it.
 ghost use mathlib.Core.Path.{_≡_};
 ghost use mathlib.Core.Bool.{true};
-ghost use Prim.Native.Nat.{_<_};
+ghost use Prim.Native.Nat.{_-_, _<_};
 ghost use Rattle.answer.specs.Answers.{ok, no};
 ghost use Rattle.varints.specs.Varint.{unzig, digits, numberAt, atEnd};
 ghost use Rattle.tzb_core.specs.Steps.{digitsTold};
@@ -52,25 +52,13 @@ fn refused(number: u32) -> Digits
     Digits::Refused(answer::refuse(number))
 }
 
-// The fifth byte: any of the bits 0xf0 is too much, whatever else it is.
-fn varint_fifth(s: &[u8], at: usize, low: u32) -> Digits
-    requires { ⌜ low < 0x1000_0000 ⌝ }
-    ensures { λ r. ⌜ digitsTold r ≡ rest low 0x1000_0000 0 (now (s .entry)) at ⌝ }
+fn less_one(n: usize) -> usize
+    ensures { λ r. ⌜ r ≡ n - 1 ⌝ }
 {
-    if s.len() <= at {
-        return refused(38);
-    }
-    let b = wide(s[at]);
-    if 15 < b {
-        return refused(40);
-    }
-    if b == 0 {
-        return refused(39);
-    }
-    digits_of(low + 0x1000_0000 * b, at + 1)
+    if n == 0 { 0 } else { n - 1 }
 }
 
-// The bytes after the first, whose digit is low.
+// The bytes after the first, whose digit is low. Of the fifth, any of the bits 0xf0 is too much, whatever else it is.
 fn varint_slow(s: &[u8], from: usize, low: u32) -> Digits
     requires { ⌜ low < 128 ⌝ }
     ensures { λ r. ⌜ digitsTold r ≡ rest low 128 3 (now (s .entry)) from ⌝ }
@@ -78,13 +66,15 @@ fn varint_slow(s: &[u8], from: usize, low: u32) -> Digits
     let mut at = from;
     let mut n = low;
     let mut unit: u32 = 128;
-    let mut left: u32 = 3;
-    while 0 < left {
+    loop {
         if s.len() <= at {
             return refused(38);
         }
         let b = wide(s[at]);
         at += 1;
+        if (unit == 0x1000_0000) & (15 < b) {
+            return refused(40);
+        }
         if b < 128 {
             if b == 0 {
                 return refused(39);
@@ -93,12 +83,11 @@ fn varint_slow(s: &[u8], from: usize, low: u32) -> Digits
         }
         n += unit * (b - 128);
         unit *= 128;
-        left -= 1;
     }
-    varint_fifth(s, at, n)
 }
 
-fn varint_digits(s: &[u8], from: usize) -> Digits
+// A number of any length, by the loop.
+fn varint_long(s: &[u8], from: usize) -> Digits
     ensures { λ r. ⌜ digitsTold r ≡ digits 4 true (now (s .entry)) from ⌝ }
 {
     if s.len() <= from {
@@ -109,6 +98,25 @@ fn varint_digits(s: &[u8], from: usize) -> Digits
         return digits_of(b, from + 1);
     }
     varint_slow(s, from + 1, b - 128)
+}
+
+// Numbers of one and of two bytes first, read directly and by one test, since which of the two comes next cannot be foretold: more is 1 where a second byte belongs to the number, and second is 128 where none does, else 127 + b1.
+fn varint_digits(s: &[u8], from: usize) -> Digits
+    ensures { λ r. ⌜ digitsTold r ≡ digits 4 true (now (s .entry)) from ⌝ }
+{
+    if from < less_one(s.len()) {
+        let b0 = wide(s[from]);
+        let next = from + 1;
+        let b1 = wide(s[next]);
+        let more = b0 / 128;
+        let second = 128 + more * b1 - more;
+        if 128 <= second {
+            if second < 255 {
+                return digits_of(b0 + 128 * second - 16384, next + (more as usize));
+            }
+        }
+    }
+    varint_long(s, from)
 }
 
 impl Place {

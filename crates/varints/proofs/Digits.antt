@@ -1,14 +1,15 @@
 -- Laws of the digits: what each test on a byte says of the number that is being read, and the sums that the loop keeps.
 -- Assumes nothing.
-use mathlib.Core.Path.{_≡_, refl, sym, ap, _∙_}
-use Prim.Native.Nat.{ℕ, zero, suc, _+_, _-_, _*_, _≤_, _<_}
+use mathlib.Core.Path.{_≡_, refl, sym, ap, ap₂, _∙_}
+use Prim.Native.Nat.{ℕ, zero, suc, _+_, _-_, _*_, _/_, _≤_, _<_}
 use native.Mathlib.Nat.{not-suc-le-zero, mul-le-mul-left}
 use native.Mathlib.Numerals.{sub-one}
 use native.Mathlib.Omega.{arith}
 use mathlib.Core.List.{List}
-use mathlib.Core.Bool.{Bool, true, false}
+use mathlib.Core.Bool.{Bool, true, false, _&&_, false≢true}
 use lib.ListN.{length, getD}
-use borrow.Author.Tests.{lt-ltb, le-ltb, le-leb, lt-leb, eq-eqb, ne-eqb}
+use lib.Dec.{ltb, eqb}
+use borrow.Author.Tests.{lt-ltb, le-ltb, le-leb, lt-leb, eq-eqb, ne-eqb, ltb-true, ltb-false}
 use Rattle.answer.specs.Answers.{Answer, ok, refused, no}
 use Rattle.varints.specs.Varint.{last, below, digits}
 use Rattle.varints.specs.Steps.{rest}
@@ -92,14 +93,14 @@ module _ (n u : ℕ) (s : List ℕ) (p : ℕ) where
         ∙ ap (below n u) (sym (digits-more s p h k false (omega arith))))
 
     -- the fifth
-    pub fifth-high : 15 < b → no 40 ≡ rest n u 0 s p
+    fifth-high : 15 < b → no 40 ≡ rest n u 0 s p
     unfolding rest
     fifth-high l = sym (ap (below n u) (digits-high s p h false (omega arith)))
 
-    pub fifth-zero : b ≤ 15 → b ≡ 0 → no 39 ≡ rest n u 0 s p
+    fifth-zero : b ≤ 15 → b ≡ 0 → no 39 ≡ rest n u 0 s p
     fifth-zero l = zero-at 0 (digits-fifth s p h false (omega arith))
 
-    pub fifth-end : b ≤ 15 → (b ≡ 0 → ⊥) → ok (n + u * b, p + 1) ≡ rest n u 0 s p
+    fifth-end : b ≤ 15 → (b ≡ 0 → ⊥) → ok (n + u * b, p + 1) ≡ rest n u 0 s p
     fifth-end l = end-at 0 (digits-fifth s p h false (omega arith))
 
 -- ---- the sums fit
@@ -134,12 +135,67 @@ module _ (u k : ℕ) (z : 0 < k) (e : u * lim k ≡ 0x1_0000_0000) where
       go zero z e = absurd (not-suc-le-zero z)
       go (suc k) z e = omega (arith, e, mul-le-mul-left u (lim-pos k))
 
--- where none is left the unit is that of the fifth digit
-pub last-unit : (u k : ℕ) → k ≤ 0 → u * lim k ≡ 0x1_0000_0000 → u ≡ 0x1000_0000
-last-unit u zero h e = omega (arith, e)
-last-unit u (suc k) h e = absurd (not-suc-le-zero h)
+-- ---- a turn of the loop: the digit of unit u is the fifth exactly where no more may follow it, and then a byte above 15 is too much
+abbrev over : ℕ → ℕ → Bool
+over u b = eqb u 0x1000_0000 && ltb 15 b
 
-pub last-rest : (n u k : ℕ) (s : List ℕ) (p : ℕ) → k ≤ 0 → u * lim k ≡ 0x1_0000_0000 → rest n 0x1000_0000 0 s p ≡ rest n u k s p
-last-rest n u k s p h e =
-    let z : k ≡ 0 = omega arith in
-    rw (last-unit u k h e, z)
+over-last : (u b : ℕ) → u * 16 ≡ 0x1_0000_0000 → over u b ≡ ltb 15 b
+over-last u b w = simp (eq-eqb u 0x1000_0000 (omega (arith, w)))
+
+over-before : (u k b : ℕ) → u * lim (suc k) ≡ 0x1_0000_0000 → over u b ≡ false
+over-before u k b w = simp (ne-eqb u 0x1000_0000 (λ (i : u ≡ 0x1000_0000). small (unit-fits u (suc k) (omega arith) w) i))
+  where
+    small : u * 128 ≤ 0x1000_0000 → u ≡ 0x1000_0000 → ⊥
+    small l i = omega arith
+
+module _ (n u : ℕ) (s : List ℕ) (p b : ℕ) (h : p < length s) (e : b ≡ getD s p 0) where
+  pub turn-high : (k : ℕ) → u * lim k ≡ 0x1_0000_0000 → over u b ≡ true → no 40 ≡ rest n u k s p
+  turn-high zero w o = fifth-high n u s p b h e (ltb-true 15 b (sym (over-last u b w) ∙ o))
+  turn-high (suc k) w o = absurd (false≢true (sym (over-before u k b w) ∙ o))
+
+  pub turn-zero : (k : ℕ) → u * lim k ≡ 0x1_0000_0000 → over u b ≡ false → b < 128 → b ≡ 0 → no 39 ≡ rest n u k s p
+  turn-zero zero w o l = fifth-zero n u s p b h e (ltb-false 15 b (sym (over-last u b w) ∙ o))
+  turn-zero (suc k) w o l = rest-zero n u s p b h e (suc k) (omega arith) l
+
+  pub turn-end : (k : ℕ) → u * lim k ≡ 0x1_0000_0000 → over u b ≡ false → b < 128 → (b ≡ 0 → ⊥) → ok (n + u * b, p + 1) ≡ rest n u k s p
+  turn-end zero w o l = fifth-end n u s p b h e (ltb-false 15 b (sym (over-last u b w) ∙ o))
+  turn-end (suc k) w o l = rest-end n u s p b h e (suc k) (omega arith) l
+
+-- the sum fits
+pub turn-fits : (n u k b : ℕ) → u * lim k ≡ 0x1_0000_0000 → n < u → over u b ≡ false → b < 128 → n + u * b < 0x1_0000_0000
+turn-fits n u zero b w i o l = omega (arith, w, mul-le-mul-left u (ltb-false 15 b (sym (over-last u b w) ∙ o)))
+turn-fits n u (suc k) b w i o l = omega (arith, room u (suc k) (omega arith) w n b i l, unit-fits u (suc k) (omega arith) w)
+
+-- a byte that has a digit to follow is not the fifth
+pub turn-more : (u k b : ℕ) → u * lim k ≡ 0x1_0000_0000 → over u b ≡ false → 128 ≤ b → 0 < k
+turn-more u zero b w o l = absurd (none (ltb-false 15 b (sym (over-last u b w) ∙ o)))
+  where
+    none : b ≤ 15 → ⊥
+    none i = omega arith
+turn-more u (suc k) b w o l = omega arith
+
+-- ---- one byte or two, told by one number: more is 1 where the second byte c belongs to the number, and 128 + more * c - more is 128 where it does not
+pub more-fits : (b c : ℕ) → b < 256 → c < 256 → b / 128 * c < 256
+more-fits b c h l = go (b / 128) (omega arith)
+  where
+    go : (more : ℕ) → more ≤ 1 → more * c < 256
+    go zero i = omega arith
+    go (suc zero) i = omega arith
+    go (suc (suc k)) i = omega arith
+
+module _ (s : List ℕ) (p b c : ℕ) (h : p + 1 < length s) (e : b ≡ getD s p 0) (f : c ≡ getD s (p + 1) 0) where
+  direct-by : (more : ℕ) → more ≡ b / 128 → b < 256 → 128 ≤ 128 + more * c - more → 128 + more * c - more < 255
+      → ok (b + 128 * (128 + more * c - more) - 16384, p + 1 + more) ≡ digits 4 true s p
+  direct-by zero m l lo hi = ap₂ (λ (n q : ℕ). ok (n, q)) (omega arith) (omega arith) ∙ first-only s p b (omega arith) e (omega arith)
+  direct-by (suc zero) m l lo hi =
+      ap₂ (λ (n q : ℕ). ok (n, q)) (omega arith) (omega arith)
+      ∙ rest-end (b - 128) 128 s (p + 1) c h f 3 (omega arith) (omega arith) (omega arith)
+      ∙ first-more s p b (omega arith) e (omega arith)
+  direct-by (suc (suc k)) m l lo hi = absurd (none (omega arith))
+    where
+      none : b < b → ⊥
+      none i = omega arith
+
+  pub direct : b < 256 → 128 ≤ 128 + b / 128 * c - b / 128 → 128 + b / 128 * c - b / 128 < 255
+      → ok (b + 128 * (128 + b / 128 * c - b / 128) - 16384, p + 1 + b / 128) ≡ digits 4 true s p
+  direct = direct-by (b / 128) refl

@@ -79,10 +79,7 @@ pub fn run(file: &[u8]) {
         })
         .collect();
 
-    let both = Both {
-        port: port::opening::open(file).expect("a file that opens"),
-        original: original::opening::open(file).ok().expect("a file that opens"),
-    };
+    let both = Both::open(file);
     both.lookup("random positions", &anywhere);
     both.lookup("near borders", &borders);
     both.lookup_into("random positions", &anywhere);
@@ -90,9 +87,15 @@ pub fn run(file: &[u8]) {
     both.contains("near borders, the zones there", &places);
     both.contains("random zones and points", &far);
     super::striped::run(file, &anywhere, &borders, &places);
-    both.decode(opened.chunks() as u32);
+    both.decode("all chunks", opened.chunks() as u32);
     both.names(opened.zones as u32);
     full_check(file);
+}
+
+/// Decoding alone, of a file whose numbers have such lengths.
+pub fn decoding(kind: &str, file: &[u8]) {
+    let opened = rules::open(file, &[]).ok().expect("a file that opens");
+    Both::open(file).decode(&format!("numbers as in {kind} data"), opened.chunks() as u32);
 }
 
 struct Both<'a> {
@@ -100,7 +103,14 @@ struct Both<'a> {
     original: Original<'a>,
 }
 
-impl Both<'_> {
+impl<'a> Both<'a> {
+    fn open(file: &'a [u8]) -> Self {
+        Self {
+            port: port::opening::open(file).expect("a file that opens"),
+            original: original::opening::open(file).ok().expect("a file that opens"),
+        }
+    }
+
     fn lookup(&self, name: &str, at: &Positions) {
         let (r, size, f, length) = self.port.parts();
         let mut port = || {
@@ -154,7 +164,7 @@ impl Both<'_> {
         row(&format!("containment, {name}, each"), at.len(), &mut port, &mut original);
     }
 
-    fn decode(&self, chunks: u32) {
+    fn decode(&self, name: &str, chunks: u32) {
         let (r, size, f, length) = self.port.parts();
         let mut out = vec![0i32; 131_072];
         let mut points = original::Points::with_capacity(65_536);
@@ -173,7 +183,7 @@ impl Both<'_> {
                 sum.wrapping_mul(31).wrapping_add(points.last().unwrap().y as u64)
             })
         };
-        row("decoding all chunks, a point", total, &mut port, &mut original);
+        row(&format!("decoding, {name}, a point"), total, &mut port, &mut original);
     }
 
     fn names(&self, zones: u32) {

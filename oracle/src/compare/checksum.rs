@@ -7,7 +7,7 @@ use crate::{bytes, original, port};
 fn ask(data: &[u8]) {
     if port::crc32(data) != original::crc32(data) {
         let both = |b: &Vec<u8>| (port::crc32(b), original::crc32(b));
-        differs("CRC-32", data.to_vec(), |b| bytes::simpler(b), both);
+        differs("CRC-32", "original", data.to_vec(), |b| bytes::simpler(b), both);
     }
 }
 

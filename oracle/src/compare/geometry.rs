@@ -24,7 +24,7 @@ fn ask(s: &Scene) {
     for q in &QUESTIONS {
         if (q.port)(s) != (q.original)(s) {
             let both = |s: &Scene| ((q.port)(s) as i64, (q.original)(s) as i64);
-            differs(q.name, *s, scene::simpler, both);
+            differs(q.name, "original", *s, scene::simpler, both);
         }
     }
 }

@@ -10,7 +10,7 @@ mod panel;
 mod sides;
 pub mod striped;
 mod utf8;
-mod varint;
+pub mod varint;
 pub mod wide;
 
 use crate::bytes::hex;
@@ -42,6 +42,11 @@ impl Tally {
             println!("{count:>12}  {kind}");
         }
     }
+
+    fn end(&self) {
+        self.print();
+        println!("{:>12}  in all, 0 differences", self.total());
+    }
 }
 
 /// First every input of the fixed kinds, then random ones in turns until the time is over.
@@ -57,8 +62,7 @@ pub fn run(seconds: u64, seed: u64) {
     while start.elapsed() < Duration::from_secs(seconds) {
         some(&mut tally, &mut random);
     }
-    tally.print();
-    println!("{:>12}  in all, 0 differences", tally.total());
+    tally.end();
 }
 
 /// Random inputs alone, until the time is over.
@@ -78,24 +82,25 @@ fn some(tally: &mut Tally, random: &mut Random) {
     geometry::some(tally, random);
 }
 
-/// Prints an input on which the two sides differ, as found and made small, and ends the run.
+/// Prints an input on which the port and another side differ, as found and made small, and ends the run.
 pub fn differs<T: Debug, A: Debug + PartialEq>(
     what: &str,
+    other: &str,
     found: T,
     simpler: impl Fn(&T) -> Vec<T>,
     answers: impl Fn(&T) -> (A, A),
 ) -> ! {
     let print = |name: &str, input: &T| {
-        let (port, original) = answers(input);
-        println!("{name}: {input:02x?}\n  port {port:?}, original {original:?}");
+        let (port, said) = answers(input);
+        println!("{name}: {input:02x?}\n  port {port:?}, {other} {said:?}");
     };
     println!("{what}: a difference");
     print("found", &found);
     print(
         "made small",
         &smallest(found, simpler, |t| {
-            let (port, original) = answers(t);
-            port != original
+            let (port, said) = answers(t);
+            port != said
         }),
     );
     std::process::exit(1)

@@ -8,7 +8,7 @@ use crate::{original, port};
 fn ask(data: &[u8]) {
     if port::utf8(data) != original::utf8(data) {
         let both = |b: &Vec<u8>| (port::utf8(b), original::utf8(b));
-        differs("UTF-8", data.to_vec(), |b| bytes::simpler(b), both);
+        differs("UTF-8", "original", data.to_vec(), |b| bytes::simpler(b), both);
     }
 }
 

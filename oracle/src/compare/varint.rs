@@ -1,26 +1,38 @@
-//! The number read at a place against the original's `StreamCursor::varint`.
+//! The number read at a place against the original's `StreamCursor::varint` and against the rule: number, length, refusal.
 
 use super::{Tally, differs};
-use crate::bytes::{self, OF_NUMBERS};
+use crate::bytes::{self, OF_NUMBERS, Reading};
 use crate::random::Random;
-use crate::{original, port};
+use crate::{original, port, rules};
+
+type Reader = fn(&[u8], usize) -> Reading;
+
+const OTHERS: [(&str, Reader); 2] = [("original", original::reading), ("rule", rules::reading)];
 
 fn ask(data: &[u8], at: usize) {
-    if port::reading(data, at) != original::reading(data, at) {
-        let both = |b: &Vec<u8>| (port::reading(b, at), original::reading(b, at));
-        differs(&format!("number at {at}"), data.to_vec(), |b| bytes::simpler(b), both);
+    let port = port::reading(data, at);
+    for (other, reading) in OTHERS {
+        if port != reading(data, at) {
+            let both = |b: &Vec<u8>| (port::reading(b, at), reading(b, at));
+            let what = format!("number at {at}");
+            differs(&what, other, data.to_vec(), |b| bytes::simpler(b), both);
+        }
     }
 }
 
-pub fn all(tally: &mut Tally) {
-    let every: Vec<u8> = (0..=255).collect();
+/// Every string of so many bytes; how many there are.
+fn every(length: usize) -> u64 {
+    let alphabet: Vec<u8> = (0..=255).collect();
     let mut count = 0;
-    let mut each = |b: &[u8]| {
+    bytes::all(&alphabet, length, &mut |b| {
         ask(b, 0);
         count += 1;
-    };
-    (0..=3).for_each(|length| bytes::all(&every, length, &mut each));
-    tally.add("numbers: all strings of 0 to 3 bytes", count);
+    });
+    count
+}
+
+pub fn all(tally: &mut Tally) {
+    tally.add("numbers: all strings of 0 to 3 bytes", (0..=3).map(every).sum());
 
     let mut count = 0;
     let mut each = |b: &[u8]| {
@@ -38,6 +50,14 @@ pub fn all(tally: &mut Tally) {
         }
     }
     tally.add("numbers: at places past the end (38 by the rule)", count);
+}
+
+/// The same, and every string of four bytes.
+pub fn run() {
+    let mut tally = Tally::default();
+    all(&mut tally);
+    tally.add("numbers: all strings of 4 bytes", every(4));
+    tally.end();
 }
 
 pub fn some(tally: &mut Tally, random: &mut Random) {

@@ -2,6 +2,17 @@
 
 use super::records::{Chunk, Place};
 use super::{Opened, POINTS, Said, need};
+use crate::bytes::{Reading, refused};
+
+/// The number at a place, and how many bytes it has. At a place past the end no byte is left.
+pub fn reading(data: &[u8], at: usize) -> Reading {
+    let mut rest = Bytes(data.get(at..).unwrap_or_default());
+    let before = rest.0.len();
+    match rest.number() {
+        Ok(n) => Reading { number: n as i32, length: (before - rest.0.len()) as i32 },
+        Err(refusal) => refused(refusal as i32),
+    }
+}
 
 /// What is left of a chunk's bytes.
 pub struct Bytes<'a>(pub &'a [u8]);
@@ -103,5 +114,39 @@ impl<'a> Opened<'a> {
         let chunk = self.chunk_at(index)?;
         need(32, chunk.count > 0)?;
         self.points_of(index, chunk)
+    }
+}
+
+#[cfg(test)]
+mod tests {
+    use super::reading;
+    use crate::bytes::{OF_NUMBERS, Reading, all, refused};
+    use crate::original;
+
+    #[test]
+    fn one_and_two_bytes_by_hand() {
+        for (bytes, number, length) in [
+            (&[0x00][..], 0, 1),
+            (&[0x7f], -64, 1),
+            (&[0x01, 0x01], -1, 1),
+            (&[0x80, 0x01], 64, 2),
+            (&[0xff, 0x7f], -8192, 2),
+            (&[0xfe, 0x7f, 0x00], 8191, 2),
+        ] {
+            assert_eq!(reading(bytes, 0), Reading { number, length });
+        }
+        assert_eq!(reading(&[], 0), refused(38));
+        assert_eq!(reading(&[0x80], 0), refused(38));
+        assert_eq!(reading(&[0x80, 0x00], 0), refused(39));
+        assert_eq!(reading(&[0x80, 0x01], 3), refused(38));
+    }
+
+    #[test]
+    fn boundary_bytes_are_read_as_the_original_does() {
+        for length in 0..=5 {
+            all(&OF_NUMBERS, length, &mut |b| {
+                (0..=length).for_each(|at| assert_eq!(reading(b, at), original::reading(b, at)));
+            });
+        }
     }
 }

@@ -1,8 +1,8 @@
 -- `varint::varint_slow` meets its contract. The loop's invariant: what is left to read, below it what was read, is the number; the unit with the digits left makes 32 bits.
--- The measure is the number of digits left before the fifth. Assumes nothing.
+-- The measure is how far the unit is from the fifth digit's. Assumes nothing.
 use mathlib.Core.Path.{_≡_, refl, _∙_}
-use Prim.Native.Nat.{ℕ, _+_, _*_, _-_, _<_}
-use Rattle.varints.proofs.Digits.{rest-out, rest-zero, rest-end, rest-more, lim, lim-down, room, unit-fits, last-unit, last-rest}
+use Prim.Native.Nat.{ℕ, _+_, _*_, _-_, _≤_, _<_}
+use Rattle.varints.proofs.Digits.{rest-out, rest-more, lim, lim-down, room, unit-fits, turn-high, turn-zero, turn-end, turn-fits, turn-more}
 use native.Mathlib.Omega.{arith}
 use borrow.Author.Needs.{needs}
 use Rattle.tzb_core.proofs.varint.varint_slow.Statement.{statement}
@@ -10,33 +10,40 @@ use Rattle.tzb_core.proofs.varint.varint_slow.Tie as tie
 use Rattle.varints.specs.Steps.{rest}
 
 abbrev Inv-loop : tie.InvT-loop
-Inv-loop s from low at₀ n₀ unit₀ left₀ at n unit left =
-    (unit * lim left ≡ 0x1_0000_0000) × (n < unit) × (rest n unit left s at ≡ rest low 128 3 s from)
+Inv-loop s from low at₀ n₀ unit₀ at n unit =
+    (k : ℕ) × (unit * lim k ≡ 0x1_0000_0000) × (n < unit) × (rest n unit k s at ≡ rest low 128 3 s from)
 
 abbrev μ-loop : tie.MeasureT-loop
-μ-loop s from low at₀ n₀ unit₀ left₀ at n unit left = left
+μ-loop s from low at₀ n₀ unit₀ at n unit = 0x1000_0000 - unit
 
--- what is known where the byte has been read
-module _ (c : tie.After-wide Inv-loop μ-loop) where
+-- what is known where the byte is none too large
+module _ (c : tie.Else2 Inv-loop μ-loop) where
   abbrev loop-of : tie.At-loop Inv-loop μ-loop
   loop-of = c .before .before .before .before
 
-  sum-fits : (b : ℕ) → b < 128 → loop-of .loop .n + loop-of .loop .unit * b < loop-of .loop .unit * 128
-  sum-fits b h = let l = loop-of .loop in room (l .unit) (l .left) (c .before .before .before .loop-test .taken) (l .inv .0) (l .n) b (l .inv .1) h
+  sum-fits : c .before .wide .result < 128 → loop-of .loop .n + loop-of .loop .unit * c .before .wide .result < 0x1_0000_0000
+  sum-fits h = let l = loop-of .loop in turn-fits (l .n) (l .unit) (l .inv .0) _ (l .inv .1) (l .inv .2) (c .if2 .left) h
 
-  next-fits : loop-of .loop .unit * 128 < 0x1_0000_0000
-  next-fits = let l = loop-of .loop in omega (arith, unit-fits (l .unit) (l .left) (c .before .before .before .loop-test .taken) (l .inv .0))
+  module _ (m : 128 ≤ c .before .wide .result) where
+    more : 0 < loop-of .loop .inv .0
+    more = let l = loop-of .loop in turn-more (l .unit) (l .inv .0) _ (l .inv .1) (c .if2 .left) m
+
+    digit-fits : loop-of .loop .n + loop-of .loop .unit * (c .before .wide .result - 128) < loop-of .loop .unit * 128
+    digit-fits =
+        let l = loop-of .loop in
+        room (l .unit) (l .inv .0) more (l .inv .1) (l .n) (c .before .wide .result - 128) (l .inv .2) (omega (arith, c .before .wide .ensures .1))
+
+    next-fits : loop-of .loop .unit * 128 ≤ 0x1000_0000
+    next-fits = let l = loop-of .loop in unit-fits (l .unit) (l .inv .0) more (l .inv .1)
 
 loop-holds : tie.Need-loop-holds Inv-loop μ-loop
-loop-holds c = (refl, c .before .pre, refl)
+loop-holds c = (3, refl, c .before .pre, refl)
 
 refused-requires : tie.Need-refused-requires Inv-loop μ-loop
 refused-requires c κs = search needs
 
 returns : tie.Need-returns Inv-loop μ-loop
-returns c =
-    let l = c .before .before .before .loop in
-    c .refused .ensures ∙ rest-out _ _ _ _ _ (c .before .if1 .taken) ∙ l .inv .2
+returns c = c .refused .ensures ∙ rest-out _ _ _ _ _ (c .before .if1 .taken) ∙ c .before .before .loop .inv .3
 
 shared-slice-read-wide : tie.Need-shared-slice-read-wide Inv-loop μ-loop
 shared-slice-read-wide c = search needs
@@ -52,71 +59,65 @@ refused-requires-2 c κs = search needs
 
 returns-2 : tie.Need-returns-2 Inv-loop μ-loop
 returns-2 c =
-    let w = c .before .before .before in
+    let w = c .before .before in
+    let l = w .before .before .before .loop in
     c .refused2 .ensures
-    ∙ rest-zero _ _ _ _ _ (w .before .before .if1 .left) (w .wide .ensures .0) _ (w .before .before .before .loop-test .taken) (c .before .before .if2 .taken) (c .before .if3 .taken)
-    ∙ loop-of w .loop .inv .2
+    ∙ turn-high _ _ _ _ _ (w .before .before .if1 .left) (w .wide .ensures .0) _ (l .inv .1) (c .before .if2 .taken)
+    ∙ l .inv .3
+
+refused-requires-3 : tie.Need-refused-requires-3 Inv-loop μ-loop
+refused-requires-3 c κs = search needs
+
+returns-3 : tie.Need-returns-3 Inv-loop μ-loop
+returns-3 c =
+    let g = c .before .before .before in
+    let w = g .before in
+    let l = loop-of g .loop in
+    c .refused3 .ensures
+    ∙ turn-zero _ _ _ _ _ (w .before .before .if1 .left) (w .wide .ensures .0) _ (l .inv .1) (g .if2 .left) (c .before .before .if3 .taken) (c .before .if4 .taken)
+    ∙ l .inv .3
 
 mul-digits-of : tie.Need-mul-digits-of Inv-loop μ-loop
-mul-digits-of c =
-    let w = c .before .before in
-    omega (arith, sum-fits w (w .wide .result) (c .before .if2 .taken), next-fits w)
+mul-digits-of c = let g = c .before .before in omega (arith, sum-fits g (c .before .if3 .taken))
 
 add-digits-of : tie.Need-add-digits-of Inv-loop μ-loop
-add-digits-of c =
-    let w = c .before .before in
-    omega (arith, sum-fits w (w .wide .result) (c .before .if2 .taken), next-fits w)
+add-digits-of c = let g = c .before .before in omega (arith, sum-fits g (c .before .if3 .taken))
 
 digits-of-requires : tie.Need-digits-of-requires Inv-loop μ-loop
 digits-of-requires c κs = search needs
 
-returns-3 : tie.Need-returns-3 Inv-loop μ-loop
-returns-3 c =
-    let w = c .before .before .before in
+returns-4 : tie.Need-returns-4 Inv-loop μ-loop
+returns-4 c =
+    let g = c .before .before .before in
+    let w = g .before in
+    let l = loop-of g .loop in
     c .digits-of .ensures
-    ∙ rest-end _ _ _ _ _ (w .before .before .if1 .left) (w .wide .ensures .0) _ (w .before .before .before .loop-test .taken) (c .before .before .if2 .taken) (c .before .if3 .left)
-    ∙ loop-of w .loop .inv .2
+    ∙ turn-end _ _ _ _ _ (w .before .before .if1 .left) (w .wide .ensures .0) _ (l .inv .1) (g .if2 .left) (c .before .before .if3 .taken) (c .before .if4 .left)
+    ∙ l .inv .3
 
 mul-n : tie.Need-mul-n Inv-loop μ-loop
-mul-n c =
-    let w = c .before in
-    omega (arith, sum-fits w (w .wide .result - 128) (omega (arith, w .wide .ensures .1)), next-fits w)
+mul-n c = let g = c .before in omega (arith, digit-fits g (c .if3 .left), next-fits g (c .if3 .left))
 
 add-n : tie.Need-add-n Inv-loop μ-loop
-add-n c =
-    let w = c .before in
-    omega (arith, sum-fits w (w .wide .result - 128) (omega (arith, w .wide .ensures .1)), next-fits w)
+add-n c = let g = c .before in omega (arith, digit-fits g (c .if3 .left), next-fits g (c .if3 .left))
 
 mul-unit : tie.Need-mul-unit Inv-loop μ-loop
-mul-unit c =
-    let w = c .before in
-    omega (arith, sum-fits w (w .wide .result - 128) (omega (arith, w .wide .ensures .1)), next-fits w)
-
-sub-left : tie.Need-sub-left Inv-loop μ-loop
-sub-left c = search needs
+mul-unit c = omega (arith, next-fits (c .before) (c .if3 .left))
 
 loop-less : tie.Need-loop-less Inv-loop μ-loop
-loop-less c = search needs
+loop-less c = let g = c .before in omega (arith, next-fits g (c .if3 .left), loop-of g .loop .inv .2)
 
 loop-again : tie.Need-loop-again Inv-loop μ-loop
 loop-again c =
-    let w = c .before in
-    let l = loop-of w .loop in
-    let z = w .before .before .before .loop-test .taken in (
-      lim-down (l .unit) (l .left) z (l .inv .0),
-      sum-fits w (w .wide .result - 128) (omega (arith, w .wide .ensures .1)),
-      rest-more _ _ _ _ _ (w .before .before .if1 .left) (w .wide .ensures .0) _ z (c .if2 .left) ∙ l .inv .2,
+    let g = c .before in
+    let w = g .before in
+    let l = loop-of g .loop in
+    let m = more g (c .if3 .left) in (
+      l .inv .0 - 1,
+      lim-down (l .unit) (l .inv .0) m (l .inv .1),
+      digit-fits g (c .if3 .left),
+      rest-more _ _ _ _ _ (w .before .before .if1 .left) (w .wide .ensures .0) _ m (c .if3 .left) ∙ l .inv .3,
     )
-
-varint-fifth-requires : tie.Need-varint-fifth-requires Inv-loop μ-loop
-varint-fifth-requires c κs =
-    let l = c .before .loop in
-    omega (arith, last-unit (l .unit) (l .left) (c .loop-test .left) (l .inv .0), l .inv .1)
-
-returns-4 : tie.Need-returns-4 Inv-loop μ-loop
-returns-4 c =
-    let l = c .before .before .loop in
-    c .varint-fifth .ensures ∙ last-rest _ _ _ _ _ (c .before .loop-test .left) (l .inv .0) ∙ l .inv .2
 
 pub varint-slow-spec : {M : Type 1} → statement M
 varint-slow-spec =
@@ -132,15 +133,14 @@ varint-slow-spec =
     add-at
     refused-requires-2
     returns-2
+    refused-requires-3
+    returns-3
     mul-digits-of
     add-digits-of
     digits-of-requires
-    returns-3
+    returns-4
     mul-n
     add-n
     mul-unit
-    sub-left
     loop-less
-    loop-again
-    varint-fifth-requires
-    returns-4)
+    loop-again)
