@@ -183,7 +183,7 @@ impl<'a> Both<'a> {
                 sum.wrapping_mul(31).wrapping_add(points.last().unwrap().y as u64)
             })
         };
-        row(&format!("decoding, {name}, a point"), total, &mut port, &mut original);
+        row(&format!("decoding {name}, a point"), total, &mut port, &mut original);
     }
 
     fn names(&self, zones: u32) {
