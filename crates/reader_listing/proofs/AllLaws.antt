@@ -18,6 +18,11 @@ use Rattle.reader_ways.specs.Ways.{Way}
 use Rattle.reader_lookup.specs.Asking.{scaled, hitAt}
 use Rattle.reader_listing.specs.All.{allHits, hitsAmong, hitsOf, namesRead, placed, listFor, listBy}
 
+-- no zone, whatever the places
+pub none-listed : (o : Opened) (s : List ℕ) (places : ℕ) → ok [] ≡ listFor o s places []
+unfolding listFor namesRead placed ordered insertAll
+none-listed o s places = rw (le-at 0 places (omega arith))
+
 -- into that many places
 module _ (w : Way) (o : Opened) (s : List ℕ) (lng lat : Float) (places : ℕ) where
   pub into-no : (k : Refusal) → refused k ≡ candidatesOf o s lng lat → refused k ≡ listBy w o s lng lat places
@@ -25,8 +30,8 @@ module _ (w : Way) (o : Opened) (s : List ℕ) (lng lat : Float) (places : ℕ) 
   into-no k h = rw (← h)
 
   pub into-none : ok none ≡ candidatesOf o s lng lat → ok [] ≡ listBy w o s lng lat places
-  unfolding listBy hitsOf hitsAmong listFor namesRead placed ordered insertAll
-  into-none h = rw (← h, le-at 0 places (omega arith))
+  unfolding listBy hitsOf hitsAmong
+  into-none h = rw (← h) (none-listed o s places)
 
   module _ (p : Point) (e : p ≡ scaled lng lat) (n : ℕ) where
     pub into-all : ok (all n) ≡ candidatesOf o s lng lat → (allHits (hitAt w o s p false) n 0 then listFor o s places) ≡ listBy w o s lng lat places

@@ -2,9 +2,13 @@
 -- Assumes nothing.
 use mathlib.Core.Path.{sym, _∙_}
 use Rattle.basics.specs.Determined.{Determined, DeterminedMemory}
+use Rattle.reader_listing.proofs.list_in.Reads as list-in-reads
 use Rattle.reader_listing.proofs.lookup_into_by.Reads as lookup-into-by-reads
 use Rattle.reader_listing.proofs.lookup_into.Reads as lookup-into-reads
 use Rattle.replies.proofs.One.{one-listing}
+
+pub list-in : Determined list-in-reads.Learnt
+list-in κ a r r' e e' p q = one-listing r r' _ (p .0) (q .0)
 
 pub lookup-into-by : Determined lookup-into-by-reads.Learnt
 lookup-into-by κ a r r' e e' p q = one-listing r r' _ (p .0) (q .0)
@@ -13,6 +17,9 @@ pub lookup-into : Determined lookup-into-reads.Learnt
 lookup-into κ a r r' e e' p q = one-listing r r' _ (p .0) (q .0)
 
 -- the lent zones at exit
+pub list-in-memory : DeterminedMemory list-in-reads.Learnt (λ κ e. e .1 .1 .1 .1 .1 .1 .1 .1 .0 .now)
+list-in-memory κ a r r' e e' p q = p .1 ∙ sym (q .1)
+
 pub lookup-into-by-memory : DeterminedMemory lookup-into-by-reads.Learnt (λ κ e. e .1 .1 .1 .1 .1 .1 .0 .now)
 lookup-into-by-memory κ a r r' e e' p q = p .1 ∙ sym (q .1)
 

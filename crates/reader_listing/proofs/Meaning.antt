@@ -22,15 +22,19 @@ use Rattle.answer.proofs.AnswersLaws.{then-inv, need-inv, ok-inv}
 use Rattle.reader_listing.specs.All.{also, allHits, hitsOf, namesRead, placed, listFor, listBy}
 
 -- ---- the list
+-- whatever was asked: it is made of the zones that contain the point, which were not too many, put in the order of their names
+pub listed-of : (o : Opened) (s : List ℕ) (places : ℕ) (hits : Answer (List ℕ)) (l : List ℕ) → ok l ≡ (hits then listFor o s places) → (m : List ℕ) × (ok m ≡ hits) × (length m ≤ places) × (l ≡ ordered (nameOr o s) m)
+unfolding listFor placed
+listed-of o s places hits l h =
+    let t = then-inv hits (listFor o s places) l h in
+    let b = before-inv (namesRead o s (t .0)) (placed o s places (t .0)) l (t .2) in
+    let n = need-inv 46 (atMost (length (t .0)) places) (ok (ordered (nameOr o s) (t .0))) l (b .1) in
+    (t .0, t .1, at-le _ _ (n .0), ok-inv _ _ (n .1))
+
 module _ (w : Way) (o : Opened) (s : List ℕ) (lng lat : Float) (places : ℕ) (l : List ℕ) (h : ok l ≡ listBy w o s lng lat places) where
-  -- it is made of the zones that contain the point, which were not too many
   list-of : (m : List ℕ) × (ok m ≡ hitsOf w o s lng lat) × (length m ≤ places) × (l ≡ ordered (nameOr o s) m)
-  unfolding listBy listFor placed
-  list-of =
-      let t = then-inv (hitsOf w o s lng lat) (listFor o s places) l h in
-      let b = before-inv (namesRead o s (t .0)) (placed o s places (t .0)) l (t .2) in
-      let n = need-inv 46 (atMost (length (t .0)) places) (ok (ordered (nameOr o s) (t .0))) l (b .1) in
-      (t .0, t .1, at-le _ _ (n .0), ok-inv _ _ (n .1))
+  unfolding listBy
+  list-of = listed-of o s places (hitsOf w o s lng lat) l h
 
   pub list-in-order : inOrder (nameOr o s) l ≡ true
   list-in-order = ap (inOrder (nameOr o s)) (list-of .3) ∙ is-ordered (nameOr o s) (list-of .0)

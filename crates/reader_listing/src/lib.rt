@@ -183,7 +183,7 @@ fn list_with(
 }
 
 // The same with memory of its own. A cell has at most 15 candidates, so 16 places hold all of its zones. Without GRID a position may lie in as many zones as the record has: where there are more than 16, they are asked a second time. So no array of 65,536 is needed, and a record made by hand with still more zones is answered too.
-fn list_in(
+pub fn list_in(
     striped: bool,
     numbers: &[u32],
     o: Opened,

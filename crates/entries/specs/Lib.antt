@@ -1,0 +1,4 @@
+-- The journal's entries.
+pub mod Entry
+pub mod Forms
+pub mod Reading

@@ -1,0 +1,2 @@
+-- All zones of a whole-number point.
+pub mod Whole

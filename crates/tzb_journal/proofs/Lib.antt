@@ -1,0 +1,3 @@
+-- Laws of the journal, for the code.
+pub mod JournalLaws
+pub mod Determined

@@ -1,0 +1,3 @@
+-- The journal of answers.
+pub mod Journal
+pub mod Steps
