@@ -18,7 +18,7 @@ fn opening(file: &[u8]) -> u32 {
 /// with stripes and without.
 fn ask_everything(file: &[u8], numbers: &mut BTreeSet<(u32, Option<u32>)>) {
     let mut note = |refusal: Refusal| {
-        assert!((1..=49).contains(&refusal.number()), "{refusal:?}");
+        assert!((1..=50).contains(&refusal.number()), "{refusal:?}");
         assert_eq!(refusal.rule().is_some(), refusal.number() == 47, "{refusal:?}");
         assert!(refusal.rule().is_none_or(|rule| (2..=6).contains(&rule)), "{refusal:?}");
         assert!(refusal.to_string().starts_with(&format!("refusal {}: ", refusal.number())));
