@@ -5,7 +5,7 @@
  * is 0. What is lent for writing does not overlap what else is lent to the same call.
  *
  * Every function is total: any bytes and any numbers get an answer, or a refusal, whose number n is that of
- * document 01, or for 48 and 49 of document 02. A refusal is told as -1000 - n, and leaves lent memory as it was. No function
+ * document 01, or for 48 to 50 of document 02. A refusal is told as -1000 - n, and leaves lent memory as it was. No function
  * keeps anything between calls, and each may be called from any thread.
  *
  * Open once, ask often:
@@ -26,9 +26,10 @@
  *
  *     96 KB  tzb_open tzb_lookup tzb_full_check tzb_full_check_rule tzb_map tzb_map_length
  *     24 KB  tzb_crc32
- *     8 KB  tzb_contains tzb_decode tzb_ask tzb_ask_all
+ *     8 KB  tzb_contains tzb_decode tzb_ask tzb_ask_all tzb_journal_ask
  *     8 KB  tzb_stripes_need tzb_stripes tzb_contains_striped tzb_ask_striped tzb_ask_all_striped
  *     4 KB  tzb_zone_count tzb_name_start tzb_name_end tzb_name tzb_choice tzb_listed tzb_candidate
+ *     4 KB  tzb_journal_write tzb_journal_read
  *     4 KB  tzb_number tzb_number_length tzb_box_contains tzb_box_relevant tzb_utf8 tzb_ray tzb_parity tzb_next_up
  */
 #ifndef TZB_H
@@ -153,6 +154,39 @@ int64_t tzb_map(const uint8_t *file, size_t file_length, uint32_t zone, uint8_t 
 
 /* How many bytes that text has, without writing it. Or -1000 - n, by the same refusals but 46. */
 int64_t tzb_map_length(const uint8_t *file, size_t file_length, uint32_t zone);
+
+/* ---- a journal of answers
+ *
+ * A journal is entries, one behind the other, without a header. An entry has the answer to one question of whole numbers,
+ * little-endian: x and y (4 bytes each), the places for zone numbers (2 bytes each, 65535 where unused), how many zones
+ * there are and a reason (1 byte each). An entry with `places` places has 10 + 2 * places bytes. Nothing in it tells its
+ * size, so every call is told the places: TZB_PLACES, and any other number is refused by 50.
+ *
+ * It has one of two forms. Either the reason is 0, and up to so many different zones, each below 65535, stand in the first
+ * places; one or more only for a position within +-18,000,000 and +-9,000,000. Or there is no zone, and the reason is a
+ * refusal's number, 1 to 46. 46 says that there are more zones than places. */
+
+/* How many places an entry has. */
+#define TZB_PLACES 3
+
+/* The size of an entry with TZB_PLACES places, in bytes. */
+#define TZB_ENTRY 16
+
+/* Asks for all zones that contain a point of whole numbers, as tzb_contains tells it, every zone in turn and without the
+ * GRID, and writes the entry into the first of the lent bytes; those behind stay. The zones stand in the order of their
+ * names' bytes. A refusal of the question is the entry's reason, and none of the call.
+ * 0, or -1000 - n: 44 for a record of another length, then 50 for other places, then 46 where there is no room. */
+int32_t tzb_journal_ask(const uint8_t *record, size_t record_length, const uint8_t *file, size_t file_length, uint32_t places, int32_t x, int32_t y, uint8_t *out, size_t out_length);
+
+/* Writes an entry of these zones, in their order, or of this reason, into the first of the lent bytes; those behind stay.
+ * With no zones and the refusal of tzb_open as the reason it is the entry of a file that does not open.
+ * 0, or -1000 - n: 50 for what has neither form, more zones than places too, then 46 where there is no room. */
+int32_t tzb_journal_write(uint32_t places, int32_t x, int32_t y, const uint32_t *zones, size_t zones_length, uint32_t reason, uint8_t *out, size_t out_length);
+
+/* Reads an entry: x and y into the first two of the lent numbers, its zones into the first of the lent places; those
+ * behind stay. 256 times how many zones, plus the reason. Or -1000 - n: 50 for bytes of another length or of neither
+ * form, then 46 where fewer than two numbers are lent, or fewer places than there are zones. */
+int32_t tzb_journal_read(uint32_t places, const uint8_t *bytes, size_t bytes_length, int32_t *position, size_t position_length, uint32_t *zones, size_t zones_length);
 
 /* ---- parts, for comparison runs */
 

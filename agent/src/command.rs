@@ -4,10 +4,14 @@ mod failure;
 mod found;
 mod help;
 mod info;
+mod journal;
 mod lines;
 mod map;
+mod pieces;
+mod point;
 mod position;
 mod progress;
+mod show_journal;
 mod words;
 mod write_whole;
 
@@ -56,15 +60,29 @@ fn perform(words: impl Iterator<Item = OsString>, out: &mut impl Write) -> Resul
 }
 
 fn carry_out(request: &Request, out: &mut impl Write) -> Result<Status, Failure> {
-    let path = &request.file;
-    let refused = |refusal| Failure::Refused(path.clone(), refusal);
-    let bytes = tzb::read(path).map_err(|why| match why.downcast::<Refusal>() {
-        Ok(refusal) => refused(refusal),
-        Err(why) => Failure::Unreadable(path.clone(), why),
-    })?;
-    if request.task == Task::Check {
-        return check(path, &bytes, out).map_err(Failure::Output);
+    match request.task {
+        Task::Check => {
+            let bytes = read(&request.file)?;
+            check(&request.file, &bytes, out).map_err(Failure::Output)
+        }
+        Task::Journal => journal::write(request, out),
+        Task::ShowJournal => show_journal::show(request, out),
+        _ => ask_opened(request, out),
     }
+}
+
+/// The bytes of an index file.
+fn read(path: &Path) -> Result<Vec<u8>, Failure> {
+    tzb::read(path).map_err(|why| match why.downcast::<Refusal>() {
+        Ok(refusal) => Failure::Refused(path.to_path_buf(), refusal),
+        Err(why) => Failure::Unreadable(path.to_path_buf(), why),
+    })
+}
+
+/// What is asked of an index that opens.
+fn ask_opened(request: &Request, out: &mut impl Write) -> Result<Status, Failure> {
+    let refused = |refusal| Failure::Refused(request.file.clone(), refusal);
+    let bytes = read(&request.file)?;
     // Stripes are worth building for a run of positions. One position is answered sooner than they are built, and names and
     // maps make no use of them.
     let open = if request.many_positions() || request.task == Task::Info {

@@ -2,8 +2,9 @@
 
 use std::fmt;
 
+use crate::journal::{self, Entry};
 use crate::refusal::{NAME_NOT_UTF8, PAST_THE_END};
-use crate::room::into_room;
+use crate::room::{into_room, room};
 use crate::walk::{self, Stripes, Walk, WhyPlain};
 use crate::{Refusal, sys};
 
@@ -286,6 +287,48 @@ impl<B: AsRef<[u8]>> Index<B> {
     /// As for [`map`](crate::map): the full check's refusal, 45, 48 or 46.
     pub fn map(&self, zone: u32) -> Result<String, Refusal> {
         crate::map(self.file(), zone)
+    }
+
+    /// What is answered at a point of whole numbers, in hundred-thousandths of a degree, as an entry of a
+    /// [journal](crate::journal): all zones that contain it, in the order of their names' bytes, or the refusal.
+    ///
+    /// Every zone is asked in turn, as [`contains`](Self::contains) asks it. The grid is not looked at, so there can be
+    /// more zones than [`zones`](Self::zones) lists. A point outside ±18,000,000 and ±9,000,000 is in no zone.
+    ///
+    /// ```
+    /// # fn main() -> Result<(), Box<dyn std::error::Error>> {
+    /// # let file = std::fs::read("../sample/real-ne.tzb")?;
+    /// let index = tzb::Index::open(&file)?;
+    /// let entry = index.journal(868_000, 5_011_000);
+    /// let names = entry.zones().iter().map(|&zone| index.name(zone));
+    /// assert_eq!(names.collect::<Result<Vec<_>, _>>()?, ["Etc/GMT-1", "Germany"]);
+    /// # Ok(())
+    /// # }
+    /// ```
+    #[must_use]
+    pub fn journal(&self, x: i32, y: i32) -> Entry {
+        let mut bytes = [0; journal::ENTRY];
+        let asked = self.write_entry(x, y, &mut bytes).and_then(|()| Entry::read(&bytes));
+        // The export refuses no such call, and what it writes is read. A refusal would be no answer, and is told as that.
+        asked.unwrap_or_else(|refusal| Entry::refused(x, y, refusal))
+    }
+
+    /// The bytes of a [journal](crate::journal): an entry for each of the points, `[x, y]` each, as
+    /// [`journal`](Self::journal) has it. They can be written behind those of an older journal.
+    ///
+    /// # Errors
+    /// Refusal 46 where there is no memory for them. What is refused at a point stands in its entry.
+    pub fn journal_bytes(&self, points: &[[i32; 2]]) -> Result<Vec<u8>, Refusal> {
+        let mut bytes = room(points.len().saturating_mul(journal::ENTRY))?;
+        for (&[x, y], entry) in points.iter().zip(bytes.chunks_exact_mut(journal::ENTRY)) {
+            self.write_entry(x, y, entry)?;
+        }
+        Ok(bytes)
+    }
+
+    fn write_entry(&self, x: i32, y: i32, out: &mut [u8]) -> Result<(), Refusal> {
+        let code = sys::journal_ask(&self.record, self.file(), journal::PLACES, x, y, out);
+        Refusal::of_code(code.into()).map(|_| ())
     }
 
     /// The file's bytes.

@@ -65,6 +65,22 @@
 //!
 //! [`map`] is the same of a file's bytes.
 //!
+//! # A journal of answers
+//!
+//! ```
+//! # fn main() -> Result<(), Box<dyn std::error::Error>> {
+//! # let file = tzb::read("../sample/real-ne.tzb")?;
+//! use tzb::journal::Entry;
+//!
+//! let index = tzb::Index::open(file)?;
+//! let bytes = index.journal(868_000, 5_011_000).to_bytes()?; // to be kept, 16 bytes
+//! assert_eq!(Entry::read(&bytes)?.zones(), [469, 126]); // Etc/GMT-1 and Germany
+//! # Ok(())
+//! # }
+//! ```
+//!
+//! [`journal`] has the whole of it.
+//!
 //! # Stack
 //!
 //! Opening and the full check want 96 KB of stack, a question 8 KB; `include/tzb.h` says it for each export. Threads of
@@ -73,6 +89,7 @@
 #![cfg_attr(not(test), warn(clippy::unwrap_used, clippy::expect_used, clippy::panic))]
 
 mod index;
+pub mod journal;
 mod layout;
 mod map;
 mod read;

@@ -1,4 +1,4 @@
-//! What the reader says where it gives no answer: a number, 1 to 49, and for 47 the rule that is broken.
+//! What the reader says where it gives no answer: a number, 1 to 50, and for 47 the rule that is broken.
 
 use std::fmt;
 
@@ -51,7 +51,7 @@ impl Refusal {
         usize::try_from(code).map_err(|_| Self::new(number.try_into().unwrap_or(0)))
     }
 
-    /// The number of the refusal, 1 to 49. [`sentence`](Self::sentence) says what it means.
+    /// The number of the refusal, 1 to 50. [`sentence`](Self::sentence) says what it means.
     #[must_use]
     pub fn number(&self) -> u32 {
         self.number
@@ -94,8 +94,8 @@ impl fmt::Display for Refusal {
 
 impl std::error::Error for Refusal {}
 
-/// The refusals 1 to 49, in order.
-const SENTENCES: [&str; 49] = [
+/// The refusals 1 to 50, in order.
+const SENTENCES: [&str; 50] = [
     "The file is shorter than 68 bytes or longer than 4,294,967,295.",
     "The file does not start with TZFB and major version 1, so it is no index.",
     "The file is of profile 1, a memory image, and not an index.",
@@ -145,6 +145,7 @@ const SENTENCES: [&str; 49] = [
     "The file opens, but does not pass the full check.",
     "A ring of the zone has under four positions, over 10,000, or no area.",
     "A chunk's box reaches above or below its group's, and the group has two chunks or more: no stripes are built.",
+    "The bytes, or what is to be written, are no journal entry.",
 ];
 
 /// The rules 2 to 6 of the full check, each by what it means that it is broken.
@@ -162,7 +163,7 @@ mod tests {
 
     #[test]
     fn every_number_has_a_sentence_of_its_own() {
-        let mut said: Vec<&str> = (1..=49).map(|n| Refusal::new(n).sentence()).collect();
+        let mut said: Vec<&str> = (1..=50).map(|n| Refusal::new(n).sentence()).collect();
         for sentence in &said {
             assert!(sentence.ends_with('.') && sentence.len() > 10, "{sentence:?}");
             assert!(sentence.starts_with(char::is_uppercase), "{sentence:?}");
@@ -170,8 +171,8 @@ mod tests {
         said.push(Refusal::new(0).sentence());
         said.sort_unstable();
         said.dedup();
-        assert_eq!(said.len(), 50, "two refusals have the same sentence");
-        assert_eq!(Refusal::new(0).sentence(), Refusal::new(50).sentence());
+        assert_eq!(said.len(), 51, "two refusals have the same sentence");
+        assert_eq!(Refusal::new(0).sentence(), Refusal::new(51).sentence());
     }
 
     #[test]
@@ -201,7 +202,7 @@ mod tests {
     #[test]
     fn the_readme_has_the_same_sentences() {
         let readme = std::fs::read_to_string("../README.md").unwrap();
-        for number in 1..=49 {
+        for number in 1..=50 {
             let row = format!("| {number} | {} |", Refusal::new(number).sentence());
             assert!(readme.lines().any(|line| line == row), "README.md has no row: {row}");
         }

@@ -30,14 +30,17 @@ mod exports {
         pub fn tzb_full_check_rule(file: *const u8, length: usize) -> u32;
         pub fn tzb_map(file: *const u8, length: usize, zone: u32, out: *mut u8, room: usize) -> i64;
         pub fn tzb_map_length(file: *const u8, length: usize, zone: u32) -> i64;
+        pub fn tzb_journal_ask(record: *const u8, size: usize, file: *const u8, length: usize, places: u32, x: i32, y: i32, out: *mut u8, room: usize) -> i32;
+        pub fn tzb_journal_write(places: u32, x: i32, y: i32, zones: *const u32, count: usize, reason: u32, out: *mut u8, room: usize) -> i32;
+        pub fn tzb_journal_read(places: u32, bytes: *const u8, length: usize, position: *mut i32, numbers: usize, zones: *mut u32, room: usize) -> i32;
     }
 }
 
-/// Calls an export: slices that are lent for reading, then what else there is.
+/// Calls an export: numbers that come first, slices that are lent for reading, then what else there is.
 macro_rules! ask {
-    ($export:ident, [$($lent:ident),+] $(, $more:expr)*) => {
+    ($export:ident, $($first:ident,)* [$($lent:ident),+] $(, $more:expr)*) => {
         // SAFETY: all are live slices, given by their own pointers and lengths, and so is what more is lent.
-        unsafe { exports::$export($($lent.as_ptr(), $lent.len(),)+ $($more),*) }
+        unsafe { exports::$export($($first,)* $($lent.as_ptr(), $lent.len(),)+ $($more),*) }
     };
 }
 
@@ -105,4 +108,19 @@ pub fn map(file: &[u8], zone: u32, out: &mut [u8]) -> i64 {
 
 pub fn map_length(file: &[u8], zone: u32) -> i64 {
     ask!(tzb_map_length, [file], zone)
+}
+
+#[rustfmt::skip]
+pub fn journal_ask(record: &Record, file: &[u8], places: u32, x: i32, y: i32, out: &mut [u8]) -> i32 {
+    ask!(tzb_journal_ask, [record, file], places, x, y, out.as_mut_ptr(), out.len())
+}
+
+#[rustfmt::skip]
+pub fn journal_write(places: u32, x: i32, y: i32, zones: &[u32], reason: u32, out: &mut [u8]) -> i32 {
+    ask!(tzb_journal_write, places, x, y, [zones], reason, out.as_mut_ptr(), out.len())
+}
+
+#[rustfmt::skip]
+pub fn journal_read(places: u32, bytes: &[u8], position: &mut [i32], zones: &mut [u32]) -> i32 {
+    ask!(tzb_journal_read, places, [bytes], position.as_mut_ptr(), position.len(), zones.as_mut_ptr(), zones.len())
 }

@@ -229,7 +229,8 @@ fn help_and_version() {
     let (status, out, err) = run(&["--help"], "");
     assert_eq!((status, err.as_str()), (Some(0), ""));
     assert!(out.contains("Exit status:"), "{out}");
-    for task in ["zone", "zones", "check", "names", "info", "map"] {
+    assert!(out.contains("tzb show-journal PATH [INDEX]"), "{out}");
+    for task in ["zone", "zones", "check", "names", "info", "map", "journal"] {
         assert!(out.contains(&format!("tzb {task} FILE")), "{out}");
         let (status, own, _) = run(&[task, "--help"], "");
         assert_eq!(status, Some(0));

@@ -8,6 +8,7 @@ use common::{
     CHUNKDIR, GROUPDIR, NAMES, POINTS, RINGDIR, RINGOPS, Squares, TZDIR, changed, coast, in_chunks,
     same_at, sample, words,
 };
+use tzb::journal::Entry;
 use tzb::{Index, Refusal, Walk, WhyPlain, full_check, map};
 
 fn opening(file: &[u8]) -> u32 {
@@ -18,7 +19,7 @@ fn opening(file: &[u8]) -> u32 {
 /// with stripes and without.
 fn ask_everything(file: &[u8], numbers: &mut BTreeSet<(u32, Option<u32>)>) {
     let mut note = |refusal: Refusal| {
-        assert!((1..=49).contains(&refusal.number()), "{refusal:?}");
+        assert!((1..=50).contains(&refusal.number()), "{refusal:?}");
         assert_eq!(refusal.rule().is_some(), refusal.number() == 47, "{refusal:?}");
         assert!(refusal.rule().is_none_or(|rule| (2..=6).contains(&rule)), "{refusal:?}");
         assert!(refusal.to_string().starts_with(&format!("refusal {}: ", refusal.number())));
@@ -37,6 +38,11 @@ fn ask_everything(file: &[u8], numbers: &mut BTreeSet<(u32, Option<u32>)>) {
         index.zone(lng, lat).err().into_iter().for_each(&mut note);
         index.zones(lng, lat).err().into_iter().for_each(&mut note);
         same_at(&index, &Index::open_plain(file).unwrap(), (lng, lat));
+    }
+    for (x, y) in [(50_000, 50_000), (0, 50_000), (200_000, 200_000)] {
+        let entry = index.journal(x, y);
+        assert_eq!(Entry::read(&entry.to_bytes().unwrap()), Ok(entry.clone()));
+        entry.reason().into_iter().for_each(&mut note);
     }
     for number in [0, 1] {
         index.contains(number, 50_000, 50_000).err().into_iter().for_each(&mut note);

@@ -55,7 +55,8 @@ impl<'a> Found<'a> {
     }
 }
 
-fn write_zone(out: &mut impl Write, zone: &(u32, &str), numbered: bool) -> io::Result<()> {
+/// A zone's name, with its number before it where that is wanted.
+pub fn write_zone(out: &mut impl Write, zone: &(u32, &str), numbered: bool) -> io::Result<()> {
     let (number, name) = zone;
     if numbered {
         write!(out, "{number}\t")?;

@@ -25,7 +25,7 @@ mod tests {
             let own = text(Some(task));
             assert!(own.starts_with(&format!("tzb {} ", task.word())), "{own}");
             assert!(own.contains("Exit status"), "{own}");
-            assert!(text(None).contains(&format!("  tzb {} FILE", task.word())));
+            assert!(text(None).contains(&format!("\n  tzb {} ", task.word())));
         }
     }
 

@@ -16,7 +16,7 @@ pub fn answer<'a>(
     numbered: bool,
     ask: impl Fn(Position) -> Result<Found<'a>, Refusal>,
 ) -> Result<Status, Failure> {
-    let mut progress = Progress::new();
+    let mut progress = Progress::new("positions");
     let mut status = Status::Answered;
     let mut line = Vec::new();
     let mut number = 0;
@@ -47,7 +47,7 @@ fn answer_line<'a>(
 }
 
 /// Reads a line, without its end. Whoever waits for answers gets them all before this waits for input.
-fn next_line(
+pub fn next_line(
     input: &mut BufReader<impl Read>,
     line: &mut Vec<u8>,
     out: &mut impl Write,

@@ -14,7 +14,7 @@ impl Position {
     ///
     /// `nan` and `inf` are no positions: where a value was lost, "no zone here" would be a wrong answer.
     pub fn read(text: &str) -> Result<Self, NotAPosition> {
-        let refused = || NotAPosition(text.to_string());
+        let refused = || NotAPosition::new(text, FORM);
         let (lng, lat) = halves(text).ok_or_else(refused)?;
         let number = |half: &str| half.parse().ok().filter(|n: &f64| n.is_finite());
         match (number(lng), number(lat)) {
@@ -29,8 +29,11 @@ impl Position {
     }
 }
 
+/// How a position is written.
+const FORM: &str = "LNG LAT or LNG,LAT, in degrees, as 8.68 50.11";
+
 /// What stands on either side of the comma, or of the blanks where there is no comma.
-fn halves(text: &str) -> Option<(&str, &str)> {
+pub fn halves(text: &str) -> Option<(&str, &str)> {
     let text = text.trim();
     let (lng, lat) = text.split_once(',').or_else(|| text.split_once(char::is_whitespace))?;
     Some((lng.trim(), lat.trim()))
@@ -49,13 +52,23 @@ impl fmt::Display for Position {
 
 /// A text that is no position.
 #[derive(Debug, PartialEq)]
-pub struct NotAPosition(String);
+pub struct NotAPosition {
+    text: String,
+    /// How one is written.
+    form: &'static str,
+}
+
+impl NotAPosition {
+    pub fn new(text: &str, form: &'static str) -> Self {
+        Self { text: text.to_string(), form }
+    }
+}
 
 impl fmt::Display for NotAPosition {
     fn fmt(&self, f: &mut fmt::Formatter<'_>) -> fmt::Result {
-        let start: String = self.0.chars().take(60).collect();
-        let dots = if start.len() < self.0.len() { " ..." } else { "" };
-        write!(f, "{start:?}{dots} is no position: LNG LAT or LNG,LAT, in degrees, as 8.68 50.11")
+        let start: String = self.text.chars().take(60).collect();
+        let dots = if start.len() < self.text.len() { " ..." } else { "" };
+        write!(f, "{start:?}{dots} is no position: {}", self.form)
     }
 }
 
@@ -107,13 +120,13 @@ mod tests {
             "8.68° 50.11°",
         ];
         for text in refused {
-            assert_eq!(Position::read(text), Err(NotAPosition(text.to_string())), "{text:?}");
+            assert_eq!(Position::read(text), Err(NotAPosition::new(text, FORM)), "{text:?}");
         }
     }
 
     #[test]
     fn shows_a_long_text_cut() {
-        let shown = NotAPosition("é\u{1b}".repeat(1000)).to_string();
+        let shown = NotAPosition::new(&"é\u{1b}".repeat(1000), FORM).to_string();
         assert!(
             shown.len() < 500 && shown.contains(" ...") && !shown.contains('\u{1b}'),
             "{shown}"

@@ -5,25 +5,27 @@ use std::io::{self, IsTerminal, Write};
 use std::time::{Duration, Instant};
 
 const EVERY: Duration = Duration::from_secs(1);
-/// The clock is looked at once in so many lines.
-const LINES: u64 = 256;
+/// The clock is looked at once in so many.
+const OFTEN: u64 = 256;
 
 pub struct Progress {
+    /// What is counted.
+    what: &'static str,
     wanted: bool,
     next: Instant,
     shown: bool,
 }
 
 impl Progress {
-    pub fn new() -> Self {
+    pub fn new(what: &'static str) -> Self {
         let wanted = io::stderr().is_terminal() && !io::stdout().is_terminal();
-        Self { wanted, next: Instant::now() + EVERY, shown: false }
+        Self { what, wanted, next: Instant::now() + EVERY, shown: false }
     }
 
-    /// So many lines are answered.
-    pub fn at(&mut self, lines: u64) {
-        if self.wanted && lines.is_multiple_of(LINES) && Instant::now() >= self.next {
-            let _ = write!(io::stderr(), "\r{lines} positions");
+    /// So many are done.
+    pub fn at(&mut self, done: u64) {
+        if self.wanted && done.is_multiple_of(OFTEN) && Instant::now() >= self.next {
+            let _ = write!(io::stderr(), "\r{done} {}", self.what);
             self.next += EVERY;
             self.shown = true;
         }

@@ -16,11 +16,21 @@ pub enum Task {
     Names,
     Info,
     Map,
+    Journal,
+    ShowJournal,
 }
 
 impl Task {
-    pub const ALL: [Self; 6] =
-        [Self::Zone, Self::Zones, Self::Check, Self::Names, Self::Info, Self::Map];
+    pub const ALL: [Self; 8] = [
+        Self::Zone,
+        Self::Zones,
+        Self::Check,
+        Self::Names,
+        Self::Info,
+        Self::Map,
+        Self::Journal,
+        Self::ShowJournal,
+    ];
 
     pub fn word(self) -> &'static str {
         match self {
@@ -30,20 +40,32 @@ impl Task {
             Self::Names => "names",
             Self::Info => "info",
             Self::Map => "map",
+            Self::Journal => "journal",
+            Self::ShowJournal => "show-journal",
         }
     }
 
+    /// Whether one position can stand on the command line.
     fn takes_a_position(self) -> bool {
         matches!(self, Self::Zone | Self::Zones)
+    }
+
+    /// Whether positions come from standard input.
+    fn takes_positions(self) -> bool {
+        self.takes_a_position() || self == Self::Journal
     }
 
     fn takes_a_zone(self) -> bool {
         self == Self::Map
     }
 
+    fn takes_a_journal(self) -> bool {
+        self == Self::ShowJournal
+    }
+
     /// Whether it writes names of zones.
     fn takes_number(self) -> bool {
-        matches!(self, Self::Zone | Self::Zones | Self::Names)
+        matches!(self, Self::Zone | Self::Zones | Self::Names | Self::ShowJournal)
     }
 }
 
@@ -57,21 +79,26 @@ pub enum Wanted {
 #[derive(Debug, PartialEq)]
 pub struct Request {
     pub task: Task,
+    /// The index; for a task that takes one, the journal.
     pub file: PathBuf,
     /// Zone numbers are written before the names.
     pub numbered: bool,
     /// A file that the full check does not accept is refused.
     pub checked: bool,
+    /// Positions on standard input are bytes, and no lines.
+    pub binary: bool,
     /// For a task that takes one. None: positions come from standard input.
     pub position: Option<Position>,
     /// There for a task that takes one, and for no other.
     pub zone: Option<Which>,
+    /// The index beside a journal.
+    pub index: Option<PathBuf>,
     /// The file that is written. None: standard output.
     pub output: Option<PathBuf>,
 }
 
 impl Request {
-    /// Whether positions come from standard input.
+    /// Whether it asks for zones at positions from standard input.
     pub fn many_positions(&self) -> bool {
         self.task.takes_a_position() && self.position.is_none()
     }
@@ -97,6 +124,7 @@ fn of_task(task: Task, words: impl Iterator<Item = OsString>) -> Result<Wanted, 
     let usage = |why| Failure::Usage(Some(task), why);
     let mut numbered = false;
     let mut checked = false;
+    let mut binary = false;
     let mut output = None;
     let mut output_is_next = false;
     let mut options = true;
@@ -106,7 +134,8 @@ fn of_task(task: Task, words: impl Iterator<Item = OsString>) -> Result<Wanted, 
             Some("--") => options = false,
             Some("-h" | "--help") => return Ok(Wanted::Help(Some(task))),
             Some("-n" | "--number") if task.takes_number() => numbered = true,
-            Some("-c" | "--check") if task.takes_a_position() => checked = true,
+            Some("-c" | "--check") if task.takes_positions() => checked = true,
+            Some("-b" | "--binary") if task == Task::Journal => binary = true,
             Some("-o" | "--output") if task.takes_a_zone() => output_is_next = true,
             Some(text) if is_option(text) => {
                 return Err(usage(format!("there is no option {word:?}")));
@@ -122,7 +151,7 @@ fn of_task(task: Task, words: impl Iterator<Item = OsString>) -> Result<Wanted, 
     if output_is_next {
         return Err(usage("which file is to be written?".to_string()));
     }
-    Ok(Wanted::Do(Request { numbered, checked, output, ..request }))
+    Ok(Wanted::Do(Request { numbered, checked, binary, output, ..request }))
 }
 
 /// A minus before a digit or a dot starts a number, and one alone stands for standard input.
@@ -134,20 +163,24 @@ fn is_option(text: &str) -> bool {
 /// The file, and what stands behind it.
 fn request(task: Task, plain: Vec<OsString>) -> Result<Request, String> {
     let mut plain = plain.into_iter();
-    let file = plain.next().ok_or("which index file?")?.into();
+    let which = if task.takes_a_journal() { "which journal?" } else { "which index file?" };
+    let file = plain.next().ok_or(which)?.into();
     let rest: Vec<OsString> = plain.collect();
     let text = rest.join(" ".as_ref());
     let text = text.to_string_lossy();
-    let (mut position, mut zone) = (None, None);
+    let (mut position, mut zone, mut index) = (None, None, None);
     match rest.as_slice() {
         [] if task.takes_a_zone() => return Err("which zone, by number or by name?".to_string()),
         [] => {}
         _ if task.takes_a_zone() => zone = Some(Which::read(&text)),
+        [one] if task.takes_a_journal() => index = Some(one.into()),
+        [_, more, ..] if task.takes_a_journal() => return Err(format!("{more:?} is too much")),
+        [one] if task.takes_positions() && one == "-" => {}
         [first, ..] if !task.takes_a_position() => return Err(format!("{first:?} is too much")),
-        [one] if one == "-" => {}
         _ => position = Some(Position::read(&text).map_err(|why| why.to_string())?),
     }
-    Ok(Request { task, file, numbered: false, checked: false, position, zone, output: None })
+    let (numbered, checked, binary, output) = (false, false, false, None);
+    Ok(Request { task, file, numbered, checked, binary, position, zone, index, output })
 }
 
 #[cfg(test)]
@@ -223,6 +256,31 @@ mod tests {
     }
 
     #[test]
+    fn positions_of_a_journal() {
+        for words in ["journal a.tzb", "journal a.tzb -", "journal -c a.tzb", "journal a.tzb -b"] {
+            let request = asked(words);
+            assert_eq!((request.task, request.position), (Task::Journal, None));
+            assert_eq!(request.file, PathBuf::from("a.tzb"));
+            assert_eq!(request.checked, words.contains("-c"), "{words:?}");
+            assert_eq!(request.binary, words.contains("-b"), "{words:?}");
+            assert!(!request.many_positions());
+        }
+        assert!(asked("journal --binary --check a.tzb").binary);
+    }
+
+    #[test]
+    fn a_journal_and_its_index() {
+        let shown = |line| {
+            let request = asked(line);
+            (request.file, request.index, request.numbered)
+        };
+        let path = PathBuf::from;
+        assert_eq!(shown("show-journal a"), (path("a"), None, false));
+        assert_eq!(shown("show-journal - -n b"), (path("-"), Some(path("b")), true));
+        assert_eq!(shown("show-journal -- -a -b"), (path("-a"), Some(path("-b")), false));
+    }
+
+    #[test]
     fn what_is_not_understood() {
         let lines = [
             "",
@@ -250,6 +308,17 @@ mod tests {
             "map a.tzb -o 8",
             "map a.tzb 8 -o -b",
             "names a.tzb -o b.json",
+            "journal",
+            "journal a.tzb 1 2",
+            "journal a.tzb b.tzb",
+            "journal a.tzb - -",
+            "journal -n a.tzb",
+            "journal a.tzb -o b",
+            "zone -b a.tzb",
+            "show-journal",
+            "show-journal a b c",
+            "show-journal -b a",
+            "show-journal -c a b",
         ];
         for line in lines {
             assert!(matches!(read_line(line), Err(Failure::Usage(..))), "{line:?}");

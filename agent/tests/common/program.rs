@@ -22,17 +22,31 @@ pub fn tzb(arguments: &[&str]) -> Command {
 /// Exit status, standard output, standard error.
 pub type Said = (Option<i32>, String, String);
 
-pub fn ended(child: Child) -> Said {
+/// The same, of a command that writes no text.
+pub type Gave = (Option<i32>, Vec<u8>, String);
+
+fn given(child: Child) -> Gave {
     let output = child.wait_with_output().unwrap();
-    let text = |bytes| String::from_utf8(bytes).unwrap();
-    (output.status.code(), text(output.stdout), text(output.stderr))
+    (output.status.code(), output.stdout, String::from_utf8(output.stderr).unwrap())
+}
+
+pub fn ended(child: Child) -> Said {
+    text(given(child))
+}
+
+fn text((status, out, err): Gave) -> Said {
+    (status, String::from_utf8(out).unwrap(), err)
 }
 
 pub fn run(arguments: &[&str], input: impl AsRef<[u8]>) -> Said {
+    text(run_bytes(arguments, input))
+}
+
+pub fn run_bytes(arguments: &[&str], input: impl AsRef<[u8]>) -> Gave {
     let mut child = tzb(arguments).spawn().unwrap();
     // A command that does not read its input may have ended by now.
     let _ = child.stdin.take().unwrap().write_all(input.as_ref());
-    ended(child)
+    given(child)
 }
 
 pub fn answered(text: &str) -> Said {

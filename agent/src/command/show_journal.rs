@@ -1,0 +1,114 @@
+//! A journal in words, a line for each entry.
+
+use std::fs::File;
+use std::io::{self, Read, Write};
+use std::path::Path;
+
+use super::failure::{Failure, Status};
+use super::found::{Shown, write_zone};
+use super::pieces::Pieces;
+use super::point::Point;
+use super::progress::Progress;
+use super::words::Request;
+use tzb::journal::{ENTRY, Entry, PLACES};
+use tzb::{Index, Refusal};
+
+/// The reason of a position that is in more zones than an entry has places.
+const TOO_MANY: u32 = 46;
+
+/// Writes a line for each entry: an empty one for what is none. That is told on standard error, with its place.
+pub fn show(request: &Request, out: &mut impl Write) -> Result<Status, Failure> {
+    let index = request.index.as_deref().map(open_index).transpose()?;
+    let (name, mut pieces) = open_journal(&request.file)?;
+    let mut progress = Progress::new("entries");
+    let mut status = Status::Answered;
+    let mut number: u64 = 0;
+    while let Some(bytes) = pieces.next(out)? {
+        let place = number * ENTRY as u64;
+        number += 1;
+        let missing = write_line(bytes, index.as_ref(), request.numbered, out);
+        if let Some(why) = missing.map_err(Failure::Output)? {
+            progress.say(&format_args!("{name}: entry {number}, at byte {place}: {why}"));
+            status = Status::No;
+        }
+        progress.at(number);
+    }
+    progress.clear();
+    Ok(status)
+}
+
+/// The index that the names are from. No position is asked of it.
+fn open_index(path: &Path) -> Result<Index, Failure> {
+    let refused = |refusal| Failure::Refused(path.to_path_buf(), refusal);
+    Index::open_plain(super::read(path)?).map_err(refused)
+}
+
+/// The journal, and what it is called. A minus stands for standard input.
+fn open_journal(path: &Path) -> Result<(String, Pieces<Box<dyn Read>>), Failure> {
+    if path.as_os_str() == "-" {
+        let input: Box<dyn Read> = Box::new(io::stdin().lock());
+        return Ok(("standard input".to_string(), Pieces::new(input, ENTRY, Failure::Input)));
+    }
+    let own = path.to_path_buf();
+    let unreadable = move |why| Failure::Unreadable(own.clone(), why);
+    let file: Box<dyn Read> = Box::new(File::open(path).map_err(&unreadable)?);
+    let name = Shown(&path.to_string_lossy()).to_string();
+    Ok((name, Pieces::new(file, ENTRY, unreadable)))
+}
+
+/// The line of one entry, and what to say where something is missing in it.
+fn write_line(
+    bytes: &[u8],
+    index: Option<&Index>,
+    numbered: bool,
+    out: &mut impl Write,
+) -> io::Result<Option<String>> {
+    let entry = match Entry::read(bytes) {
+        Ok(entry) => entry,
+        Err(refusal) => {
+            writeln!(out)?;
+            return Ok(Some(refusal.to_string()));
+        }
+    };
+    write!(out, "{}\t", Point { x: entry.x, y: entry.y })?;
+    let mut missing = None;
+    match &entry.answer {
+        Ok(zones) if zones.is_empty() => write!(out, "no zone")?,
+        Ok(zones) => missing = write_zones(zones, index, numbered, out)?,
+        Err(refusal) => write_reason(*refusal, out)?,
+    }
+    writeln!(out)?;
+    Ok(missing)
+}
+
+/// By name where there is an index, else by number; with tabs between. One that the index has no name for is told.
+fn write_zones(
+    zones: &[u32],
+    index: Option<&Index>,
+    numbered: bool,
+    out: &mut impl Write,
+) -> io::Result<Option<String>> {
+    let mut missing = None;
+    for (place, &zone) in zones.iter().enumerate() {
+        if place > 0 {
+            write!(out, "\t")?;
+        }
+        match index.map(|index| index.name(zone)) {
+            Some(Ok(name)) => write_zone(out, &(zone, name), numbered)?,
+            Some(Err(refusal)) => {
+                write_zone(out, &(zone, &zone.to_string()), numbered)?;
+                missing = missing.or(Some(format!("zone {zone} of the index: {refusal}")));
+            }
+            None => write!(out, "{zone}")?,
+        }
+    }
+    Ok(missing)
+}
+
+fn write_reason(refusal: Refusal, out: &mut impl Write) -> io::Result<()> {
+    write!(out, "{refusal}")?;
+    if refusal.number() == TOO_MANY {
+        write!(out, " The position is in more than {PLACES} zones.")?;
+    }
+    Ok(())
+}
