@@ -177,9 +177,13 @@ impl Run {
     }
 
     /// The entry of a position, which reads back; now and then into rooms of every kind, and with other numbers of places.
-    fn ask(&mut self, subject: Subject, at: (i32, i32)) -> Held<()> {
-        if let Some(bytes) = self.call(subject, THREE, at, WHOLE)? {
-            let entry = self.read_and_back(&bytes)?.expect("an answer is of a form");
+    fn ask(&mut self, subject: Subject, at: (i32, i32)) -> Held<Option<Entry>> {
+        let bytes = self.call(subject, THREE, at, WHOLE)?;
+        let entry = match bytes {
+            Some(bytes) => self.read_and_back(&bytes)?,
+            None => None,
+        };
+        if let Some(entry) = &entry {
             self.met.reasons[entry.reason as usize] += 1;
             if entry.reason == 0 {
                 self.met.zones[entry.zones.len()] += 1;
@@ -194,14 +198,14 @@ impl Run {
                 self.call(subject, places, at, room)?;
             }
         }
-        Ok(())
+        Ok(entry)
     }
 
     /// A record and bytes, at so many positions.
     fn put(&mut self, subject: Subject, most: usize) -> Held<()> {
         let opened = Opened::of_record(subject.record, subject.file).ok();
         let all = positions::of(opened.as_ref(), &mut self.random, most);
-        all.into_iter().try_for_each(|at| self.ask(subject, at))
+        all.into_iter().try_for_each(|at| self.ask(subject, at).map(|_| ()))
     }
 
     /// A file's own record with its own bytes, where the file opens; the record's bytes.
@@ -263,13 +267,11 @@ impl Run {
 
     /// A position whose entry is read off document 02 by hand.
     fn by_hand(&mut self, subject: Subject, expected: &Entry) -> Held<()> {
-        let at = (expected.x, expected.y);
-        let bytes = self.call(subject, THREE, at, WHOLE)?.expect("nothing is wrong with the call");
-        let said = Entry::read(&bytes, PLACES);
-        if said.as_ref() != Ok(expected) {
-            return Err(format!("the rules say {said:?}, by hand it is {expected:?}"));
+        let said = self.ask(subject, (expected.x, expected.y))?;
+        if said.as_ref() != Some(expected) {
+            return Err(format!("the port and the rules say {said:?}, by hand it is {expected:?}"));
         }
-        self.ask(subject, at)
+        Ok(())
     }
 
     /// The kept index at its kept positions, records made by hand, and the small files that are fixed.
