@@ -168,25 +168,26 @@ fn of_file(
         }
         questions(random, [record, SIZE as u64, f, length], at, lent, &mut call);
         by_stripes(random, [record, SIZE as u64, f, length], at, lent, &mut call);
-        journal(random, [record, SIZE as u64, f, length], at, lent, &mut call);
+        let [x, y] = at.map(|degrees| (degrees * 1e5) as i32 as u64);
+        let asked = [record, SIZE as u64, f, length, 3, x, y, lent.text.as_mut_ptr() as u64, 16];
+        call(Export::JournalAsk, PORT.journal_ask as *const (), &asked, none);
+        if turn < 2 {
+            entries(random, [x, y], lent, &mut call);
+        }
     }
 }
 
-/// An entry asked for and read; one written and read, of zones or a reason, now and then of neither form.
-fn journal(
+/// The entry that was asked for is read; one is written and read, of zones or a reason, now and then of neither form.
+fn entries(
     random: &mut Random,
-    [r, size, f, length]: [u64; 4],
-    at: [f64; 2],
+    [x, y]: [u64; 2],
     lent: &mut Lent,
     call: &mut impl FnMut(Export, *const (), &[u64], [f64; 2]),
 ) {
-    let Exports { journal_ask, journal_write, journal_read, .. } = PORT;
+    let Exports { journal_write, journal_read, .. } = PORT;
     let none = [0.0; 2];
-    let [x, y] = at.map(|degrees| (degrees * 1e5) as i32 as u64);
     let (out, room) = (lent.text.as_mut_ptr() as u64, random.pick(&[16, 16, 16, 15]));
     let (points, zones) = (lent.points.as_mut_ptr() as u64, lent.zones.as_mut_ptr() as u64);
-    let asked = [r, size, f, length, 3, x, y, out, room];
-    call(Export::JournalAsk, journal_ask as *const (), &asked, none);
     let read = [3, out, 16, points, 2, zones, 3];
     call(Export::JournalRead, journal_read as *const (), &read, none);
     let count = random.below(5) as u64;
