@@ -26,7 +26,6 @@ const LONG: usize = 30_000;
 type Points = Vec<(i32, i32)>;
 
 /// What a run has left behind.
-#[derive(Debug)]
 struct Ran {
     written: Vec<u8>,
     message: String,
@@ -41,7 +40,10 @@ fn differs(ran: &Ran, entries: &[u8], due: bool) -> Option<String> {
         let same = pairs.take_while(|(wrote, expected)| wrote == expected).count();
         let at = |all: &[u8]| all.chunks(WHOLE).nth(same).map_or("nothing".to_string(), hex);
         let (wrote, expected) = (at(&ran.written), at(entries));
-        return Some(format!("as entry {same} it writes {wrote}, expected is {expected}; {ran:?}"));
+        let Ran { message, status, .. } = ran;
+        return Some(format!(
+            "as entry {same} it writes {wrote}, expected is {expected}; message {message:?}, status {status:?}"
+        ));
     }
     if due == ran.message.is_empty() {
         let what = if due { "no message" } else { "a message" };
