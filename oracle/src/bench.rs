@@ -2,6 +2,7 @@
 
 mod asking;
 pub mod hostile;
+mod journal;
 mod large;
 pub mod map;
 mod mixed;

@@ -8,6 +8,7 @@ pub mod damage;
 mod examples;
 mod fields;
 mod grid;
+pub mod journal;
 pub mod maps;
 mod shape;
 pub mod smaller;

@@ -2,6 +2,7 @@
 
 mod asked;
 mod blocks;
+pub mod journal;
 mod map;
 mod open;
 mod striped;
@@ -43,6 +44,7 @@ pub fn write(folder: &Path) {
     walked(folder);
     maps(folder);
     stripes(folder);
+    journal::write(&folder.join("journal"));
 }
 
 fn stripes(folder: &Path) {

@@ -33,10 +33,13 @@ oracle compare wide [SECONDS [SEED]]
 oracle compare map [SECONDS [SEED]]
 oracle compare striped [SECONDS [SEED]]
 oracle compare striped FILE.tzb [SECONDS [SEED]]
+oracle compare journal [SECONDS [SEED]]
+oracle compare journal-program [PROGRAM [SEED]]
 oracle load [INPUTS [SEED]] [--from NUMBER]
 oracle stack [SEED]
 oracle short [SECONDS [SEED]]
 oracle lists FOLDER
+oracle list journal [FOLDER]
 oracle bench [FILE.tzb [ROWS]]
 oracle bench large [ROWS]
 oracle bench sections
@@ -74,6 +77,17 @@ fn main() {
         ["compare", "striped", one, ref rest @ ..] if rest.len() < 3 => {
             timed(one, rest, compare::striped::run, compare::striped::one)
         }
+        ["compare", "journal"] => compare::journal::run(60, random::fresh_seed()),
+        ["compare", "journal", seconds] => {
+            compare::journal::run(number(seconds), random::fresh_seed())
+        }
+        ["compare", "journal", seconds, seed] => {
+            compare::journal::run(number(seconds), number(seed))
+        }
+        ["compare", "journal-program"] => program(compare::journal::program::PROGRAM, &[]),
+        ["compare", "journal-program", path, ref rest @ ..] if rest.len() < 2 => {
+            program(path, rest)
+        }
         ["compare", "wide"] => compare::wide::run(60, random::fresh_seed()),
         ["compare", "wide", seconds] => compare::wide::run(number(seconds), random::fresh_seed()),
         ["compare", "wide", seconds, seed] => compare::wide::run(number(seconds), number(seed)),
@@ -88,6 +102,8 @@ fn main() {
         ["short", seconds] => short(number(seconds), random::fresh_seed()),
         ["short", seconds, seed] => short(number(seconds), number(seed)),
         ["lists", folder] => lists::write(folder.as_ref()),
+        ["list", "journal"] => lists::journal::write(lists::journal::FOLDER.as_ref()),
+        ["list", "journal", folder] => lists::journal::write(folder.as_ref()),
         ["bench"] => bench::run(None, ""),
         ["bench", "large"] => bench::large(""),
         ["bench", "large", rows] => bench::large(rows),
@@ -110,6 +126,12 @@ fn timed(one: &str, rest: &[&str], small: fn(u64, u64), large: fn(&Path, u64, u6
     large(one.as_ref(), seconds, seed(rest.get(1)));
 }
 
+/// The program `journal` of that name, with [SEED].
+fn program(path: &str, rest: &[&str]) {
+    let seed = rest.first().map_or_else(random::fresh_seed, |word| number(word));
+    compare::journal::program::run(path.as_ref(), seed);
+}
+
 /// Each comparison for so many seconds, without the long fixed lists, then some load, and the stack.
 fn short(seconds: u64, seed: u64) {
     println!("seed {seed}, each comparison for {seconds} s");
@@ -118,6 +140,7 @@ fn short(seconds: u64, seed: u64) {
     compare::asking::short(seconds, seed);
     compare::map::short(seconds, seed);
     compare::striped::short(seconds, seed);
+    compare::journal::short(seconds, seed);
     load::short(5000 * seconds, seed);
     stack::short(seed);
 }

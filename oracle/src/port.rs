@@ -4,6 +4,7 @@ pub mod asking;
 pub mod exports;
 #[cfg(test)]
 mod header;
+pub mod journal;
 pub mod map;
 pub mod opening;
 pub mod striped;

@@ -5,6 +5,7 @@ mod asking;
 mod bytes;
 mod chunk;
 mod full;
+pub mod journal;
 mod kept;
 pub mod map;
 mod questions;

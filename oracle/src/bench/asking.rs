@@ -87,6 +87,8 @@ pub fn run(file: &[u8]) {
     both.contains("near borders, the zones there", &places);
     both.contains("random zones and points", &far);
     super::striped::run(file, &anywhere, &borders, &places);
+    let whole: Vec<(i32, i32)> = far.iter().map(|&(_, x, y)| (x, y)).collect();
+    super::journal::run(file, &whole, &beside);
     both.decode("all chunks", opened.chunks() as u32);
     both.names(opened.zones as u32);
     full_check(file);

@@ -7,10 +7,11 @@ pub mod questions;
 mod stand_in;
 
 use super::Tally;
+use super::records::changed;
 use crate::bytes::hex;
-use crate::file::damage::{Aim, TELLING};
+use crate::file::damage::Aim;
 use crate::file::striped::numbers;
-use crate::file::{self, put, striped, word};
+use crate::file::{self, striped};
 use crate::known::{ALL, BUT_STRIPES};
 use crate::port::opening::{SIZE, open_into};
 use crate::port::striped::{Asked, Stripes};
@@ -321,7 +322,7 @@ impl Run {
             self.beside(&record, &lent, &right).map_err(|why| (valid.clone(), why))?;
         }
         for _ in 0..6 {
-            let record = self.changed(&record, valid.len());
+            let record = changed(&mut self.random, &record, valid.len());
             self.tally.add("records with fields set", 1);
             self.beside(&record, &valid, &right).map_err(|why| (valid.clone(), why))?;
         }
@@ -347,31 +348,6 @@ impl Run {
             format!("{why}\nasked with the record {} and the bytes {lent}", hex(record))
         };
         self.put(subject, None, right, FEW).map(|_| ()).map_err(told)
-    }
-
-    /// One or two fields set, or now and then another length.
-    fn changed(&mut self, record: &[u8], size: usize) -> Vec<u8> {
-        let random = &mut self.random;
-        let mut out = record.to_vec();
-        for _ in 0..1 + random.below(2) {
-            let at = 4 * random.below(21);
-            let (now, size) = (word(&out, at), size as u32);
-            let value = match random.below(8) {
-                0 => random.pick(&TELLING),
-                1 => now.wrapping_add(random.pick(&[1, 2, 24, 44])),
-                2 => now.wrapping_sub(random.pick(&[1, 2, 24, 44])),
-                3 => word(&out, 4 * random.below(21)),
-                4 => random.pick(&[size, size - 1, size - 24, size - 44]),
-                5 => random.below(20) as u32,
-                6 => now ^ 1 << random.below(32),
-                _ => random.bits() as u32,
-            };
-            put(&mut out, at, value);
-        }
-        if random.below(16) == 0 {
-            out.resize(random.pick(&[0, 1, 83, 85, 168]), 0);
-        }
-        out
     }
 
     /// A file of less than two megabytes whose stripes take more than 2^32 numbers: their need is told, and no room is enough. The original

@@ -10,6 +10,9 @@ use crate::port::exports::{Export, Exports, NAMES};
 use crate::port::opening::SIZE;
 use crate::scene::Scene;
 
+/// How many bytes an entry of a journal has.
+const ENTRY: usize = 16;
+
 pub struct Caller {
     exports: Exports,
     file: Lent,
@@ -63,6 +66,7 @@ impl Caller {
         self.candidates(input, record, file)?;
         let walked = self.walks(input, record, file)?;
         self.stripes(input, record, file, &walked)?;
+        self.journal(input, record, file, walked.is)?;
         let part = self.part.put(&input.part, input.at_end[2]);
         self.parts(input, part)
     }
@@ -75,7 +79,7 @@ impl Caller {
     }
 
     /// A code from `first` to `last` answers; -1001 to -1047 refuses, -1048 only where a zone's text is asked for, -1049 only where stripes
-    /// are.
+    /// are, -1050 only by a journal.
     fn said(&mut self, export: Export, code: i64, first: i64, last: i64) -> Result<Answer, String> {
         if (first..=last).contains(&code) {
             return Ok(Some(code));
@@ -83,6 +87,7 @@ impl Caller {
         let last = match NAMES[export as usize] {
             name if name.starts_with("tzb_map") => -1048,
             name if name.starts_with("tzb_stripes") => -1049,
+            name if name.starts_with("tzb_journal") => -1050,
             _ => -1047,
         };
         let refuses = (last..=-1001).contains(&code);
@@ -282,6 +287,85 @@ impl Caller {
 
         let walked = Walked { is, found, zones, list };
         hold(!alike || walked == *plain, || format!("by stripes {walked:?}, plainly {plain:?}"))
+    }
+
+    /// An entry of the point is written exactly where nothing is wrong with the call, and with no reason it tells the zone exactly where the
+    /// zone contains the point.
+    fn journal(
+        &mut self,
+        input: &Input,
+        (r, size): Slice,
+        (f, length): Slice,
+        is: i32,
+    ) -> Result<(), String> {
+        let Input { x, y, guard, ref journal, .. } = *input;
+        let (places, room) = (journal.places, journal.rooms[0]);
+        let out = self.rooms[4].lend(room, input.at_end[3], guard)?;
+        let export = self.call(Export::JournalAsk).journal_ask;
+        let code = unsafe { export(r, size, f, length, places, x, y, out, room) };
+        let said = self.said(Export::JournalAsk, code.into(), 0, 0)?;
+        let entry = self.rooms[4].take(if said.is_some() { ENTRY } else { 0 })?;
+        let expected = match () {
+            _ if size != SIZE => -1044,
+            _ if places != 3 => -1050,
+            _ if room < ENTRY => -1046,
+            _ => 0,
+        };
+        hold(code == expected, || format!("{code}, where {expected} is due"))?;
+        let number = |at: usize| u32::from_le_bytes(entry[at..at + 4].try_into().unwrap());
+        let zones = entry.chunks(2).skip(4).take(entry.get(14).map_or(0, |&count| count.into()));
+        let told = zones.map(|zone| u16::from_le_bytes([zone[0], zone[1]]));
+        let is_told = told.map(u32::from).any(|zone| zone == input.zone);
+        let may = match said {
+            None => true,
+            Some(_) if (number(0), number(4)) != (x as u32, y as u32) => false,
+            Some(_) if entry[15] != 0 => !is_told,
+            Some(_) => is_told == (is == 1) && (is >= 0 || is == -1045),
+        };
+        hold(may, || format!("{entry:?}, where the zone's containment says {is}"))?;
+        let written = self.journal_writes(input)?;
+        let last = if written.is_empty() { entry } else { written };
+        self.journal_reads(input, last)
+    }
+
+    /// The entry, if one was written.
+    fn journal_writes(&mut self, input: &Input) -> Result<Vec<u8>, String> {
+        let Input { x, y, guard, ref journal, .. } = *input;
+        let (places, reason, room) = (journal.places, journal.reason, journal.rooms[0]);
+        let zones: Vec<u8> = journal.zones.iter().flat_map(|n| n.to_le_bytes()).collect();
+        let (z, bytes) = self.numbers.put(&zones, input.at_end[6]);
+        let (z, count) = (z.cast::<u32>(), bytes / 4);
+        let out = self.rooms[4].lend(room, input.at_end[4], guard)?;
+        let export = self.call(Export::JournalWrite).journal_write;
+        let code = unsafe { export(places, x, y, z, count, reason, out, room) };
+        let said = self.said(Export::JournalWrite, code.into(), 0, 0)?;
+        let may = said.map_or([-1046, -1050].contains(&code), |_| room >= ENTRY && places == 3);
+        hold(may, || format!("{code} with room for {room}"))?;
+        self.rooms[4].take(if said.is_some() { ENTRY } else { 0 })
+    }
+
+    /// What was written is read, where there is room.
+    fn journal_reads(&mut self, input: &Input, last: Vec<u8>) -> Result<(), String> {
+        let Input { x, y, guard, ref journal, .. } = *input;
+        let [_, room, zones_room] = journal.rooms;
+        let wrote = journal.bytes.is_none() && !last.is_empty();
+        let (b, length) = self.part.put(journal.bytes.as_ref().unwrap_or(&last), input.at_end[2]);
+        let position = self.rooms[1].lend(4 * room, input.at_end[4], guard)?.cast();
+        let zones = self.rooms[2].lend(4 * zones_room, input.at_end[5], guard)?.cast();
+        let (places, export) = (journal.places, self.call(Export::JournalRead).journal_read);
+        let code = unsafe { export(places, b, length, position, room, zones, zones_room) };
+        let said = self.said(Export::JournalRead, code.into(), 0, 3 * 256)?;
+        let read = self.rooms[1].take(if said.is_some() { 8 } else { 0 })?;
+        let count = said.unwrap_or(0) as usize / 256;
+        hold(count <= zones_room, || format!("{count} zones into {zones_room}"))?;
+        self.rooms[2].take(4 * count)?;
+        let may = match said {
+            Some(_) if wrote => read == [x.to_le_bytes(), y.to_le_bytes()].concat(),
+            Some(code) => code % 256 <= 46 && (code < 256 || code % 256 == 0),
+            None if wrote => code == -1046 && (room < 2 || zones_room < 3),
+            None => [-1046, -1050].contains(&code),
+        };
+        hold(may, || format!("{code} for an entry of {length} bytes, {read:?}"))
     }
 
     fn parts(&mut self, input: &Input, (p, length): Slice) -> Result<(), String> {

@@ -80,6 +80,7 @@ pub struct Input {
     pub x: i32,
     pub y: i32,
     pub scene: Scene,
+    pub journal: Journal,
     /// How much is lent for a record, in bytes; for points and zones, in numbers.
     pub rooms: [usize; 3],
     /// Of the file, the record, the part, the three rooms and the numbers: whether it ends where its pages end. Else it starts where they
@@ -87,6 +88,19 @@ pub struct Input {
     pub at_end: [bool; 7],
     /// What lent memory holds before a call.
     pub guard: u64,
+}
+
+/// What a journal's exports are called with.
+#[derive(Debug)]
+pub struct Journal {
+    pub places: u32,
+    /// The zones that are to be written, and the reason.
+    pub zones: Vec<u32>,
+    pub reason: u32,
+    /// The bytes that are to be read. None: the entry that was written last, if one was.
+    pub bytes: Option<Vec<u8>>,
+    /// How much is lent for an entry, in bytes; for a position and for zones, in numbers.
+    pub rooms: [usize; 3],
 }
 
 impl fmt::Debug for Input {
@@ -106,6 +120,7 @@ impl fmt::Debug for Input {
         let bits = [lng.to_bits(), lat.to_bits()];
         writeln!(f, "position {lng:?} {lat:?}, its bits {bits:016x?}")?;
         writeln!(f, "scene {scene:?}")?;
+        writeln!(f, "{:?}", self.journal)?;
         write!(f, "rooms {rooms:?}, at the end {at_end:?}, guard {guard:016x}")
     }
 }
@@ -216,6 +231,7 @@ impl Inputs {
             record,
             numbers,
             part,
+            journal: some_journal(random, x, y),
         }
     }
 
@@ -394,6 +410,50 @@ fn part(random: &mut Random) -> Vec<u8> {
         }
     };
     out.truncate(SHORT);
+    out
+}
+
+/// What is of a form, or nearly of one; now and then anything.
+fn some_journal(random: &mut Random, x: i32, y: i32) -> Journal {
+    let zone = |random: &mut Random| match random.below(8) {
+        0 => extreme(random) as u32,
+        1 => random.below(3) as u32,
+        _ => random.below(65_535) as u32,
+    };
+    let count = random.pick(&[0, 0, 1, 1, 2, 3, 3, 4, 200]);
+    let zones: Vec<u32> = (0..count).map(|_| zone(random)).collect();
+    let reason = match random.below(8) {
+        0 => extreme(random) as u32,
+        1 | 2 => random.below(60) as u32,
+        _ => 0,
+    };
+    let places = if random.below(8) == 0 { extreme(random) as u32 } else { 3 };
+    let bytes = match random.below(4) {
+        0 => None,
+        1 => {
+            let length = random.pick(&[0, 1, 15, 16, 16, 16, 17, 24, 100]);
+            Some(anything(random, length))
+        }
+        _ => Some(nearly_an_entry(random, x, y, &zones, reason)),
+    };
+    let rooms = [
+        random.pick(&[0, 1, 15, 16, 16, 16, 17, 100]),
+        random.pick(&[0, 1, 2, 2, 2, 3, 9]),
+        random.pick(&[0, 1, 2, 3, 3, 3, 4, 9]),
+    ];
+    Journal { places, zones, reason, bytes, rooms }
+}
+
+fn nearly_an_entry(random: &mut Random, x: i32, y: i32, zones: &[u32], reason: u32) -> Vec<u8> {
+    let mut out = [x.to_le_bytes(), y.to_le_bytes()].concat();
+    for place in 0..3 {
+        let zone = zones.get(place).map_or(u16::MAX, |&zone| zone as u16);
+        out.extend(zone.to_le_bytes());
+    }
+    out.extend([zones.len() as u8, reason as u8]);
+    if random.below(4) == 0 {
+        out[random.below(16)] = random.byte();
+    }
     out
 }
 

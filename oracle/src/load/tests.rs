@@ -329,6 +329,116 @@ mod of_stripes {
     }
 }
 
+mod of_journal {
+    use super::*;
+
+    /// Of the zones that it tells it leaves out the first.
+    #[allow(clippy::too_many_arguments)]
+    unsafe extern "C" fn ask_without_the_first(
+        record: *const u8,
+        size: usize,
+        file: *const u8,
+        length: usize,
+        places: u32,
+        x: i32,
+        y: i32,
+        out: *mut u8,
+        room: usize,
+    ) -> i32 {
+        let export = PORT.journal_ask;
+        let code = unsafe { export(record, size, file, length, places, x, y, out, room) };
+        if code == 0 {
+            let entry = unsafe { std::slice::from_raw_parts_mut(out, 16) };
+            entry[8..14].fill(0xff);
+            entry[14] = 0;
+        }
+        code
+    }
+
+    #[allow(clippy::too_many_arguments)]
+    unsafe extern "C" fn ask_that_writes_one_behind(
+        record: *const u8,
+        size: usize,
+        file: *const u8,
+        length: usize,
+        places: u32,
+        x: i32,
+        y: i32,
+        out: *mut u8,
+        room: usize,
+    ) -> i32 {
+        let export = PORT.journal_ask;
+        let code = unsafe { export(record, size, file, length, places, x, y, out, room) };
+        if code == 0 && room > 16 {
+            unsafe { *out.add(16) ^= 1 };
+        }
+        code
+    }
+
+    #[allow(clippy::too_many_arguments)]
+    unsafe extern "C" fn write_that_writes_where_it_refuses(
+        places: u32,
+        x: i32,
+        y: i32,
+        zones: *const u32,
+        count: usize,
+        reason: u32,
+        out: *mut u8,
+        room: usize,
+    ) -> i32 {
+        let export = PORT.journal_write;
+        let code = unsafe { export(places, x, y, zones, count, reason, out, room) };
+        if code < 0 && room > 0 {
+            unsafe { *out ^= 1 };
+        }
+        code
+    }
+
+    unsafe extern "C" fn read_that_writes_where_it_refuses(
+        places: u32,
+        bytes: *const u8,
+        length: usize,
+        position: *mut i32,
+        room: usize,
+        zones: *mut u32,
+        zones_room: usize,
+    ) -> i32 {
+        let export = PORT.journal_read;
+        let code = unsafe { export(places, bytes, length, position, room, zones, zones_room) };
+        if code == -1046 && room > 0 {
+            unsafe { *position ^= 1 };
+        }
+        code
+    }
+
+    unsafe extern "C" fn read_that_writes_one_zone_behind(
+        places: u32,
+        bytes: *const u8,
+        length: usize,
+        position: *mut i32,
+        room: usize,
+        zones: *mut u32,
+        zones_room: usize,
+    ) -> i32 {
+        let export = PORT.journal_read;
+        let code = unsafe { export(places, bytes, length, position, room, zones, zones_room) };
+        if code >= 0 && (code as usize / 256) < zones_room {
+            unsafe { *zones.add(code as usize / 256) ^= 1 };
+        }
+        code
+    }
+
+    #[test]
+    fn a_wrong_journal_is_found_out() {
+        let changed = |exports| told(exports).is_some_and(|what| what.contains("changed"));
+        assert!(changed(Exports { journal_ask: ask_that_writes_one_behind, ..PORT }));
+        assert!(changed(Exports { journal_write: write_that_writes_where_it_refuses, ..PORT }));
+        assert!(changed(Exports { journal_read: read_that_writes_where_it_refuses, ..PORT }));
+        assert!(changed(Exports { journal_read: read_that_writes_one_zone_behind, ..PORT }));
+        assert!(told(Exports { journal_ask: ask_without_the_first, ..PORT }).is_some());
+    }
+}
+
 unsafe extern "C" fn sum_that_reads_one_behind(bytes: *const u8, length: usize) -> u32 {
     unsafe { bytes.add(length).read_volatile().into() }
 }

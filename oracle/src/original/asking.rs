@@ -64,6 +64,14 @@ impl Opened<'_> {
         decoded.map_or(-2, |()| points.len() as i64)
     }
 
+    pub fn zone_count(&self) -> u32 {
+        self.reader.timezone_count()
+    }
+
+    pub fn name_bytes(&self, zone: u32) -> Option<&[u8]> {
+        self.reader.name_bytes(zone).ok()
+    }
+
     pub fn name_length(&self, zone: u32) -> i64 {
         self.reader.name_bytes(zone).map_or(-2, |name| name.len() as i64)
     }

@@ -86,6 +86,17 @@ exports! {
         file: Bytes, length: usize, zone: u32, out: *mut u8, room: usize
     ) -> i64;
     MapLength map_length: unsafe fn tzb_map_length(file: Bytes, length: usize, zone: u32) -> i64;
+    JournalAsk journal_ask: unsafe fn tzb_journal_ask(
+        record: Bytes, size: usize, file: Bytes, length: usize,
+        places: u32, x: i32, y: i32, out: *mut u8, room: usize
+    ) -> i32;
+    JournalWrite journal_write: unsafe fn tzb_journal_write(
+        places: u32, x: i32, y: i32, zones: Numbers, count: usize, reason: u32, out: *mut u8, room: usize
+    ) -> i32;
+    JournalRead journal_read: unsafe fn tzb_journal_read(
+        places: u32, bytes: Bytes, length: usize,
+        position: *mut i32, room: usize, zones: *mut u32, zones_room: usize
+    ) -> i32;
     Number number: unsafe fn tzb_number(data: Bytes, length: usize, at: usize) -> i32;
     NumberLength number_length: unsafe fn tzb_number_length(
         data: Bytes, length: usize, at: usize

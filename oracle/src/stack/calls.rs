@@ -168,7 +168,34 @@ fn of_file(
         }
         questions(random, [record, SIZE as u64, f, length], at, lent, &mut call);
         by_stripes(random, [record, SIZE as u64, f, length], at, lent, &mut call);
+        let [x, y] = at.map(|degrees| (degrees * 1e5) as i32 as u64);
+        let asked = [record, SIZE as u64, f, length, 3, x, y, lent.text.as_mut_ptr() as u64, 16];
+        call(Export::JournalAsk, PORT.journal_ask as *const (), &asked, none);
+        if turn < 2 {
+            entries(random, [x, y], lent, &mut call);
+        }
     }
+}
+
+/// The entry that was asked for is read; one is written and read, of zones or a reason, now and then of neither form.
+fn entries(
+    random: &mut Random,
+    [x, y]: [u64; 2],
+    lent: &mut Lent,
+    call: &mut impl FnMut(Export, *const (), &[u64], [f64; 2]),
+) {
+    let Exports { journal_write, journal_read, .. } = PORT;
+    let none = [0.0; 2];
+    let (out, room) = (lent.text.as_mut_ptr() as u64, random.pick(&[16, 16, 16, 15]));
+    let (points, zones) = (lent.points.as_mut_ptr() as u64, lent.zones.as_mut_ptr() as u64);
+    let read = [3, out, 16, points, 2, zones, 3];
+    call(Export::JournalRead, journal_read as *const (), &read, none);
+    let count = random.below(5) as u64;
+    (0..5).for_each(|i| lent.zones[i] = random.below(100) as u32);
+    let reason = if count == 0 { random.below(50) as u64 } else { 0 };
+    let written = [3, x, y, zones, count, reason, out, room];
+    call(Export::JournalWrite, journal_write as *const (), &written, none);
+    call(Export::JournalRead, journal_read as *const (), &read, none);
 }
 
 /// The stripes' numbers. Where they are refused, those of a file before stay.

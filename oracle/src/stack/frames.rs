@@ -14,7 +14,7 @@ const WORD: usize = 8;
 const OUTSIDE: [&str; 2] = ["memcpy", "memset"];
 /// What the run itself lays on the stack before a call: two words, and two more for an export that takes more than eight.
 fn handed(name: &str) -> usize {
-    if name == "tzb_contains_striped" { 32 } else { 16 }
+    if ["tzb_contains_striped", "tzb_journal_ask"].contains(&name) { 32 } else { 16 }
 }
 
 /// For each export, or None where there is no program that takes machine code apart.
