@@ -33,6 +33,9 @@ use Rattle.tzb_c.proofs.tzb_full_check.Reads as full-check-reads
 use Rattle.tzb_c.proofs.tzb_full_check_rule.Reads as full-check-rule-reads
 use Rattle.tzb_c.proofs.tzb_map.Reads as map-reads
 use Rattle.tzb_c.proofs.tzb_map_length.Reads as map-length-reads
+use Rattle.tzb_c.proofs.tzb_journal_ask.Reads as journal-ask-reads
+use Rattle.tzb_c.proofs.tzb_journal_write.Reads as journal-write-reads
+use Rattle.tzb_c.proofs.tzb_journal_read.Reads as journal-read-reads
 
 pub opens : Determined open-reads.Learnt
 opens κ a r r' e e' p q = p .0 ∙ sym (q .0)
@@ -128,6 +131,31 @@ map-memory κ a r r' e e' p q = p .1 ∙ sym (q .1)
 
 pub map-length : Determined map-length-reads.Learnt
 map-length κ a r r' e e' p q = p ∙ sym q
+
+-- the journal
+pub journal-ask : Determined journal-ask-reads.Learnt
+journal-ask κ a r r' e e' p q = p .0 ∙ sym (q .0)
+
+-- the lent bytes at exit
+pub journal-ask-memory : DeterminedMemory journal-ask-reads.Learnt (λ κ e. e .1 .1 .1 .1 .1 .0 .now)
+journal-ask-memory κ a r r' e e' p q = p .1 ∙ sym (q .1)
+
+pub journal-write : Determined journal-write-reads.Learnt
+journal-write κ a r r' e e' p q = p .0 ∙ sym (q .0)
+
+-- the lent bytes at exit
+pub journal-write-memory : DeterminedMemory journal-write-reads.Learnt (λ κ e. e .1 .1 .1 .1 .1 .0 .now)
+journal-write-memory κ a r r' e e' p q = p .1 ∙ sym (q .1)
+
+pub journal-read : Determined journal-read-reads.Learnt
+journal-read κ a r r' e e' p q = p .0 ∙ sym (q .0)
+
+-- the numbers lent for the position at exit, and the lent places
+pub journal-read-position : DeterminedMemory journal-read-reads.Learnt (λ κ e. e .1 .1 .0 .now)
+journal-read-position κ a r r' e e' p q = p .1 .0 ∙ sym (q .1 .0)
+
+pub journal-read-places : DeterminedMemory journal-read-reads.Learnt (λ κ e. e .1 .1 .1 .0 .now)
+journal-read-places κ a r r' e e' p q = p .1 .1 ∙ sym (q .1 .1)
 
 pub number : Determined number-reads.Learnt
 number κ a r r' e e' p q = p ∙ sym q

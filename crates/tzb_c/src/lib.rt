@@ -18,9 +18,13 @@ ghost use Rattle.tzb_c.specs.Opens.{openInto, lookupOnce};
 ghost use Rattle.tzb_c.specs.Exports.{numberOf, lengthFrom, boxOf};
 ghost use Rattle.plane.specs.Places.{point, position};
 ghost use Rattle.replies.specs.Replies.{foundTold};
-ghost use Rattle.answer.specs.Answers.{left, howMany};
+ghost use Rattle.answer.specs.Answers.{ok, _then_, left, howMany};
+ghost use Rattle.entries.specs.Entry.{entry};
+ghost use Rattle.tzb_journal.specs.Journal.{journalAsked, journalWritten, journalRead, positionOf, countAndReason};
+ghost use Prim.Native.Nat.{_+_, _*_, _<_};
 use answer::Checked;
 use boxes::BBox;
+use entries::EntryRead;
 use plane::I32Point;
 use plane::Point;
 use replies::Bounds;
@@ -314,6 +318,66 @@ pub extern "C" fn tzb_map_length(file: &[u8], zone: u32) -> i64
     ensures { λ r. ⌜ r ≡ drawnCode (howLong (mapOf (now (file .entry)) zone)) ⌝ }
 {
     tzb_codes::drawing_code(tzb_map::map_length(file, zone))
+}
+
+// ---- the journal
+
+// The journal's entry of a whole-number position, into the first 10 + 2 * places bytes of lent memory: 0, or -1000 - n for refusal n of the call, and then nothing is written: 44 for an opened record of another length, 50 for a number of places that is not offered, 46 where there is no room. Any refusal of the question is the entry's reason.
+#[no_mangle]
+pub extern "C" fn tzb_journal_ask(
+    record: &[u8],
+    file: &[u8],
+    places: u32,
+    x: i32,
+    y: i32,
+    out: &mut [u8],
+) -> i32
+    ensures { λ r. ⌜ r ≡ doneCode (journalAsked (now («record» .entry)) (now (file .entry)) places (point x y) (now (out .entry))) ⌝ }
+    ensures memory { λ r. ⌜ now (out .exit) ≡ left (now (out .entry)) (journalAsked (now («record» .entry)) (now (file .entry)) places (point x y) (now (out .entry))) ⌝ }
+{
+    let q = I32Point { x, y };
+    tzb_codes::done_code(tzb_journal::ask(record, file, places, q, out))
+}
+
+// An entry of these parts into lent memory: 0, or -1000 - n for refusal n, and then nothing is written: 50 for a number of places that is not offered, or an entry of no form, then 46 where there is no room.
+#[no_mangle]
+pub extern "C" fn tzb_journal_write(
+    places: u32,
+    x: i32,
+    y: i32,
+    zones: &[u32],
+    reason: u32,
+    out: &mut [u8],
+) -> i32
+    ensures { λ r. ⌜ r ≡ doneCode (journalWritten places (entry (point x y) (now (zones .entry)) reason) (now (out .entry))) ⌝ }
+    ensures memory { λ r. ⌜ now (out .exit) ≡ left (now (out .entry)) (journalWritten places (entry (point x y) (now (zones .entry)) reason) (now (out .entry))) ⌝ }
+{
+    let q = I32Point { x, y };
+    tzb_codes::done_code(tzb_journal::write(places, q, zones, reason, out))
+}
+
+fn count_and_reason(count: u8, reason: u8) -> u32
+    ensures { λ r. ⌜ (r ≡ 256 * count + reason) × (r < 0x1_0000) ⌝ }
+{
+    256 * (count as u32) + (reason as u32)
+}
+
+// The entry that stands in the bytes: 256 times its count plus its reason, its position in the first two lent numbers, its zones in the first lent places. Or -1000 - n for refusal n, and then nothing is written: 50 for a number of places that is not offered, or bytes of no form, then 46 where there is no room for the position or for the zones.
+#[no_mangle]
+pub extern "C" fn tzb_journal_read(
+    places: u32,
+    bytes: &[u8],
+    position: &mut [i32],
+    zones: &mut [u32],
+) -> i32
+    ensures { λ r. ⌜ r ≡ numberCode (journalRead places (now (bytes .entry)) (length (now (position .entry))) (length (now (zones .entry))) then λ e. ok (countAndReason e)) ⌝ }
+    ensures memory { λ r. ⌜ (now (position .exit) ≡ left (now (position .entry)) (journalRead places (now (bytes .entry)) (length (now (position .entry))) (length (now (zones .entry))) then λ e. ok (positionOf e))) × (now (zones .exit) ≡ left (now (zones .entry)) (journalRead places (now (bytes .entry)) (length (now (position .entry))) (length (now (zones .entry))) then λ e. ok (e .zones))) ⌝ }
+{
+    let a = tzb_journal::read(places, bytes, position, zones);
+    match a {
+        EntryRead::Refused(k) => tzb_codes::refusal_code(k),
+        EntryRead::Is(_, count, reason) => count_and_reason(count, reason) as i32,
+    }
 }
 
 // ---- for comparison runs

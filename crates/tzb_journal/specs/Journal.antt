@@ -1,6 +1,6 @@
 -- Document 02, 2026-04: a journal of answers. What an entry says of a whole-number question, and the journal's three calls.
 -- Assumes nothing.
-use Prim.Native.Nat.{ℕ}
+use Prim.Native.Nat.{ℕ, _+_, _*_}
 use mathlib.Core.Bool.{Bool, _&&_}
 use mathlib.Core.List.{List, [], _∷_}
 use lib.IntN.{ℤ}
@@ -51,3 +51,7 @@ journalRead places s numbers room = need 50 (offered places) (entryOf places s t
 -- what is left in lent memory: the position, and the zones
 abbrev pub positionOf : Entry → List ℤ
 positionOf e = e .at .x ∷ e .at .y ∷ []
+
+-- and what the call tells: 256 × count + reason
+abbrev pub countAndReason : Entry → ℕ
+countAndReason e = 256 * length (e .zones) + e .reason
