@@ -14,3 +14,4 @@ pub mod Built
 pub mod Demand1
 pub mod Answers
 pub mod Stripes
+pub mod Journal
