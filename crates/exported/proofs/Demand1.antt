@@ -3,7 +3,7 @@
 use Prim.Native.Nat.{ℕ, _≤_, _<_}
 use native.Mathlib.Omega.{arith}
 use mathlib.Core.Path.{_≡_, refl, sym, ap, subst, _∙_}
-use mathlib.Core.Bool.{Bool, true, false}
+use mathlib.Core.Bool.{Bool, true, false, _&&_}
 use mathlib.Core.List.{List}
 use mathlib.Core.Logic.{_⊎_, inl, inr}
 use lib.IntN.{ℤ, pos}
@@ -30,7 +30,7 @@ use Rattle.tzb_c.specs.Opens.{openInto, lookupOnce}
 use Rattle.tzb_c.proofs.Kept.{once-small}
 use Rattle.exported.specs.Words.{lastNumber, refusing, Refuses}
 use Rattle.exported.specs.Demand1.{NumberOrRefusal, NumberOrAsItWas, DoneOrAsItWas, ZoneNoneOrRefusal, Demand1}
-use Rattle.exported.proofs.Meaning.{open-answer, open-memory, full-check-answer, rule-answer, lookup-answer, contains-answer, ask-answer, choice-answer, all-answer, all-memory, decode-answer, decode-memory, name-answer, name-memory, start-answer, end-answer, candidate-answer, zone-count-answer, map-answer, map-memory, map-length-answer, need-answer, stripes-answer, stripes-memory, contains-striped-answer, ask-striped-answer, all-striped-answer, all-striped-memory}
+use Rattle.exported.proofs.Meaning.{open-answer, open-memory, full-check-answer, rule-answer, lookup-answer, contains-answer, ask-answer, choice-answer, all-answer, all-memory, decode-answer, decode-memory, name-answer, name-memory, start-answer, end-answer, candidate-answer, zone-count-answer, map-answer, map-memory, map-length-answer, need-answer, stripes-answer, stripes-memory, contains-striped-answer, ask-striped-answer, all-striped-answer, all-striped-memory, journal-ask-answer, journal-ask-memory, journal-write-answer, journal-write-memory, journal-read-answer, journal-read-position, journal-read-zones}
 use Rattle.exported.proofs.Tabled.{Tabled, given, need-t, then-t, raised, higher}
 use Rattle.exported.proofs.Opening.{open-tabled}
 use Rattle.exported.proofs.Questions.{record-q, bounds-q, candidates-q, candidate-q, decode-q, lookup-q, contains-by-q, lookup-by-q, list-by-q}
@@ -43,6 +43,10 @@ use Rattle.tzb_map.specs.Map.{mapOf, mapIn}
 use Rattle.plane.specs.Places.{point}
 use Rattle.replies.specs.Replies.{inZone, Outcome}
 use Rattle.answer.proofs.AnswersLaws.{then-inv, ok-inv}
+use Rattle.entries.specs.Entry.{Entry, entry, entryWide}
+use Rattle.entries.specs.Forms.{formed, laidOf, writeOf}
+use Rattle.entries.specs.Reading.{entryIs, entryOf}
+use Rattle.tzb_journal.specs.Journal.{offered, journalAsked, journalWritten, journalRead, positionOf, countAndReason}
 
 -- ---- every refusal is from the table
 pub once-tabled : (file : List ℕ) (lng lat : Float) → Tabled 46 (lookupOnce file lng lat)
@@ -91,6 +95,24 @@ module _ (held file : List ℕ) where
   unfolding candidateAsked
   candidate-tabled place = asked held _ (λ o. candidate-q o file place)
 
+-- the journal's calls: 44, 50 and 46
+laid-tabled : (places : ℕ) (e : Entry) (room : List ℕ) → Tabled lastNumber (laidOf places e room)
+unfolding laidOf
+laid-tabled places e room = need-t 46 (atMost (entryWide places) (length room)) _ refl (given _)
+
+journal-ask-tabled : (held file : List ℕ) (places : ℕ) (q : I32Point) (room : List ℕ) → Tabled lastNumber (journalAsked held file places q room)
+unfolding journalAsked
+journal-ask-tabled held file places q room = then-t _ _ (higher 46 lastNumber (omega arith) _ (record-q held)) (λ o. need-t 50 (offered places) _ refl (laid-tabled places _ room))
+
+journal-write-tabled : (places : ℕ) (e : Entry) (room : List ℕ) → Tabled lastNumber (journalWritten places e room)
+unfolding journalWritten writeOf
+journal-write-tabled places e room = need-t 50 (offered places) _ refl (need-t 50 (formed places e) _ refl (laid-tabled places e room))
+
+journal-read-tabled : (places : ℕ) (s : List ℕ) (numbers room : ℕ) → Tabled lastNumber (journalRead places s numbers room)
+unfolding journalRead entryOf
+journal-read-tabled places s numbers room =
+    need-t 50 (offered places) _ refl (then-t _ _ (need-t 50 (entryIs places s) _ refl (given _)) (λ e. need-t 46 (atMost 2 numbers && atMost (length (e .zones)) room) _ refl (given e)))
+
 -- ---- a refusal leaves lent memory as it was
 kept-told : (memory : List ℕ) (x : Answer (List ℕ)) → Tabled lastNumber x → DoneOrAsItWas (doneCode x) memory (left memory x)
 kept-told memory (ok l) h = inl refl
@@ -108,6 +130,12 @@ numbers-told : (numbers : List ℤ) (x : Answer (List I32Point)) → Tabled last
 numbers-told numbers (ok l) h = inl (length l, refl)
 numbers-told numbers (refused k) h = inr (refuses k (h .by), refl)
 
+entry-told : (position : List ℤ) (zones : List ℕ) (x : Answer Entry) → Tabled lastNumber x
+    → ((n : ℕ) × (numberCode (x then λ e. ok (countAndReason e)) ≡ pos n))
+    ⊎ (Refuses (numberCode (x then λ e. ok (countAndReason e))) × (left position (x then λ e. ok (positionOf e)) ≡ position) × (left zones (x then λ e. ok (e .zones)) ≡ zones))
+entry-told position zones (ok e) h = inl (countAndReason e, refl)
+entry-told position zones (refused k) h = inr (refuses k (h .by), refl, refl)
+
 -- an answer and memory that are equal to such
 module _ {A : Type 0} {r s : ℤ} {before after left : List A} where
   done-as : r ≡ s → after ≡ left → DoneOrAsItWas s before left → DoneOrAsItWas r before after
@@ -117,6 +145,11 @@ module _ {A : Type 0} {r s : ℤ} {before after left : List A} where
   number-as : r ≡ s → after ≡ left → NumberOrAsItWas s before left → NumberOrAsItWas r before after
   number-as e f (inl t) = inl (t .0, e ∙ t .1)
   number-as e f (inr t) = inr (subst Refuses (sym e) (t .0), f ∙ t .1)
+
+read-as : {A B : Type 0} {r s : ℤ} {before after left : List A} {before' after' left' : List B} → r ≡ s → after ≡ left → after' ≡ left'
+    → ((n : ℕ) × (s ≡ pos n)) ⊎ (Refuses s × (left ≡ before) × (left' ≡ before')) → ((n : ℕ) × (r ≡ pos n)) ⊎ (Refuses r × (after ≡ before) × (after' ≡ before'))
+read-as e f g (inl t) = inl (t .0, e ∙ t .1)
+read-as e f g (inr t) = inr (subst Refuses (sym e) (t .0), f ∙ t .1, g ∙ t .2)
 
 -- ---- the full check
 abbrev Rule : ℕ → Type 0
@@ -207,4 +240,11 @@ demand-1 file =
       ask-striped-barred = λ held numbers q n w lng lat r c. subst Refuses (sym (ask-striped-answer c)) (ask-barred (striped numbers) held file lng lat (subst Refuses (zone-count-answer n) w));
       ask-all-striped = λ held numbers lng lat places r after c.
           number-as (all-striped-answer c) (all-striped-memory c) (places-told places (listAskedBy (striped numbers) held file lng lat (length places)) (list-tabled held file (striped numbers) lng lat (length places)));
+      journal-ask = λ held places x y memory r after c.
+          done-as (journal-ask-answer c) (journal-ask-memory c) (kept-told memory (journalAsked held file places (point x y) memory) (journal-ask-tabled held file places (point x y) memory));
+      journal-write = λ places x y zones reason memory r after c.
+          done-as (journal-write-answer c) (journal-write-memory c) (kept-told memory (journalWritten places (entry (point x y) zones reason) memory) (journal-write-tabled places (entry (point x y) zones reason) memory));
+      journal-read = λ places bytes position zones r position' zones' c.
+          read-as (journal-read-answer c) (journal-read-position c) (journal-read-zones c)
+          (entry-told position zones (journalRead places bytes (length position) (length zones)) (journal-read-tabled places bytes (length position) (length zones)));
     }

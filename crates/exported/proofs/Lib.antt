@@ -3,6 +3,7 @@ pub mod Meaning
 pub mod Tabled
 pub mod Opening
 pub mod Questions
+pub mod Noted
 pub mod Room
 pub mod Checks
 pub mod Codes
@@ -13,3 +14,4 @@ pub mod Built
 pub mod Demand1
 pub mod Answers
 pub mod Stripes
+pub mod Journal

@@ -13,9 +13,11 @@ use Rattle.reader_ways.specs.Ways.{striped}
 use Rattle.tzb_codes.specs.Codes.{doneCode, kindCode, insideCode, zoneCode, checkCode, ruleOf, neededCode, drawnCode, numberCode, startCode, endCode}
 use Rattle.tzb_map.specs.Map.{mapOf, mapIn, howLong, asAnswer}
 use Rattle.tzb_c.specs.Opens.{openInto, lookupOnce}
-use Rattle.exported.specs.Calls.{Call, Tzb-open, Tzb-full-check, Tzb-full-check-rule, Tzb-zone-count, Tzb-contains, Tzb-lookup, Tzb-ask, Tzb-ask-all, Tzb-decode, Tzb-name, Tzb-name-start, Tzb-name-end, Tzb-choice, Tzb-candidate, Tzb-map, Tzb-map-length, Tzb-stripes-need, Tzb-stripes, Tzb-contains-striped, Tzb-ask-striped, Tzb-ask-all-striped}
+use Rattle.exported.specs.Calls.{Call, Tzb-open, Tzb-full-check, Tzb-full-check-rule, Tzb-zone-count, Tzb-contains, Tzb-lookup, Tzb-ask, Tzb-ask-all, Tzb-decode, Tzb-name, Tzb-name-start, Tzb-name-end, Tzb-choice, Tzb-candidate, Tzb-map, Tzb-map-length, Tzb-stripes-need, Tzb-stripes, Tzb-contains-striped, Tzb-ask-striped, Tzb-ask-all-striped, Tzb-journal-ask, Tzb-journal-write, Tzb-journal-read}
 use Rattle.plane.specs.Places.{point}
-use Rattle.answer.specs.Answers.{left, howMany}
+use Rattle.answer.specs.Answers.{ok, _then_, left, howMany}
+use Rattle.entries.specs.Entry.{entry}
+use Rattle.tzb_journal.specs.Journal.{journalAsked, journalWritten, journalRead, positionOf, countAndReason}
 
 -- what holds of all that a contract allows holds of a call
 pub by-contract : {W K : Type 0} {A R E : K → Type 0} {promise : (κ : K) → A κ → R κ → E κ → Type 0} {seen : (κ : K) → A κ → R κ → E κ → W}
@@ -132,3 +134,28 @@ module _ {file : List ℕ} where
 
 pub zone-count-answer : {held : List ℕ} {r : ℤ} → Tzb-zone-count held r → r ≡ numberCode (zonesAsked held)
 zone-count-answer c = by-contract (λ (v : List ℕ × ℤ). v .1 ≡ numberCode (zonesAsked (v .0))) (λ κ a r e p. p) c
+
+-- the journal
+module _ {held file : List ℕ} {places : ℕ} {x y : ℤ} {memory after : List ℕ} {r : ℤ} where
+  pub journal-ask-answer : Tzb-journal-ask held file places x y memory r after → r ≡ doneCode (journalAsked held file places (point x y) memory)
+  journal-ask-answer c = by-contract (λ (v : List ℕ × List ℕ × ℕ × ℤ × ℤ × List ℕ × ℤ × List ℕ). v .6 ≡ doneCode (journalAsked (v .0) (v .1) (v .2) (point (v .3) (v .4)) (v .5))) (λ κ a r e p. p .0) c
+
+  pub journal-ask-memory : Tzb-journal-ask held file places x y memory r after → after ≡ left memory (journalAsked held file places (point x y) memory)
+  journal-ask-memory c = by-contract (λ (v : List ℕ × List ℕ × ℕ × ℤ × ℤ × List ℕ × ℤ × List ℕ). v .7 ≡ left (v .5) (journalAsked (v .0) (v .1) (v .2) (point (v .3) (v .4)) (v .5))) (λ κ a r e p. p .1) c
+
+module _ {places : ℕ} {x y : ℤ} {zones : List ℕ} {reason : ℕ} {memory after : List ℕ} {r : ℤ} where
+  pub journal-write-answer : Tzb-journal-write places x y zones reason memory r after → r ≡ doneCode (journalWritten places (entry (point x y) zones reason) memory)
+  journal-write-answer c = by-contract (λ (v : ℕ × ℤ × ℤ × List ℕ × ℕ × List ℕ × ℤ × List ℕ). v .6 ≡ doneCode (journalWritten (v .0) (entry (point (v .1) (v .2)) (v .3) (v .4)) (v .5))) (λ κ a r e p. p .0) c
+
+  pub journal-write-memory : Tzb-journal-write places x y zones reason memory r after → after ≡ left memory (journalWritten places (entry (point x y) zones reason) memory)
+  journal-write-memory c = by-contract (λ (v : ℕ × ℤ × ℤ × List ℕ × ℕ × List ℕ × ℤ × List ℕ). v .7 ≡ left (v .5) (journalWritten (v .0) (entry (point (v .1) (v .2)) (v .3) (v .4)) (v .5))) (λ κ a r e p. p .1) c
+
+module _ {places : ℕ} {bytes : List ℕ} {position position' : List ℤ} {zones zones' : List ℕ} {r : ℤ} where
+  pub journal-read-answer : Tzb-journal-read places bytes position zones r position' zones' → r ≡ numberCode (journalRead places bytes (length position) (length zones) then λ e. ok (countAndReason e))
+  journal-read-answer c = by-contract (λ (v : ℕ × List ℕ × List ℤ × List ℕ × ℤ × List ℤ × List ℕ). v .4 ≡ numberCode (journalRead (v .0) (v .1) (length (v .2)) (length (v .3)) then λ e. ok (countAndReason e))) (λ κ a r e p. p .0) c
+
+  pub journal-read-position : Tzb-journal-read places bytes position zones r position' zones' → position' ≡ left position (journalRead places bytes (length position) (length zones) then λ e. ok (positionOf e))
+  journal-read-position c = by-contract (λ (v : ℕ × List ℕ × List ℤ × List ℕ × ℤ × List ℤ × List ℕ). v .5 ≡ left (v .2) (journalRead (v .0) (v .1) (length (v .2)) (length (v .3)) then λ e. ok (positionOf e))) (λ κ a r e p. p .1 .0) c
+
+  pub journal-read-zones : Tzb-journal-read places bytes position zones r position' zones' → zones' ≡ left zones (journalRead places bytes (length position) (length zones) then λ e. ok (e .zones))
+  journal-read-zones c = by-contract (λ (v : ℕ × List ℕ × List ℤ × List ℕ × ℤ × List ℤ × List ℕ). v .6 ≡ left (v .3) (journalRead (v .0) (v .1) (length (v .2)) (length (v .3)) then λ e. ok (e .zones))) (λ κ a r e p. p .1 .1) c

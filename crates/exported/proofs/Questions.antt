@@ -53,6 +53,9 @@ use Rattle.exported.proofs.Tabled.{Numbered, Tabled, TabledWalk, given,
 use Rattle.plane.specs.Places.{pointOf}
 use Rattle.replies.specs.Replies.{Chosen, none, all, listed, Sought, nowhere, inZone}
 use Rattle.reader_listing.specs.All.{allHits, hitsAmong, hitsOf, namesRead, placed, listFor, listBy, listOf}
+use Rattle.reader_whole.specs.Whole.{wholeHit, wholeHits, wholeList}
+use Rattle.entries.specs.Forms.{allBelow}
+use Rattle.tzb_journal.specs.Journal.{fitting, answerOf}
 
 -- 1 to 46
 abbrev Q : {A : Type 0} → Answer A → Type 0
@@ -450,3 +453,24 @@ module _ (o : Opened) (s : List ℕ) where
 
   pub list-q : (lng lat : Float) (places : ℕ) → Q (listOf o s lng lat places)
   list-q = list-by-q plain
+
+  -- ---- the whole-number list, and what an entry is made of
+  whole-hit : (q : I32Point) (zone : ℕ) → Q (wholeHit o s q zone)
+  unfolding wholeHit
+  whole-hit q zone = then-t _ _ (contains-q zone q) (λ b. given _)
+
+  whole-hits : (q : I32Point) → Q (wholeHits o s q)
+  unfolding wholeHits
+  whole-hits q = all-hits _ (whole-hit q) (o .zones .count) 0
+
+  pub whole-q : (q : I32Point) (places : ℕ) → Q (wholeList o s q places)
+  unfolding wholeList
+  whole-q q places = then-t _ _ (whole-hits q) (list-for places)
+
+  fitting-q : (l : List ℕ) → Q (fitting l)
+  unfolding fitting
+  fitting-q l = need-t 45 (allBelow l) _ refl (given _)
+
+  pub answer-q : (places : ℕ) (q : I32Point) → Q (answerOf places o s q)
+  unfolding answerOf
+  answer-q places q = then-t _ _ (whole-q q places) fitting-q

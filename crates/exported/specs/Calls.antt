@@ -29,6 +29,9 @@ use Rattle.tzb_c.proofs.tzb_choice.Reads as choice
 use Rattle.tzb_c.proofs.tzb_candidate.Reads as candidate
 use Rattle.tzb_c.proofs.tzb_map.Reads as map
 use Rattle.tzb_c.proofs.tzb_map_length.Reads as map-length
+use Rattle.tzb_c.proofs.tzb_journal_ask.Reads as journal-ask
+use Rattle.tzb_c.proofs.tzb_journal_write.Reads as journal-write
+use Rattle.tzb_c.proofs.tzb_journal_read.Reads as journal-read
 
 -- a call that a contract allows: of some lifetimes κ, arguments a, answer r, and what was lent as it is at exit, e. `seen` says which lists and numbers these are
 pub record Call (W : Type 0) {K : Type 0} {A R E : K → Type 0} (promise : (κ : K) → A κ → R κ → E κ → Type 0) (seen : (κ : K) → A κ → R κ → E κ → W) (w : W) : Type 0 where
@@ -146,3 +149,24 @@ Tzb-map file zone memory r after =
 -- tzb_map_length(file, zone) answers r
 abbrev pub Tzb-map-length : (file : List ℕ) (zone : ℕ) (r : ℤ) → Type 0
 Tzb-map-length file zone r = Call (List ℕ × ℕ × ℤ) map-length.Learnt (λ κ a r e. (a .0 .now, a .1 .0, r)) (file, zone, r)
+
+-- tzb_journal_ask(held, file, places, x, y, memory) answers r, and leaves the memory so
+abbrev pub Tzb-journal-ask : (held file : List ℕ) (places : ℕ) (x y : ℤ) (memory : List ℕ) (r : ℤ) (after : List ℕ) → Type 0
+Tzb-journal-ask held file places x y memory r after =
+    Call (List ℕ × List ℕ × ℕ × ℤ × ℤ × List ℕ × ℤ × List ℕ) journal-ask.Learnt
+    (λ κ a r e. (a .0 .now, a .1 .0 .now, a .1 .1 .0, a .1 .1 .1 .0, a .1 .1 .1 .1 .0, a .1 .1 .1 .1 .1 .0 .now, r, e .1 .1 .1 .1 .1 .0 .now))
+    (held, file, places, x, y, memory, r, after)
+
+-- tzb_journal_write(places, x, y, zones, reason, memory) answers r, and leaves the memory so
+abbrev pub Tzb-journal-write : (places : ℕ) (x y : ℤ) (zones : List ℕ) (reason : ℕ) (memory : List ℕ) (r : ℤ) (after : List ℕ) → Type 0
+Tzb-journal-write places x y zones reason memory r after =
+    Call (ℕ × ℤ × ℤ × List ℕ × ℕ × List ℕ × ℤ × List ℕ) journal-write.Learnt
+    (λ κ a r e. (a .0, a .1 .0, a .1 .1 .0, a .1 .1 .1 .0 .now, a .1 .1 .1 .1 .0, a .1 .1 .1 .1 .1 .0 .now, r, e .1 .1 .1 .1 .1 .0 .now))
+    (places, x, y, zones, reason, memory, r, after)
+
+-- tzb_journal_read(places, bytes, position, zones) answers r, and leaves the position and the zones so
+abbrev pub Tzb-journal-read : (places : ℕ) (bytes : List ℕ) (position : List ℤ) (zones : List ℕ) (r : ℤ) (position' : List ℤ) (zones' : List ℕ) → Type 0
+Tzb-journal-read places bytes position zones r position' zones' =
+    Call (ℕ × List ℕ × List ℤ × List ℕ × ℤ × List ℤ × List ℕ) journal-read.Learnt
+    (λ κ a r e. (a .0, a .1 .0 .now, a .1 .1 .0 .now, a .1 .1 .1 .0 .now, r, e .1 .1 .0 .now, e .1 .1 .1 .0 .now))
+    (places, bytes, position, zones, r, position', zones')

@@ -3,7 +3,7 @@
 --
 -- `Demand1 file`, below, is this sentence of a file, for each export that answers a question; `demand-1`, in proofs/Demand1, proves it of every file. No export asks anything of its caller: `held`, `memory`, zone numbers and floats are any. Where each word is defined:
 --   a call and its answer     `Tzb-open`, .., specs/Calls: what the export's contract allows
---   a numbered refusal        `Refuses`, specs/Words: -1000 - n with n from 1 to 49
+--   a numbered refusal        `Refuses`, specs/Words: -1000 - n with n from 1 to 50
 --   none                      -1
 -- Assumes nothing.
 use Prim.Native.Nat.{ℕ, _≤_, _<_}
@@ -12,7 +12,7 @@ use mathlib.Core.List.{List}
 use mathlib.Core.Logic.{_⊎_}
 use lib.IntN.{ℤ, pos}
 use lib.Ieee.{Float}
-use Rattle.exported.specs.Calls.{Tzb-open, Tzb-full-check, Tzb-full-check-rule, Tzb-zone-count, Tzb-contains, Tzb-lookup, Tzb-ask, Tzb-ask-all, Tzb-decode, Tzb-name, Tzb-name-start, Tzb-name-end, Tzb-choice, Tzb-candidate, Tzb-map, Tzb-map-length, Tzb-stripes-need, Tzb-stripes, Tzb-contains-striped, Tzb-ask-striped, Tzb-ask-all-striped}
+use Rattle.exported.specs.Calls.{Tzb-open, Tzb-full-check, Tzb-full-check-rule, Tzb-zone-count, Tzb-contains, Tzb-lookup, Tzb-ask, Tzb-ask-all, Tzb-decode, Tzb-name, Tzb-name-start, Tzb-name-end, Tzb-choice, Tzb-candidate, Tzb-map, Tzb-map-length, Tzb-stripes-need, Tzb-stripes, Tzb-contains-striped, Tzb-ask-striped, Tzb-ask-all-striped, Tzb-journal-ask, Tzb-journal-write, Tzb-journal-read}
 use Rattle.exported.specs.Words.{none, refusing, Refuses}
 
 -- a zone that is below a bound, none, or a refusal
@@ -68,3 +68,9 @@ pub record Demand1 (file : List ℕ) : Type 0 where
   pub ask-striped : (held numbers : List ℕ) (zones : ℕ) → Tzb-zone-count held (pos zones) → (lng lat : Float) (r : ℤ) → Tzb-ask-striped held numbers file lng lat r → ZoneNoneOrRefusal zones r
   pub ask-striped-barred : (held numbers : List ℕ) (q : ℤ) → Tzb-zone-count held q → Refuses q → (lng lat : Float) (r : ℤ) → Tzb-ask-striped held numbers file lng lat r → Refuses r
   pub ask-all-striped : (held numbers : List ℕ) (lng lat : Float) (places : List ℕ) (r : ℤ) (after : List ℕ) → Tzb-ask-all-striped held numbers file lng lat places r after → NumberOrAsItWas r places after
+  -- the journal's entry of a question, into lent memory
+  pub journal-ask : (held : List ℕ) (places : ℕ) (x y : ℤ) (memory : List ℕ) (r : ℤ) (after : List ℕ) → Tzb-journal-ask held file places x y memory r after → DoneOrAsItWas r memory after
+  -- an entry written, and read from any bytes: these two take no file
+  pub journal-write : (places : ℕ) (x y : ℤ) (zones : List ℕ) (reason : ℕ) (memory : List ℕ) (r : ℤ) (after : List ℕ) → Tzb-journal-write places x y zones reason memory r after → DoneOrAsItWas r memory after
+  pub journal-read : (places : ℕ) (bytes : List ℕ) (position : List ℤ) (zones : List ℕ) (r : ℤ) (position' : List ℤ) (zones' : List ℕ)
+      → Tzb-journal-read places bytes position zones r position' zones' → ((n : ℕ) × (r ≡ pos n)) ⊎ (Refuses r × (position' ≡ position) × (zones' ≡ zones))

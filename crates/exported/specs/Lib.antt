@@ -6,3 +6,4 @@ pub mod Demand3
 pub mod Answers
 pub mod Maps
 pub mod Stripes
+pub mod Journal

@@ -18,9 +18,9 @@ none = negsuc 0
 abbrev pub refusing : ℕ → ℤ
 refusing n = negsuc (999 + n)
 
--- the greatest number of a refusal: document 01's table goes from 1 to 47, and document 02's requests 2026-01 and 2026-02 add 48 and 49
+-- the greatest number of a refusal: document 01's table goes from 1 to 47, and document 02's requests 2026-01, 2026-02 and 2026-04 add 48, 49 and 50
 abbrev pub lastNumber : ℕ
-lastNumber = 49
+lastNumber = 50
 
 -- an answer that is a numbered refusal
 pub record Refuses (r : ℤ) : Type 0 where
