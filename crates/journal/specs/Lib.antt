@@ -1,0 +1,2 @@
+-- What the journal's program makes of its input.
+pub mod Answered
