@@ -3,4 +3,3 @@ pub mod FormsLaws
 pub mod PlacesLaws
 pub mod ReadLaws
 pub mod RoundTrip
-pub mod Determined

@@ -9,12 +9,10 @@ use mir.Val.{toZ, SFits}
 use Rattle.plane.specs.declared.I32Point.{I32Point}
 use Rattle.plane.specs.Places.{point}
 use Rattle.fields.specs.Row.{rowIn}
-use Rattle.answer.specs.Answers.{Answer, ok, refused, need, _then_}
+use Rattle.answer.specs.Answers.{Answer, ok, need, _then_}
 use Rattle.answer.specs.Checks.{atMost, same}
 use Rattle.entries.specs.Entry.{Entry, entry, unused, widths, entryWide}
 use Rattle.entries.specs.Forms.{formed}
-use Rattle.entries.specs.declared.EntryRead.{EntryRead}
-use Rattle.entries.specs.declared.EntryRead.the-variants as E
 
 -- ---- a row's numbers: x, y, the places, the count, the reason
 abbrev pub pointIn : List ℕ → I32Point
@@ -61,10 +59,6 @@ pub record Held (e : Entry) : Type 0 where
   pub x : SFits w32 (e .at .x)
   pub y : SFits w32 (e .at .y)
 
--- ---- what the enum of the code says: the position, the count and the reason; the zones stand in lent places
+-- ---- what is told of an entry whose zones stand in lent places: its position, its count and its reason
 abbrev pub headOf : Entry → I32Point × ℕ × ℕ
 headOf e = (e .at, length (e .zones), e .reason)
-
-abbrev pub entryTold : EntryRead → Answer (I32Point × ℕ × ℕ)
-entryTold (E.Is q count reason) = ok (q, count, reason)
-entryTold (E.Refused k) = refused k

@@ -3,7 +3,7 @@
 // and the zones; then come the zones that are read or the end of the entry, the refusal or 0, and three numbers.
 ghost use Prim.Native.Nat.{_<_};
 use answer::Checked;
-use entries::EntryRead;
+use entry_bytes::EntryRead;
 use harness::Said;
 use harness::Tally;
 use plane::I32Point;
@@ -70,7 +70,7 @@ fn is_said(r: &[u8; 64], a: EntryRead) -> bool {
 fn is_read(r: &[u8; 64]) -> bool {
     let mut places = [LENT_ZONE; 4];
     let bytes = harness::part(r, 4, 4 + length(r));
-    let a = entries::read_entry(PLACES, bytes, &mut places);
+    let a = entry_bytes::read_entry(PLACES, bytes, &mut places);
     is_said(r, a) & are_zones(&places, r, zone_count(r))
 }
 
@@ -93,7 +93,7 @@ fn write(r: &[u8; 64], zones: &[u32], out: &mut [u8]) -> Checked {
         x: harness::whole(r, 4),
         y: harness::whole(r, 8),
     };
-    entries::write_entry(PLACES, q, zones, harness::number(r, 12), out)
+    entry_bytes::write_entry(PLACES, q, zones, harness::number(r, 12), out)
 }
 
 // Whether the entry is the row's, and what lies behind as it was.

@@ -24,7 +24,7 @@ ghost use Rattle.tzb_journal.specs.Journal.{journalAsked, journalWritten, journ
 ghost use Prim.Native.Nat.{_+_, _*_, _<_};
 use answer::Checked;
 use boxes::BBox;
-use entries::EntryRead;
+use entry_bytes::EntryRead;
 use plane::I32Point;
 use plane::Point;
 use replies::Bounds;

@@ -3,7 +3,7 @@
 use mathlib.Core.Path.{sym, _∙_}
 use Rattle.basics.specs.Determined.{Determined, DeterminedMemory}
 use Rattle.answer.proofs.AnswersLaws.{checked-one}
-use Rattle.entries.proofs.Determined.{one-entry-read}
+use Rattle.entry_bytes.proofs.Determined.{one-entry-read}
 use Rattle.tzb_journal.proofs.note.Reads as note-reads
 use Rattle.tzb_journal.proofs.ask.Reads as ask-reads
 use Rattle.tzb_journal.proofs.write.Reads as write-reads

@@ -6,13 +6,14 @@ ghost use lib.ListN.{length};
 ghost use Rattle.answer.specs.Answers.{ok, refused, _then_, checkedTold, outcome, left};
 ghost use Rattle.entries.specs.Entry.{entry};
 ghost use Rattle.entries.specs.Forms.{laidOf};
-ghost use Rattle.entries.specs.Reading.{entryOf, headOf, entryTold};
+ghost use Rattle.entries.specs.Reading.{entryOf, headOf};
+ghost use Rattle.entry_bytes.specs.Told.{entryTold};
 ghost use Rattle.replies.specs.Replies.{openingTold};
 ghost use Rattle.tzb_journal.specs.Journal.{fitting, noted, entryFor, journalAsked, journalWritten, journalRead, positionOf};
 ghost use Rattle.tzb_journal.specs.Steps.{unread};
 use answer::Checked;
 use answer::Refusal;
-use entries::EntryRead;
+use entry_bytes::EntryRead;
 use opened::Opened;
 use plane::I32Point;
 use replies::Listing;
@@ -27,7 +28,7 @@ fn note_refusal(places: u8, q: I32Point, why: Refusal, out: &mut [u8]) -> Checke
     ensures memory { λ r. ⌜ now (out .exit) ≡ left (now (out .entry)) (laidOf places (entry q [] (why .number)) (now (out .entry))) ⌝ }
 {
     let none = [0u32; 0];
-    entries::lay_entry(places, q, &none, why.number, out)
+    entry_bytes::lay_entry(places, q, &none, why.number, out)
 }
 
 // An entry with these zones, or 45 as its reason where one of them fits no place.
@@ -36,8 +37,8 @@ fn note_zones(places: u8, q: I32Point, zones: &[u32], out: &mut [u8]) -> Checked
     ensures { λ r. ⌜ checkedTold r ≡ outcome (laidOf places (noted q (fitting (now (zones .entry)))) (now (out .entry))) ⌝ }
     ensures memory { λ r. ⌜ now (out .exit) ≡ left (now (out .entry)) (laidOf places (noted q (fitting (now (zones .entry)))) (now (out .entry))) ⌝ }
 {
-    if entries::all_below(zones) {
-        return entries::lay_entry(places, q, zones, 0, out);
+    if entry_bytes::all_below(zones) {
+        return entry_bytes::lay_entry(places, q, zones, 0, out);
     }
     note_refusal(places, q, answer::refuse(45), out)
 }
@@ -113,14 +114,14 @@ pub fn write(places: u32, q: I32Point, zones: &[u32], reason: u32, out: &mut [u8
     if places != 3 {
         return answer::fail(50);
     }
-    entries::write_entry(places as u8, q, zones, reason, out)
+    entry_bytes::write_entry(places as u8, q, zones, reason, out)
 }
 
 // Why there is no answer where fewer than two numbers are lent for the position.
 fn why_unread(places: u8, bytes: &[u8]) -> Refusal
     ensures { λ r. ⌜ refused r ≡ unread (entryOf places (now (bytes .entry))) ⌝ }
 {
-    if entries::is_entry(places, bytes) {
+    if entry_bytes::is_entry(places, bytes) {
         answer::refuse(46)
     } else {
         answer::refuse(50)
@@ -138,7 +139,7 @@ pub fn read(places: u32, bytes: &[u8], position: &mut [i32], zones: &mut [u32]) 
     if position.len() < 2 {
         return EntryRead::Refused(why_unread(places as u8, bytes));
     }
-    let a = entries::read_entry(places as u8, bytes, zones);
+    let a = entry_bytes::read_entry(places as u8, bytes, zones);
     match a {
         EntryRead::Refused(k) => EntryRead::Refused(k),
         EntryRead::Is(q, count, reason) => {

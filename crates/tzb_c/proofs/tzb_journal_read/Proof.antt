@@ -6,7 +6,7 @@ use lib.ListN.{length}
 use mir.Syntax.{w32}
 use mir.ValLaws.{toZ-pos}
 use Rattle.basics.specs.Signed.{back}
-use Rattle.entries.specs.Reading.{entryTold}
+use Rattle.entry_bytes.specs.Told.{entryTold}
 use Rattle.tzb_codes.specs.Codes.{numberCode}
 use Rattle.tzb_journal.specs.Journal.{journalRead}
 use Rattle.tzb_c.proofs.ExportsLaws.{count-told}

@@ -7,7 +7,8 @@ use mir.Syntax.{w32}
 use mir.ValLaws.{toZ-ofZ}
 use Rattle.answer.specs.Answers.{Answer, ok, refused, _then_, left}
 use Rattle.entries.specs.Entry.{Entry}
-use Rattle.entries.specs.Reading.{headOf, entryTold}
+use Rattle.entries.specs.Reading.{headOf}
+use Rattle.entry_bytes.specs.Told.{entryTold}
 use Rattle.tzb_journal.specs.Journal.{journalRead, positionOf}
 use Rattle.tzb_journal.proofs.JournalLaws.{read-no, read-short, read-as, position-set, position-kept}
 use native.Mathlib.Omega.{arith}

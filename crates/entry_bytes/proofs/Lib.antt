@@ -1,0 +1,2 @@
+-- What follows of the code's promises.
+pub mod Determined

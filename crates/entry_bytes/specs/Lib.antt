@@ -1,0 +1,2 @@
+-- What the code's enum says of an entry.
+pub mod Told
