@@ -228,7 +228,7 @@ same_words() {
   held 'the command is built of what stands there'
   for words in '' -h --help help --version -V sone '--nothing x' zone 'zone --nothing f 1 2' 'check -n f' 'names -n' 'info --' \
     'zone -h' 'zones f --help' 'check --help' 'names --help' 'info --help' 'map --help' map 'map -n f 1' 'map -o' \
-    'journal --help' 'show-journal --help' journal 'journal -n f' 'show-journal -b f'; do
+    'journal --help' 'show-journal --help' journal show-journal 'journal -n f' 'show-journal -b f'; do
     # shellcheck disable=SC2086
     sh "$root/scripts/x86_64.sh" exec "$built" $words >"$room/theirs" 2>&1
     status=$?
