@@ -44,7 +44,7 @@ use Rattle.exported.proofs.Meaning.{journal-ask-answer, journal-ask-mem
 use Rattle.exported.proofs.Tabled.{given, higher}
 use Rattle.exported.proofs.Opening.{open-tabled}
 use Rattle.exported.proofs.Codes.{apart, same-number, same-refusing}
-use Rattle.exported.proofs.Noted.{always-formed}
+use Rattle.exported.proofs.Noted.{always-formed, outside-noted}
 
 -- ---- opening and asking at once: the entry is of the forms, and opening's refusal stands in it
 module _ (file : List ℕ) (q : I32Point) where
@@ -252,6 +252,7 @@ module _ (held file : List ℕ) (places : ℕ) (x y : ℤ) (memory : List ℕ) (
         writes = ask-0;
         unchanged = unchanged ask-kinds;
         of-forms = of-forms;
+        outside = outside-noted 3 (openedIn held) file (point x y);
         read-back = read-back ask-kinds;
       }
     where

@@ -12,7 +12,7 @@ use Rattle.basics.specs.Truth.{and-i}
 use Rattle.plane.specs.declared.I32Point.{I32Point}
 use Rattle.plane.specs.Domain.{inDomain}
 use Rattle.answer.specs.declared.Refusal.{Refusal}
-use Rattle.answer.specs.Answers.{Answer, ok, refused}
+use Rattle.answer.specs.Answers.{Answer, ok, refused, _then_}
 use Rattle.answer.specs.Checks.{same}
 use Rattle.answer.proofs.CheckLaws.{eq-same, le-at, not-yes}
 use Rattle.answer.proofs.AnswersLaws.{then-inv, need-inv, ok-inv}
@@ -90,3 +90,8 @@ pub always-formed : (places : ℕ) (x : Answer Opened) → Tabled 46 x → (file
 unfolding entryFor
 always-formed places (ok o) t file q = noted-formed places o file q (answerOf places o file q) refl (answer-q o file places q)
 always-formed places (refused k) t file q = refusal-formed places q k (t .by)
+
+-- outside the domain: no zones and reason 0, for any record and bytes
+pub outside-noted : (places : ℕ) (o : Opened) (file : List ℕ) (q : I32Point) → inDomain q ≡ false → entry q [] 0 ≡ entryFor places (ok o) file q
+unfolding entryFor answerOf fitting allBelow
+outside-noted places o file q h = ap (λ (x : Answer (List ℕ)). noted q (x then fitting)) (outside o file q places h)

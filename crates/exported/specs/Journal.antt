@@ -12,12 +12,13 @@
 use Prim.Native.Nat.{ℕ, _+_, _*_, _≤_, _<_}
 use mathlib.Core.Path.{_≡_}
 use mathlib.Core.Bool.{true, false}
-use mathlib.Core.List.{List, _∷_, _++_}
+use mathlib.Core.List.{List, [], _∷_, _++_}
 use mathlib.Core.Logic.{_↔_, _⊎_}
 use lib.IntN.{ℤ, pos}
 use lib.ListN.{length, take, drop, getD}
 use mir.Syntax.{w32}
 use mir.Val.{SFits}
+use Rattle.plane.specs.Domain.{inDomain}
 use Rattle.plane.specs.Places.{point}
 use Rattle.fields.specs.Row.{rowIn}
 use Rattle.answer.specs.Answers.{ok}
@@ -63,6 +64,8 @@ pub record JournalAskAnswers (held file : List ℕ) (places : ℕ) (x y : ℤ) (
   pub unchanged : (r ≡ pos 0 → ⊥) → after ≡ memory
   -- the entry is of the forms
   pub of-forms : formed 3 (askedEntry held file x y) ≡ true
+  -- outside the domain it has no zones and reason 0, whatever the record and the file
+  pub outside : inDomain (point x y) ≡ false → entry (point x y) [] 0 ≡ askedEntry held file x y
   -- and is read back
   pub read-back : r ≡ pos 0 → SFits w32 x → SFits w32 y → ReadBack (take 16 after) (askedEntry held file x y)
 
