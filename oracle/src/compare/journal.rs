@@ -8,7 +8,7 @@ pub mod program;
 mod stand_in;
 
 use super::Tally;
-use super::records::changed;
+use super::records::{changed, of_file, refusal};
 use crate::bytes::hex;
 use crate::file::damage::Aim;
 use crate::file::{self, journal, striped};
@@ -72,10 +72,6 @@ impl Met {
 }
 
 type Held<T> = Result<T, String>;
-
-fn refusal<T>(said: &Said<T>) -> u32 {
-    said.as_ref().err().copied().unwrap_or(0)
-}
 
 fn told(said: &Said<Vec<u8>>) -> String {
     match said {
@@ -210,13 +206,7 @@ impl Run {
 
     /// A file's own record with its own bytes, where the file opens; the record's bytes.
     fn file(&mut self, file: &[u8], most: usize) -> Held<Option<Vec<u8>>> {
-        let record = open_into(file, SIZE);
-        let by_rules = rules::open(file, &[]);
-        if refusal(&record) != refusal(&by_rules) {
-            let (says, expected) = (refusal(&record), refusal(&by_rules));
-            return Err(format!("opening: the port says {says}, the rules {expected}"));
-        }
-        let Ok(record) = record else { return Ok(None) };
+        let Some(record) = of_file(file)? else { return Ok(None) };
         self.put(Subject { record: &record, file }, most)?;
         Ok(Some(record))
     }

@@ -1,8 +1,25 @@
-//! Opened records that are changed by hand.
+//! Opened records: as opening makes them, and changed by hand.
 
 use crate::file::damage::TELLING;
 use crate::file::{put, word};
+use crate::port::opening::{SIZE, open_into};
 use crate::random::Random;
+use crate::rules::{self, Said};
+
+/// The number that something is refused by, 0 where it is answered.
+pub fn refusal<T>(said: &Said<T>) -> u32 {
+    said.as_ref().err().copied().unwrap_or(0)
+}
+
+/// The record that the port makes of a file, none where it refuses it; wrong where document 01's rules say another number.
+pub fn of_file(file: &[u8]) -> Result<Option<Vec<u8>>, String> {
+    let record = open_into(file, SIZE);
+    let (says, expected) = (refusal(&record), refusal(&rules::open(file, &[])));
+    if says != expected {
+        return Err(format!("opening: the port says {says}, the rules {expected}"));
+    }
+    Ok(record.ok())
+}
 
 /// One or two fields set, or now and then another length. `size` is that of the bytes which the record is asked with.
 pub fn changed(random: &mut Random, record: &[u8], size: usize) -> Vec<u8> {

@@ -7,7 +7,7 @@ pub mod questions;
 mod stand_in;
 
 use super::Tally;
-use super::records::changed;
+use super::records::{changed, of_file, refusal};
 use crate::bytes::hex;
 use crate::file::damage::Aim;
 use crate::file::striped::numbers;
@@ -107,10 +107,6 @@ impl Met {
 }
 
 type Held<T> = Result<T, String>;
-
-fn refusal<T>(said: &Said<T>) -> u32 {
-    said.as_ref().err().copied().unwrap_or(0)
-}
 
 /// A few numbers of a list, so that a line can be read.
 fn told(numbers: &Said<Vec<u32>>) -> String {
@@ -282,13 +278,7 @@ impl Run {
 
     /// A file's own record with its own bytes, where the file opens; the record's bytes.
     fn file(&mut self, file: &[u8], right: &[u32], most: usize) -> Held<Option<Vec<u8>>> {
-        let record = open_into(file, SIZE);
-        let by_rules = rules::open(file, &[]);
-        if refusal(&record) != refusal(&by_rules) {
-            let (says, expected) = (refusal(&record), refusal(&by_rules));
-            return Err(format!("opening: the port says {says}, the rules {expected}"));
-        }
-        let Ok(record) = record else { return Ok(None) };
+        let Some(record) = of_file(file)? else { return Ok(None) };
         let original = original::opening::open(file).ok();
         let subject = Subject { record: &record, file };
         let built = self.put(subject, original.as_ref(), right, most)?;
