@@ -1,7 +1,8 @@
 // The varint: zigzag LEB128, Protocol Buffers' sint32. A place is a value; a number read there comes with the place after it.
 ghost use mathlib.Core.Path.{_≡_};
 ghost use mathlib.Core.Bool.{true};
-ghost use Prim.Native.Nat.{_-_, _<_};
+ghost use Prim.Native.Nat.{_+_, _-_, _≤_, _<_};
+ghost use lib.ListN.{length};
 ghost use Rattle.answer.specs.Answers.{ok, no};
 ghost use Rattle.varints.specs.Varint.{unzig, digits, numberAt, atEnd};
 ghost use Rattle.tzb_core.specs.Steps.{digitsTold};
@@ -58,14 +59,14 @@ fn less_one(n: usize) -> usize
     if n == 0 { 0 } else { n - 1 }
 }
 
-// The bytes after the first, whose digit is low. Of the fifth, any of the bits 0xf0 is too much, whatever else it is.
+// The bytes after the second, where the first two have the digits low. Of the fifth, any of the bits 0xf0 is too much, whatever else it is.
 fn varint_slow(s: &[u8], from: usize, low: u32) -> Digits
-    requires { ⌜ low < 128 ⌝ }
-    ensures { λ r. ⌜ digitsTold r ≡ rest low 128 3 (now (s .entry)) from ⌝ }
+    requires { ⌜ low < 16384 ⌝ }
+    ensures { λ r. ⌜ digitsTold r ≡ rest low 16384 2 (now (s .entry)) from ⌝ }
 {
     let mut at = from;
     let mut n = low;
-    let mut unit: u32 = 128;
+    let mut unit: u32 = 16384;
     loop {
         if s.len() <= at {
             return refused(38);
@@ -86,8 +87,9 @@ fn varint_slow(s: &[u8], from: usize, low: u32) -> Digits
     }
 }
 
-// A number of any length, by the loop.
-fn varint_long(s: &[u8], from: usize) -> Digits
+// Where no two bytes are left: one of one byte, or none.
+fn varint_last(s: &[u8], from: usize) -> Digits
+    requires { ⌜ length (now s) ≤ from + 1 ⌝ }
     ensures { λ r. ⌜ digitsTold r ≡ digits 4 true (now (s .entry)) from ⌝ }
 {
     if s.len() <= from {
@@ -97,10 +99,10 @@ fn varint_long(s: &[u8], from: usize) -> Digits
     if b < 128 {
         return digits_of(b, from + 1);
     }
-    varint_slow(s, from + 1, b - 128)
+    refused(38)
 }
 
-// Numbers of one and of two bytes first, read directly and by one test, since which of the two comes next cannot be foretold: more is 1 where a second byte belongs to the number, and second is 128 where none does, else 127 + b1.
+// Numbers of one and of two bytes are read directly and by one test, since which of the two comes next cannot be foretold: more is 1 where the second byte belongs to the number, and then second is that byte, else 0. All longer ones are the loop's, from their third byte on.
 fn varint_digits(s: &[u8], from: usize) -> Digits
     ensures { λ r. ⌜ digitsTold r ≡ digits 4 true (now (s .entry)) from ⌝ }
 {
@@ -108,15 +110,17 @@ fn varint_digits(s: &[u8], from: usize) -> Digits
         let b0 = wide(s[from]);
         let next = from + 1;
         let b1 = wide(s[next]);
-        let more = b0 / 128;
-        let second = 128 + more * b1 - more;
-        if 128 <= second {
-            if second < 255 {
-                return digits_of(b0 + 128 * second - 16384, next + (more as usize));
-            }
+        if (127 < b0) & (127 < b1) {
+            return varint_slow(s, next + 1, (b0 - 128) + 128 * (b1 - 128));
         }
+        let more = b0 / 128;
+        let second = more * b1;
+        if second < more {
+            return refused(39);
+        }
+        return digits_of(b0 + 128 * second - 128 * more, next + (more as usize));
     }
-    varint_long(s, from)
+    varint_last(s, from)
 }
 
 impl Place {

@@ -11,6 +11,7 @@ use lib.ListN.{length, getD}
 use lib.Dec.{ltb, eqb}
 use borrow.Author.Tests.{lt-ltb, le-ltb, le-leb, lt-leb, eq-eqb, ne-eqb, ltb-true, ltb-false}
 use Rattle.answer.specs.Answers.{Answer, ok, refused, no}
+use Rattle.basics.specs.Truth.{and-l, and-r}
 use Rattle.varints.specs.Varint.{last, below, digits}
 use Rattle.varints.specs.Steps.{rest}
 
@@ -54,7 +55,7 @@ module _ (s : List ℕ) (p b : ℕ) (h : p < length s) (e : b ≡ getD s p 0) wh
   pub first-only : b < 128 → ok (b, p + 1) ≡ digits 4 true s p
   first-only l = rw e (sym (digits-end s p h 3 true (omega arith)))
 
-  pub first-more : 128 ≤ b → rest (b - 128) 128 3 s (p + 1) ≡ digits 4 true s p
+  first-more : 128 ≤ b → rest (b - 128) 128 3 s (p + 1) ≡ digits 4 true s p
   unfolding rest
   first-more l = rw e (sym (digits-more s p h 3 true (omega arith)))
 
@@ -79,10 +80,10 @@ module _ (n u : ℕ) (s : List ℕ) (p : ℕ) where
     last-at zero z l = absurd (not-suc-le-zero z)
     last-at (suc k) z l = digits-end s p h k false (omega arith)
 
-    pub rest-zero : (k : ℕ) → 0 < k → b < 128 → b ≡ 0 → no 39 ≡ rest n u k s p
+    rest-zero : (k : ℕ) → 0 < k → b < 128 → b ≡ 0 → no 39 ≡ rest n u k s p
     rest-zero k z l = zero-at k (last-at k z l)
 
-    pub rest-end : (k : ℕ) → 0 < k → b < 128 → (b ≡ 0 → ⊥) → ok (n + u * b, p + 1) ≡ rest n u k s p
+    rest-end : (k : ℕ) → 0 < k → b < 128 → (b ≡ 0 → ⊥) → ok (n + u * b, p + 1) ≡ rest n u k s p
     rest-end k z l = end-at k (last-at k z l)
 
     pub rest-more : (k : ℕ) → 0 < k → 128 ≤ b → rest (n + u * (b - 128)) (u * 128) (k - 1) s (p + 1) ≡ rest n u k s p
@@ -174,7 +175,7 @@ turn-more u zero b w o l = absurd (none (ltb-false 15 b (sym (over-last u b w) �
     none i = omega arith
 turn-more u (suc k) b w o l = omega arith
 
--- ---- one byte or two, told by one number: more is 1 where the second byte c belongs to the number, and 128 + more * c - more is 128 where it does not
+-- ---- one byte or two, by one test: more is 1 where the second byte c belongs to the number
 pub more-fits : (b c : ℕ) → b < 256 → c < 256 → b / 128 * c < 256
 more-fits b c h l = go (b / 128) (omega arith)
   where
@@ -183,19 +184,57 @@ more-fits b c h l = go (b / 128) (omega arith)
     go (suc zero) i = omega arith
     go (suc (suc k)) i = omega arith
 
+-- both bytes have a digit to follow
+abbrev longer : ℕ → ℕ → Bool
+longer b c = ltb 127 b && ltb 127 c
+
+pub longer-first : (b c : ℕ) → longer b c ≡ true → 127 < b
+longer-first b c o = ltb-true 127 b (and-l (ltb 127 b) (ltb 127 c) o)
+
+pub longer-second : (b c : ℕ) → longer b c ≡ true → 127 < c
+longer-second b c o = ltb-true 127 c (and-r (ltb 127 b) (ltb 127 c) o)
+
+longer-not : (b c : ℕ) → longer b c ≡ false → 128 ≤ b → c < 128
+longer-not b c o l = up (ltb-false 127 c (sym (ap (λ (t : Bool). t && ltb 127 c) (lt-ltb 127 b (omega arith))) ∙ o))
+  where
+    up : c ≤ 127 → c < 128
+    up i = omega arith
+
+-- no second byte is left
+pub last-more : (s : List ℕ) (p b : ℕ) → p < length s → b ≡ getD s p 0 → length s ≤ p + 1 → 128 ≤ b → no 38 ≡ digits 4 true s p
+last-more s p b h e l m = rest-out (b - 128) 128 s (p + 1) 3 l ∙ first-more s p b h e m
+
 module _ (s : List ℕ) (p b c : ℕ) (h : p + 1 < length s) (e : b ≡ getD s p 0) (f : c ≡ getD s (p + 1) 0) where
-  direct-by : (more : ℕ) → more ≡ b / 128 → b < 256 → 128 ≤ 128 + more * c - more → 128 + more * c - more < 255
-      → ok (b + 128 * (128 + more * c - more) - 16384, p + 1 + more) ≡ digits 4 true s p
-  direct-by zero m l lo hi = ap₂ (λ (n q : ℕ). ok (n, q)) (omega arith) (omega arith) ∙ first-only s p b (omega arith) e (omega arith)
-  direct-by (suc zero) m l lo hi =
-      ap₂ (λ (n q : ℕ). ok (n, q)) (omega arith) (omega arith)
-      ∙ rest-end (b - 128) 128 s (p + 1) c h f 3 (omega arith) (omega arith) (omega arith)
+  pub longer-from : longer b c ≡ true → rest (b - 128 + 128 * (c - 128)) 16384 2 s (p + 1 + 1) ≡ digits 4 true s p
+  longer-from o =
+      rest-more (b - 128) 128 s (p + 1) c h f 3 (omega arith) (longer-second b c o)
+      ∙ first-more s p b (omega arith) e (longer-first b c o)
+
+  zero-by : (more : ℕ) → more ≡ b / 128 → b < 256 → longer b c ≡ false → more * c < more → no 39 ≡ digits 4 true s p
+  zero-by zero m l o z = absurd (not-suc-le-zero z)
+  zero-by (suc zero) m l o z =
+      rest-zero (b - 128) 128 s (p + 1) c h f 3 (omega arith) (longer-not b c o (omega arith)) (omega arith)
       ∙ first-more s p b (omega arith) e (omega arith)
-  direct-by (suc (suc k)) m l lo hi = absurd (none (omega arith))
+  zero-by (suc (suc k)) m l o z = absurd (none (omega arith))
     where
       none : b < b → ⊥
       none i = omega arith
 
-  pub direct : b < 256 → 128 ≤ 128 + b / 128 * c - b / 128 → 128 + b / 128 * c - b / 128 < 255
-      → ok (b + 128 * (128 + b / 128 * c - b / 128) - 16384, p + 1 + b / 128) ≡ digits 4 true s p
+  direct-by : (more : ℕ) → more ≡ b / 128 → b < 256 → longer b c ≡ false → more ≤ more * c
+      → ok (b + 128 * (more * c) - 128 * more, p + 1 + more) ≡ digits 4 true s p
+  direct-by zero m l o z = ap₂ (λ (n q : ℕ). ok (n, q)) (omega arith) (omega arith) ∙ first-only s p b (omega arith) e (omega arith)
+  direct-by (suc zero) m l o z =
+      ap₂ (λ (n q : ℕ). ok (n, q)) (omega arith) (omega arith)
+      ∙ rest-end (b - 128) 128 s (p + 1) c h f 3 (omega arith) (longer-not b c o (omega arith)) (omega arith)
+      ∙ first-more s p b (omega arith) e (omega arith)
+  direct-by (suc (suc k)) m l o z = absurd (none (omega arith))
+    where
+      none : b < b → ⊥
+      none i = omega arith
+
+  pub direct-zero : b < 256 → longer b c ≡ false → b / 128 * c < b / 128 → no 39 ≡ digits 4 true s p
+  direct-zero = zero-by (b / 128) refl
+
+  pub direct : b < 256 → longer b c ≡ false → b / 128 ≤ b / 128 * c
+      → ok (b + 128 * (b / 128 * c) - 128 * (b / 128), p + 1 + b / 128) ≡ digits 4 true s p
   direct = direct-by (b / 128) refl

@@ -11,7 +11,7 @@ use Rattle.varints.specs.Steps.{rest}
 
 abbrev Inv-loop : tie.InvT-loop
 Inv-loop s from low at₀ n₀ unit₀ at n unit =
-    (k : ℕ) × (unit * lim k ≡ 0x1_0000_0000) × (n < unit) × (rest n unit k s at ≡ rest low 128 3 s from)
+    (k : ℕ) × (unit * lim k ≡ 0x1_0000_0000) × (n < unit) × (rest n unit k s at ≡ rest low 16384 2 s from)
 
 abbrev μ-loop : tie.MeasureT-loop
 μ-loop s from low at₀ n₀ unit₀ at n unit = 0x1000_0000 - unit
@@ -37,7 +37,7 @@ module _ (c : tie.Else2 Inv-loop μ-loop) where
     next-fits = let l = loop-of .loop in unit-fits (l .unit) (l .inv .0) more (l .inv .1)
 
 loop-holds : tie.Need-loop-holds Inv-loop μ-loop
-loop-holds c = (3, refl, c .before .pre, refl)
+loop-holds c = (2, refl, c .before .pre, refl)
 
 refused-requires : tie.Need-refused-requires Inv-loop μ-loop
 refused-requires c κs = search needs

@@ -1,11 +1,12 @@
--- `varint::varint_long` meets its contract: each return is one case of what the first byte is.
+-- `varint::varint_last` meets its contract: each return is one case of what the first byte is.
 -- Assumes nothing.
 use mathlib.Core.Path.{sym, _∙_}
-use Rattle.varints.proofs.Digits.{digits-out, first-only, first-more}
+use Rattle.varints.proofs.Digits.{digits-out, first-only, last-more}
 use mathlib.Core.Bool.{true}
+use native.Mathlib.Omega.{arith}
 use borrow.Author.Needs.{needs}
-use Rattle.tzb_core.proofs.varint.varint_long.Statement.{statement}
-use Rattle.tzb_core.proofs.varint.varint_long.Tie as tie
+use Rattle.tzb_core.proofs.varint.varint_last.Statement.{statement}
+use Rattle.tzb_core.proofs.varint.varint_last.Tie as tie
 
 refused-requires : tie.Need-refused-requires
 refused-requires c κs = search needs
@@ -30,19 +31,16 @@ returns-2 c =
     let w = c .before .before in
     c .digits-of .ensures ∙ first-only _ _ _ (w .before .before .if1 .left) (w .wide .ensures .0) (c .before .if2 .taken)
 
-add-varint-slow : tie.Need-add-varint-slow
-add-varint-slow c = search needs
-
-varint-slow-requires : tie.Need-varint-slow-requires
-varint-slow-requires c κs = search needs
+refused-requires-2 : tie.Need-refused-requires-2
+refused-requires-2 c κs = search needs
 
 returns-3 : tie.Need-returns-3
 returns-3 c =
     let w = c .before .before in
-    c .varint-slow .ensures ∙ first-more _ _ _ (w .before .before .if1 .left) (w .wide .ensures .0) (c .before .if2 .left)
+    c .refused2 .ensures ∙ last-more _ _ _ (w .before .before .if1 .left) (w .wide .ensures .0) (omega arith) (c .before .if2 .left)
 
-pub varint-long-spec : {M : Type 1} → statement M
-varint-long-spec =
+pub varint-last-spec : {M : Type 1} → statement M
+varint-last-spec =
     tie.close
     (tie.spec
     refused-requires
@@ -52,6 +50,5 @@ varint-long-spec =
     add-digits-of
     digits-of-requires
     returns-2
-    add-varint-slow
-    varint-slow-requires
+    refused-requires-2
     returns-3)
