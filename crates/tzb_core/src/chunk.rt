@@ -220,7 +220,7 @@ fn segment_seen(b: Band, u: I32Point, v: I32Point, p: Point) -> Seen
     raycast::raycast_seg(u, v, p)
 }
 
-// From the first point on, over that many points more, a number a turn.
+// From the first point on, over that many points more.
 fn scan_from(s: &[u8], p: Point, count: u16, first: I32Point, from: Place) -> Scan
     requires { ⌜ inDomain first ≡ true ⌝ }
     ensures { λ r. ⌜ scanned r ≡ onward (now (s .entry)) p count first (from .at) ⌝ }
@@ -230,40 +230,40 @@ fn scan_from(s: &[u8], p: Point, count: u16, first: I32Point, from: Place) -> Sc
     let mut at = from;
     let mut odd = false;
     let mut left = count;
-    let mut half = false;
-    let mut x: i32 = 0;
     while 0 < left {
         let a = at.varint(s);
         match a {
             Read::Refused(k) => {
                 return Scan::Refused(k);
             }
-            Read::Number(d, m) => {
-                at = m;
-                if half {
-                    let t = point_after(q, x, d);
-                    match t {
-                        Moved::Refused(k) => {
-                            return Scan::Refused(k);
-                        }
-                        Moved::To(n) => {
-                            let e = segment_seen(b, q, n, p);
-                            match e {
-                                Seen::On => {
-                                    return Scan::On;
-                                }
-                                Seen::Off(c) => {
-                                    odd = answer::plus(odd, c);
-                                }
+            Read::Number(x, m) => {
+                let d = m.varint(s);
+                match d {
+                    Read::Refused(k) => {
+                        return Scan::Refused(k);
+                    }
+                    Read::Number(y, next) => {
+                        let t = point_after(q, x, y);
+                        match t {
+                            Moved::Refused(k) => {
+                                return Scan::Refused(k);
                             }
-                            q = n;
-                            half = false;
-                            left -= 1;
+                            Moved::To(n) => {
+                                let e = segment_seen(b, q, n, p);
+                                match e {
+                                    Seen::On => {
+                                        return Scan::On;
+                                    }
+                                    Seen::Off(c) => {
+                                        odd = answer::plus(odd, c);
+                                    }
+                                }
+                                q = n;
+                                at = next;
+                                left -= 1;
+                            }
                         }
                     }
-                } else {
-                    x = d;
-                    half = true;
                 }
             }
         }
