@@ -358,33 +358,33 @@ fn fill_from(s: &[u8], count: u16, first: I32Point, from: Place, out: &mut [i32]
     let mut at = from;
     let mut rest = count;
     let mut i: usize = 2;
-    let mut half = false;
-    let mut x: i32 = 0;
     while 0 < rest {
         let a = at.varint(s);
         match a {
             Read::Refused(k) => {
                 return Checked::Refused(k);
             }
-            Read::Number(d, m) => {
-                at = m;
-                if half {
-                    let t = point_after(q, x, d);
-                    match t {
-                        Moved::Refused(k) => {
-                            return Checked::Refused(k);
-                        }
-                        Moved::To(n) => {
-                            put_point(out, i, n);
-                            q = n;
-                            half = false;
-                            i += 2;
-                            rest -= 1;
+            Read::Number(x, m) => {
+                let b = m.varint(s);
+                match b {
+                    Read::Refused(k) => {
+                        return Checked::Refused(k);
+                    }
+                    Read::Number(y, next) => {
+                        let t = point_after(q, x, y);
+                        match t {
+                            Moved::Refused(k) => {
+                                return Checked::Refused(k);
+                            }
+                            Moved::To(n) => {
+                                put_point(out, i, n);
+                                q = n;
+                                at = next;
+                                i += 2;
+                                rest -= 1;
+                            }
                         }
                     }
-                } else {
-                    x = d;
-                    half = true;
                 }
             }
         }

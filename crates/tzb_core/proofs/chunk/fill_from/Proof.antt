@@ -1,42 +1,44 @@
--- `chunk::fill_from` meets its contract: what is left to read comes to the same as the whole, and written behind what was written makes the same memory; the x of a delta waits for its y.
+-- `chunk::fill_from` meets its contract: what is left to read comes to the same as the whole, and written behind what was written makes the same memory.
 -- Assumes nothing.
 use Prim.Native.Nat.{_+_, _*_, _≤_}
 use native.Mathlib.Omega.{arith}
-use mathlib.Core.Path.{_≡_, refl, sym, ap, _∙_}
-use mathlib.Core.Bool.{cond}
+use mathlib.Core.Path.{_≡_, refl, sym, ap, ap₂, _∙_}
+use mathlib.Core.List.{[], _∷_}
 use lib.ListN.{length}
 use lib.IntN.{ℤ}
 use mir.Syntax.{w32}
 use mir.Val.{toZ, ofZ}
 use Rattle.answer.specs.Answers.{ok, outcome}
-use Rattle.varints.specs.Varint.{numberAt}
+use Rattle.plane.specs.Places.{point}
+use Rattle.chunks.specs.Points.{numbersAt, nextAt}
 use Rattle.chunks.specs.Decode.{decoder}
 use Rattle.basics.specs.Signed.{back}
 use Rattle.chunks.proofs.Decoded.{put-end, put-on}
-use Rattle.chunks.proofs.Turns.{nextOf, turn-none, turn-no, turn-half, turn-to, half-less, point-less, no-more, place-on, place-in, room-first, room-kept, readBy, read-by, check-no, check-on, check-end, read-no, read-on, read-end}
+use Rattle.chunks.proofs.PointsLaws.{numbers-first, numbers-second, numbers-both, next-no, next-over, next-to}
+use Rattle.chunks.proofs.Turns.{no-more, place-on, place-in, room-first, room-kept, readBy, read-by, check-no, check-on, check-end, read-no, read-on, read-end}
 use borrow.Author.Needs.{needs}
 use Rattle.tzb_core.proofs.chunk.fill_from.Statement.{statement}
 use Rattle.tzb_core.proofs.chunk.fill_from.Tie as tie
 use Rattle.tzb_core.specs.Steps.{moved}
-use Rattle.chunks.proofs.AlongLaws.{along-by, by-there}
+use Rattle.chunks.proofs.AlongLaws.{along-by}
 use Rattle.tzb_core.specs.Reading.{readTold}
 use Rattle.chunks.specs.Steps.{alongBy, pointsFrom, put, readFrom}
 
 abbrev Inv-loop : tie.InvT-loop
-Inv-loop s count out₀ q₀ at₀ rest₀ i₀ half₀ x₀ out q at rest i half x =
+Inv-loop s count out₀ q₀ at₀ rest₀ i₀ out q at rest i =
     (length out ≡ length out₀)
     × (i + 2 * rest ≡ 2 + 2 * count)
-    × (outcome (alongBy decoder s rest q (at .at) (nextOf half s q (toZ w32 x) (at .at))) ≡ outcome (pointsFrom s count q₀ (at₀ .at)))
-    × (2 + 2 * count ≤ length out₀ → put out i (readBy s rest (nextOf half s q (toZ w32 x) (at .at))) ≡ put out₀ 2 (readFrom s count q₀ (at₀ .at)))
+    × (outcome (alongBy decoder s rest q (at .at) (nextAt s q (at .at))) ≡ outcome (pointsFrom s count q₀ (at₀ .at)))
+    × (2 + 2 * count ≤ length out₀ → put out i (readBy s rest (nextAt s q (at .at))) ≡ put out₀ 2 (readFrom s count q₀ (at₀ .at)))
 
 abbrev μ-loop : tie.MeasureT-loop
-μ-loop s count out₀ q₀ at₀ rest₀ i₀ half₀ x₀ out q at rest i half x = 2 * rest + cond half 0 1
+μ-loop s count out₀ q₀ at₀ rest₀ i₀ out q at rest i = rest
 
 put-point-requires : tie.Need-put-point-requires Inv-loop μ-loop
 put-point-requires c κs = search needs
 
 loop-holds : tie.Need-loop-holds Inv-loop μ-loop
-unfolding nextOf pointsFrom
+unfolding pointsFrom
 loop-holds c = (refl, omega arith, ap outcome (along-by _ _ _ _ _), λ h. ap (put _ 2) (read-by _ _ _ _))
 
 varint-requires : tie.Need-varint-requires Inv-loop μ-loop
@@ -48,49 +50,78 @@ enum-known-a c = search needs
 same-length : tie.Need-same-length Inv-loop μ-loop
 same-length c = search needs
 
+-- where no point more is read, the memory is what the whole makes of it
+kept : (l : tie.At-loop Inv-loop μ-loop)
+    → let a = l .before .before .before .before .before .args in
+    [] ≡ readBy (a .s .now) (l .loop .rest) (nextAt (a .s .now) (l .loop .q) (l .loop .at .at))
+    → 2 + 2 * a .count ≤ length (a .out .now)
+    → l .loop .out ≡ put (a .out .now) 0 (a .first ∷ readFrom (a .s .now) (a .count) (a .first) (a .from .at))
+kept l e h =
+    put-end _ _ _ e
+    ∙ l .loop .inv .3 (room-kept _ _ _ (l .before .out .given) h)
+    ∙ put-on _ 0 _ _ _ _ refl (l .before .before .put-point .ensures (room-first _ _ h))
+
 returns : tie.Need-returns Inv-loop μ-loop
 returns c =
     let v = c .before .before .before in
     let l = v .before .before in
-    let p = l .before .before in
-    let e = turn-none _ _ _ _ (l .loop .half) _ (sym (ap readTold (c .before .a .given .1)) ∙ v .varint .ensures) in (
-      check-no _ _ _ _ _ (v .before .loop-test .taken) _ e ∙ l .loop .inv .2,
-      λ h. put-end _ _ _ (read-no _ _ _ (v .before .loop-test .taken) _ e)
-          ∙ l .loop .inv .3 (room-kept _ _ _ (l .before .out .given) h)
-          ∙ put-on _ 0 _ _ _ _ refl (p .put-point .ensures (room-first _ _ h)),
-    )
+    let h₀ = v .before .loop-test .taken in
+    let e = next-no _ (l .loop .q) _ _ (numbers-first _ _ _ (sym (ap readTold (c .before .a .given .1)) ∙ v .varint .ensures)) in
+    (check-no _ _ _ _ _ h₀ _ e ∙ l .loop .inv .2, kept l (read-no _ _ _ h₀ _ e))
 
 enum-known-a-2 : tie.Need-enum-known-a-2 Inv-loop μ-loop
 enum-known-a-2 c = search needs
 
-point-after-requires : tie.Need-point-after-requires Inv-loop μ-loop
-point-after-requires c κs = search needs
+varint-requires-2 : tie.Need-varint-requires-2 Inv-loop μ-loop
+varint-requires-2 c κs = search needs
 
--- the number that was read
-read : (c : tie.After-known-told2 Inv-loop μ-loop) → ok (toZ w32 (ofZ w32 (c .before .a2 .given .0 .0)), c .before .a2 .given .0 .1 .0 .at) ≡ numberAt (c .before .before .before .before .before .before .before .before .before .before .args .s .now) (c .before .before .before .before .before .loop .at .at)
-read c =
-    let v = c .before .before .before in
-    ap (λ (z : ℤ). ok (z, c .before .a2 .given .0 .1 .0 .at)) (back w32 _ (c .known-told2 .given .0 .1)) ∙ sym (ap readTold (c .before .a2 .given .1)) ∙ v .varint .ensures
-
-enum-known-t : tie.Need-enum-known-t Inv-loop μ-loop
-enum-known-t c = search needs
+enum-known-b : tie.Need-enum-known-b Inv-loop μ-loop
+enum-known-b c = search needs
 
 same-length-2 : tie.Need-same-length-2 Inv-loop μ-loop
 same-length-2 c = search needs
 
 returns-2 : tie.Need-returns-2 Inv-loop μ-loop
 returns-2 c =
-    let t = c .before .before .before in
-    let k = t .before .before in
-    let v = k .before .before .before in
+    let w = c .before .before .before in
+    let k = w .before .before in
+    let v = k .before .before in
     let l = v .before .before in
-    let p = l .before .before in
-    let e = turn-no _ _ _ _ _ _ (read k) (l .loop .half) (t .before .if1 .taken) _ (sym (ap moved (c .before .t .given .1)) ∙ t .point-after .ensures) in (
-      check-no _ _ _ _ _ (v .before .loop-test .taken) _ e ∙ l .loop .inv .2,
-      λ h. put-end _ _ _ (read-no _ _ _ (v .before .loop-test .taken) _ e)
-          ∙ l .loop .inv .3 (room-kept _ _ _ (l .before .out .given) h)
-          ∙ put-on _ 0 _ _ _ _ refl (p .put-point .ensures (room-first _ _ h)),
-    )
+    let h₀ = v .before .loop-test .taken in
+    let e = next-no _ (l .loop .q) _ _ (numbers-second _ _ _ _ _ (sym (ap readTold (k .a2 .given .1)) ∙ v .varint .ensures) (sym (ap readTold (c .before .b .given .1)) ∙ w .varint2 .ensures)) in
+    (check-no _ _ _ _ _ h₀ _ e ∙ l .loop .inv .2, kept l (read-no _ _ _ h₀ _ e))
+
+enum-known-b-2 : tie.Need-enum-known-b-2 Inv-loop μ-loop
+enum-known-b-2 c = search needs
+
+point-after-requires : tie.Need-point-after-requires Inv-loop μ-loop
+point-after-requires c κs = search needs
+
+-- the two numbers that were read
+read : (c : tie.After-known-told4 Inv-loop μ-loop)
+    → ok (point (toZ w32 (ofZ w32 (c .before .before .before .before .before .a2 .given .0 .0))) (toZ w32 (ofZ w32 (c .before .b2 .given .0 .0))), c .before .b2 .given .0 .1 .0 .at)
+    ≡ numbersAt (c .before .before .before .before .before .before .before .before .before .before .before .before .before .before .args .s .now) (c .before .before .before .before .before .before .before .before .before .loop .at .at)
+read c =
+    let w = c .before .before .before in
+    let k = w .before in
+    let v = k .before .before .before in
+    ap₂ (λ (x y : ℤ). ok (point x y, c .before .b2 .given .0 .1 .0 .at)) (back w32 _ (k .known-told2 .given .0 .1)) (back w32 _ (c .known-told4 .given .0 .1))
+    ∙ numbers-both _ _ _ _ _ _ (sym (ap readTold (k .before .a2 .given .1)) ∙ v .varint .ensures) (sym (ap readTold (c .before .b2 .given .1)) ∙ w .varint2 .ensures)
+
+enum-known-t : tie.Need-enum-known-t Inv-loop μ-loop
+enum-known-t c = search needs
+
+same-length-3 : tie.Need-same-length-3 Inv-loop μ-loop
+same-length-3 c = search needs
+
+returns-3 : tie.Need-returns-3 Inv-loop μ-loop
+returns-3 c =
+    let t = c .before .before .before in
+    let v = t .before .before .before .before .before .before .before .before in
+    let l = v .before .before in
+    let h₀ = v .before .loop-test .taken in
+    let e = next-over _ (l .loop .q) _ _ _ (read (t .before)) _ (sym (ap moved (c .before .t .given .1)) ∙ t .point-after .ensures) in
+    (check-no _ _ _ _ _ h₀ _ e ∙ l .loop .inv .2, kept l (read-no _ _ _ h₀ _ e))
 
 enum-known-t-2 : tie.Need-enum-known-t-2 Inv-loop μ-loop
 enum-known-t-2 c = search needs
@@ -99,47 +130,29 @@ put-point-requires-2 : tie.Need-put-point-requires-2 Inv-loop μ-loop
 put-point-requires-2 c κs = search needs
 
 add-i : tie.Need-add-i Inv-loop μ-loop
-add-i c = search needs
+add-i c = omega (arith, put-point-requires-2 (c .before .before) (c .before .put-point2 .lifetimes))
 
 sub-rest : tie.Need-sub-rest Inv-loop μ-loop
 sub-rest c = search needs
 
 loop-less : tie.Need-loop-less Inv-loop μ-loop
-loop-less c =
-    let v = c .before .before .before .before .before .before .before .before .before .before .before in
-    point-less (v .before .before .loop .half) (v .before .before .loop .rest) (v .before .loop-test .taken)
+loop-less c = search needs
 
 loop-again : tie.Need-loop-again Inv-loop μ-loop
-unfolding nextOf pointsFrom
+unfolding pointsFrom
 loop-again c =
     let p = c .before in
-    let k = p .before .before in
-    let t = k .before .before .before in
-    let v = t .before .before .before .before .before in
+    let k = p .before .before .before in
+    let t = k .before .before in
+    let v = t .before .before .before .before .before .before .before .before in
     let l = v .before .before .loop in
     let h₀ = v .before .loop-test .taken in
     let same : length (p .put-point2 .last .0) ≡ length (l .out) = c .out2 .given in
-    let e = turn-to _ _ _ _ _ _ (read (t .before .before)) (l .half) (t .before .if1 .taken) _ (sym (ap moved (k .before .t2 .given .1)) ∙ t .point-after .ensures) in (
+    let e = next-to _ (l .q) _ _ _ (read (t .before)) _ (sym (ap moved (k .t2 .given .1)) ∙ t .point-after .ensures) in (
       same ∙ l .inv .0,
       place-on _ _ _ h₀ (l .inv .1),
       ap outcome (along-by _ _ _ _ _) ∙ check-on _ _ _ _ _ h₀ _ _ e ∙ l .inv .2,
       λ h. ap (put _ _) (read-by _ _ _ _) ∙ put-on _ _ _ _ _ _ (read-on _ _ _ h₀ _ _ e) (p .put-point2 .ensures (place-in _ _ _ h₀ (l .inv .1) _ _ (l .inv .0) h)) ∙ l .inv .3 h,
-    )
-
-loop-less-2 : tie.Need-loop-less-2 Inv-loop μ-loop
-loop-less-2 c =
-    let l = c .before .before .before .before .before .before .loop in
-    half-less (l .half) (l .rest) (c .if1 .left)
-
-loop-again-2 : tie.Need-loop-again-2 Inv-loop μ-loop
-loop-again-2 c =
-    let v = c .before .before .before .before in
-    let l = v .before .before in
-    let e = turn-half _ _ _ _ _ _ (read (c .before)) (l .loop .half) (c .if1 .left) in (
-      l .loop .inv .0,
-      l .loop .inv .1,
-      ap outcome (by-there _ _ _ _ _ _ _ _ (v .before .loop-test .taken) e) ∙ l .loop .inv .2,
-      λ h. ap (put (l .loop .out) (l .loop .i)) (ap (readBy (l .before .before .before .before .before .args .s .now) (l .loop .rest)) e) ∙ l .loop .inv .3 h,
     )
 
 at-end-requires : tie.Need-at-end-requires Inv-loop μ-loop
@@ -148,19 +161,14 @@ at-end-requires c κs = search needs
 claim-requires : tie.Need-claim-requires Inv-loop μ-loop
 claim-requires c κs = search needs
 
-same-length-3 : tie.Need-same-length-3 Inv-loop μ-loop
-same-length-3 c = search needs
+same-length-4 : tie.Need-same-length-4 Inv-loop μ-loop
+same-length-4 c = search needs
 
-returns-3 : tie.Need-returns-3 Inv-loop μ-loop
-returns-3 c =
+returns-4 : tie.Need-returns-4 Inv-loop μ-loop
+returns-4 c =
     let l = c .before .before .before in
-    let p = l .before .before in
-    let z = no-more (l .loop .rest) (c .before .before .loop-test .left) in (
-      c .claim .ensures ∙ check-end _ _ _ _ _ z _ (c .before .at-end .ensures) ∙ l .loop .inv .2,
-      λ h. put-end _ _ _ (read-end _ _ _ z)
-          ∙ l .loop .inv .3 (room-kept _ _ _ (l .before .out .given) h)
-          ∙ put-on _ 0 _ _ _ _ refl (p .put-point .ensures (room-first _ _ h)),
-    )
+    let z = no-more (l .loop .rest) (c .before .before .loop-test .left) in
+    (c .claim .ensures ∙ check-end _ _ _ _ _ z _ (c .before .at-end .ensures) ∙ l .loop .inv .2, kept l (read-end _ _ _ z))
 
 pub fill-from-spec : {M : Type 1} → statement M
 fill-from-spec =
@@ -175,19 +183,22 @@ fill-from-spec =
     same-length
     returns
     enum-known-a-2
-    point-after-requires
-    enum-known-t
+    varint-requires-2
+    enum-known-b
     same-length-2
     returns-2
+    enum-known-b-2
+    point-after-requires
+    enum-known-t
+    same-length-3
+    returns-3
     enum-known-t-2
     put-point-requires-2
     add-i
     sub-rest
     loop-less
     loop-again
-    loop-less-2
-    loop-again-2
     at-end-requires
     claim-requires
-    same-length-3
-    returns-3)
+    same-length-4
+    returns-4)
