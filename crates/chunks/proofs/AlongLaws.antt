@@ -1,7 +1,7 @@
 -- Laws of specs/Along, as proofs cite them. Nothing here need be believed.
 -- Assumes nothing.
 use Prim.Native.Nat.{ℕ, _-_, _<_, zero, suc}
-use mathlib.Core.Path.{_≡_, refl, sym, ap, _∙_}
+use mathlib.Core.Path.{_≡_, refl, ap}
 use mathlib.Core.List.{List}
 use borrow.Author.Tests.{lt-ltb}
 use Rattle.answer.specs.declared.Refusal.{Refusal}
@@ -55,10 +55,3 @@ module _ {R : Type 0} (w : Walker R) (s : List ℕ) (q : I32Point) where
 
       pub by-to : (t : I32Point) (m : ℕ) → ok (t, m) ≡ a → reach w q t (along w s (n - 1) t m) ≡ alongBy w s n q k a
       by-to t m e = rw (by-one, ← e)
-
-  -- the place itself does not matter while points are left
-  pub by-there : (n k m : ℕ) (a b : Answer (I32Point × ℕ)) → 0 < n → b ≡ a → alongBy w s n q m b ≡ alongBy w s n q k a
-  by-there n k m a b h e =
-      by-one n m b h
-      ∙ ap (λ (c : Answer (I32Point × ℕ)). follow w c (λ t. reach w q (t .0) (along w s (n - 1) (t .0) (t .1)))) e
-      ∙ sym (by-one n k a h)

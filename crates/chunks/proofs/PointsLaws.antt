@@ -67,7 +67,7 @@ module _ (q : I32Point) (x y : ℤ) where
       arrive-in h = rw (← e, ← f, h)
 
 -- the point after q, the numbers of whose delta are d
-pub next-arrives : (s : List ℕ) (q d : I32Point) (p m : ℕ) → ok (d, m) ≡ numbersAt s p → (arrive q d then placed m) ≡ nextAt s q p
+next-arrives : (s : List ℕ) (q d : I32Point) (p m : ℕ) → ok (d, m) ≡ numbersAt s p → (arrive q d then placed m) ≡ nextAt s q p
 unfolding nextAt arrive mustLie
 next-arrives s q d p m e = rw (← e) (arrived (movedBy q d))
   where

@@ -1,72 +1,29 @@
--- A loop that reads one number a turn: the point that comes next, where of its delta nothing is read yet or its x alone, and what follows from there.
+-- A loop that reads a point a turn: what follows from what comes next.
 -- Assumes nothing.
 use Prim.Native.Nat.{ℕ, zero, suc, _+_, _-_, _*_, _≤_, _<_}
 use native.Mathlib.Omega.{arith}
-use mathlib.Core.Path.{_≡_, refl, sym, ap, _∙_}
-use mathlib.Core.Bool.{Bool, true, false, cond, false≢true}
+use mathlib.Core.Path.{_≡_, refl, ap, _∙_}
+use mathlib.Core.Bool.{Bool, true, false}
 use mathlib.Core.List.{List, [], _∷_}
-use lib.IntN.{ℤ}
 use Rattle.answer.specs.declared.Refusal.{Refusal}
 use Rattle.answer.specs.Checks.{claim}
-use Rattle.answer.specs.Answers.{Answer, ok, refused, _then_, need, outcome}
+use Rattle.answer.specs.Answers.{Answer, ok, refused, need, outcome}
 use Rattle.answer.specs.Walks.{on, add}
 use Rattle.plane.specs.declared.Point.{Point}
 use Rattle.plane.specs.declared.I32Point.{I32Point}
 use Rattle.plane.specs.Sight.{On, Off}
 use Rattle.plane.specs.Domain.{inDomain}
 use Rattle.rays.specs.Ray.{rayOf}
-use Rattle.varints.specs.Varint.{numberAt, atEnd}
+use Rattle.varints.specs.Varint.{atEnd}
 use Rattle.chunks.specs.Points.{movedBy, nextAt}
 use Rattle.chunks.specs.Along.{follow, along}
 use Rattle.chunks.specs.Scan.{scanner}
 use Rattle.chunks.specs.Decode.{decoder}
 use Rattle.chunks.proofs.Decoded.{led-same}
-use Rattle.plane.specs.Places.{point}
 use Rattle.answer.proofs.AnswersLaws.{then-inv, need-inv, ok-inv}
-use Rattle.chunks.proofs.PointsLaws.{numbers-first, numbers-second, numbers-both, next-arrives, next-no}
 use Rattle.chunks.proofs.ScanLaws.{segment-on, segment-off}
 use Rattle.chunks.proofs.AlongLaws.{by-no, by-to}
-use Rattle.chunks.specs.Steps.{arrive, placed, alongBy, readFrom}
-
--- the point after q, of whose delta x is read; the bytes of y stand at k
-unfoldable pub nextAfter : List ℕ → I32Point → ℤ → ℕ → Answer (I32Point × ℕ)
-nextAfter s q x k = numberAt s k then λ y. arrive q (point x (y .0)) then placed (y .1)
-
--- the point after q, where `half` tells that x is read
-unfoldable pub nextOf : Bool → List ℕ → I32Point → ℤ → ℕ → Answer (I32Point × ℕ)
-nextOf false s q x k = nextAt s q k
-nextOf true s q x k = nextAfter s q x k
-
-next-x : (s : List ℕ) (q : I32Point) (k : ℕ) (x : ℤ) (m : ℕ) → ok (x, m) ≡ numberAt s k → nextAfter s q x m ≡ nextAt s q k
-unfolding nextAfter
-next-x s q k x m e = with-y (numberAt s m) refl
-  where
-    with-y : (a : Answer (ℤ × ℕ)) → numberAt s m ≡ a → (a then λ y. arrive q (point x (y .0)) then placed (y .1)) ≡ nextAt s q k
-    with-y (ok y) f = next-arrives s q (point x (y .0)) k (y .1) (numbers-both s k x (y .0) m (y .1) e (sym f))
-    with-y (refused r) f = next-no s q k r (numbers-second s k x m r e (sym f))
-
--- ---- one number more
-module _ (s : List ℕ) (q : I32Point) (x : ℤ) (k : ℕ) where
-  pub turn-none : (half : Bool) (r : Refusal) → refused r ≡ numberAt s k → refused r ≡ nextOf half s q x k
-  unfolding nextOf nextAfter
-  turn-none false r e = next-no s q k r (numbers-first s k r e)
-  turn-none true r e = rw (← e)
-
-  module _ (d : ℤ) (m : ℕ) (e : ok (d, m) ≡ numberAt s k) where
-    pub turn-half : (half : Bool) → half ≡ false → nextOf true s q d m ≡ nextOf half s q x k
-    unfolding nextOf
-    turn-half half h = rw h (next-x s q k d m e)
-
-    -- the number is the y of the delta
-    turn-with : (half : Bool) → half ≡ true → (a : Answer I32Point) → a ≡ arrive q (point x d) → (a then placed m) ≡ nextOf half s q x k
-    unfolding nextOf nextAfter
-    turn-with half h a f = rw (h, ← e, f)
-
-    pub turn-no : (half : Bool) → half ≡ true → (r : Refusal) → refused r ≡ arrive q (point x d) → refused r ≡ nextOf half s q x k
-    turn-no half h r f = turn-with half h (refused r) f
-
-    pub turn-to : (half : Bool) → half ≡ true → (t : I32Point) → ok t ≡ arrive q (point x d) → ok (t, m) ≡ nextOf half s q x k
-    turn-to half h t f = turn-with half h (ok t) f
+use Rattle.chunks.specs.Steps.{arrive, alongBy, readFrom}
 
 -- the point lies in the domain
 pub turn-in : (q d t : I32Point) → ok t ≡ arrive q d → inDomain t ≡ true
@@ -75,15 +32,6 @@ turn-in q d t h =
     let g = then-inv (movedBy q d) (λ u. need 42 (inDomain u) (ok u)) t h in
     let w = need-inv 42 (inDomain (g .0)) (ok (g .0)) t (g .2) in
     ap inDomain (ok-inv t (g .0) (w .1)) ∙ w .0
-
--- the numbers that are left, of n points, grow fewer
-pub half-less : (half : Bool) (n : ℕ) → half ≡ false → 2 * n + cond true 0 1 < 2 * n + cond half 0 1
-half-less false n h = omega arith
-half-less true n h = absurd (false≢true (sym h))
-
-pub point-less : (half : Bool) (n : ℕ) → 0 < n → 2 * (n - 1) + cond false 0 1 < 2 * n + cond half 0 1
-point-less false n h = omega arith
-point-less true n h = omega arith
 
 -- none is left
 pub no-more : (n : ℕ) → n ≤ 0 → n ≡ 0
