@@ -67,7 +67,7 @@ fn write_line(
         Ok(entry) => entry,
         Err(refusal) => {
             writeln!(out)?;
-            return Ok(Some(refusal.to_string()));
+            return Ok(Some(why_none(refusal, bytes.len())));
         }
     };
     write!(out, "{}\t", Point { x: entry.x, y: entry.y })?;
@@ -105,10 +105,22 @@ fn write_zones(
     Ok(missing)
 }
 
-fn write_reason(refusal: Refusal, out: &mut impl Write) -> io::Result<()> {
-    write!(out, "{refusal}")?;
-    if refusal.number() == TOO_MANY {
-        write!(out, " The position is in more than {PLACES} zones.")?;
+/// The refusal of bytes that are no entry. Its own sentence speaks of writing, and of other places.
+fn why_none(refusal: Refusal, length: usize) -> String {
+    let number = refusal.number();
+    if length == ENTRY {
+        format!("refusal {number}: The bytes are no entry.")
+    } else {
+        format!("refusal {number}: The journal ends within it, after {length} of {ENTRY} bytes.")
     }
-    Ok(())
+}
+
+/// The refusal that an entry has. 46's own sentence speaks of lent room.
+fn write_reason(refusal: Refusal, out: &mut impl Write) -> io::Result<()> {
+    match refusal.number() {
+        TOO_MANY => {
+            write!(out, "refusal {TOO_MANY}: The position is in more than {PLACES} zones.")
+        }
+        _ => write!(out, "{refusal}"),
+    }
 }
