@@ -16,6 +16,7 @@ mod words;
 mod write_whole;
 
 use std::ffi::OsString;
+use std::fmt::Display;
 use std::io::{self, BufReader, BufWriter, ErrorKind, Write};
 use std::path::Path;
 use std::process::ExitCode;
@@ -45,8 +46,12 @@ pub fn run(words: impl Iterator<Item = OsString>) -> ExitCode {
 }
 
 /// One line on standard error. Where that is closed there is nobody to tell.
-fn say(what: &dyn std::fmt::Display) {
-    let _ = writeln!(io::stderr(), "tzb: {what}");
+fn say(what: &dyn Display) {
+    say_to(&mut io::stderr(), what);
+}
+
+fn say_to(to: &mut impl Write, what: &dyn Display) {
+    let _ = writeln!(to, "tzb: {what}");
 }
 
 fn perform(words: impl Iterator<Item = OsString>, out: &mut impl Write) -> Result<Status, Failure> {

@@ -145,7 +145,7 @@ const SENTENCES: [&str; 50] = [
     "The file opens, but does not pass the full check.",
     "A ring of the zone has under four positions, over 10,000, or no area.",
     "A chunk's box reaches above or below its group's, and the group has two chunks or more: no stripes are built.",
-    "The bytes, or what is to be written, are no journal entry.",
+    "What is to be read or written is no journal entry, or entries of so many places are not offered.",
 ];
 
 /// The rules 2 to 6 of the full check, each by what it means that it is broken.

@@ -173,9 +173,8 @@ mod tests {
             assert_eq!(sys::ask_striped(&record, &vec![0; need], &file, lng, lat), plain);
         }
         // Along a parallel through Germany: where a group is walked there is no entry for it, or no place where its stripes would stand.
-        let inside = |numbers: &[u32], x| {
-            sys::contains_striped(&record, numbers, &file, 126, x, 5_011_000)
-        };
+        let inside =
+            |numbers: &[u32], x| sys::contains_striped(&record, numbers, &file, 126, x, 5_011_000);
         let mut walked = 0;
         for x in (500_000..1_600_000).step_by(2_500) {
             let plain = sys::contains(&record, &file, 126, x, 5_011_000);

@@ -184,7 +184,7 @@ fn refusals_in_words() {
     let at = [[1, -1]];
     let journal = [refused(11, &at), refused(46, &at), refused(0, &at)].concat();
     let lines = "0.00001 -0.00001\trefusal 11: The checksum (CRC-32) does not match the file's bytes.\n\
-                 0.00001 -0.00001\trefusal 46: The room lent for the answer is too short. The position is in more than 3 zones.\n\
+                 0.00001 -0.00001\trefusal 46: The position is in more than 3 zones.\n\
                  0.00001 -0.00001\tno zone\n";
     assert_eq!(run(&["show-journal", "-"], &journal), answered(lines));
     assert_eq!(run(&["show-journal", "-", SAMPLE], &journal), answered(lines));
@@ -198,12 +198,13 @@ fn what_is_no_entry_is_told_by_its_place() {
     let kept = Kept::new("broken.journal", &journal);
     let lines = "8.68000 50.11000\tEtc/GMT-1\tGermany\n\n-30.00000 0.00000\tEtc/GMT+2\n\
                  180.00001 0.00000\tno zone\n\n";
-    let why = "refusal 50: The bytes, or what is to be written, are no journal entry.";
+    let why = "refusal 50: The bytes are no entry.";
+    let cut = "refusal 50: The journal ends within it, after 5 of 16 bytes.";
     for (path, name) in [(kept.0.as_str(), kept.0.as_str()), ("-", "standard input")] {
         let (status, out, err) = run(&["show-journal", path, SAMPLE], &journal);
         assert_eq!((status, out.as_str()), (Some(1), lines));
         let told = format!(
-            "tzb: {name}: entry 2, at byte 16: {why}\ntzb: {name}: entry 5, at byte 64: {why}\n"
+            "tzb: {name}: entry 2, at byte 16: {why}\ntzb: {name}: entry 5, at byte 64: {cut}\n"
         );
         assert_eq!(err, told);
     }

@@ -22,10 +22,11 @@ pub fn write(request: &Request, out: &mut impl Write) -> Result<Status, Failure>
         Ok(index) => index.journal(x, y),
         Err(refusal) => Entry::refused(x, y, *refusal),
     };
+    let progress = Progress::new("positions");
     let input = io::stdin().lock();
     let written = match request.binary {
-        true => write_all(of_bytes(input), ask, out),
-        false => write_all(of_lines(input), ask, out),
+        true => write_all(of_bytes(input), ask, progress, out),
+        false => write_all(of_lines(input), ask, progress, out),
     }?;
     Ok(written.max(judged))
 }
@@ -99,9 +100,9 @@ fn of_bytes<W: Write>(input: impl Read) -> impl FnMut(&mut W) -> Next {
 fn write_all<W: Write>(
     mut next: impl FnMut(&mut W) -> Next,
     ask: impl Fn(Point) -> Entry,
+    mut progress: Progress<impl Write>,
     out: &mut W,
 ) -> Result<Status, Failure> {
-    let mut progress = Progress::new("positions");
     let mut status = Status::Answered;
     let mut number = 0;
     while let Some(position) = next(out)? {
@@ -116,7 +117,6 @@ fn write_all<W: Write>(
         status = status.max(met);
         progress.at(number);
     }
-    progress.clear();
     Ok(status)
 }
 
@@ -124,4 +124,25 @@ fn write_all<W: Write>(
 fn put(entry: &Entry, out: &mut impl Write) -> io::Result<Status> {
     out.write_all(&entry.to_bytes().map_err(io::Error::other)?)?;
     Ok(if entry.reason().is_some() { Status::No } else { Status::Answered })
+}
+
+#[cfg(test)]
+mod tests {
+    use super::*;
+    use tzb::journal::ENTRY;
+
+    /// The count is taken away before a message, and at the end.
+    #[test]
+    fn the_progress_of_a_long_input() {
+        let lines = ["1 1\n".repeat(600), "east\n".to_string(), "1 1\n".repeat(300)].concat();
+        let none = |Point { x, y }| Entry { x, y, answer: Ok(vec![]) };
+        let (mut told, mut out) = (Vec::new(), Vec::new());
+        let progress = Progress::of_test("positions", &mut told);
+        let status = write_all(of_lines(lines.as_bytes()), none, progress, &mut out).unwrap();
+        assert_eq!((status, out.len()), (Status::Mistaken, 900 * ENTRY));
+        let told = String::from_utf8(told).unwrap();
+        let (before, behind) = told.split_once("tzb: line 601: ").unwrap();
+        assert_eq!(before, "\r256 positions\r512 positions\r\x1b[K");
+        assert!(behind.ends_with("\n\r768 positions\r\x1b[K"), "{behind:?}");
+    }
 }

@@ -16,24 +16,33 @@ use tzb::{Index, Refusal};
 /// The reason of a position that is in more zones than an entry has places.
 const TOO_MANY: u32 = 46;
 
-/// Writes a line for each entry: an empty one for what is none. That is told on standard error, with its place.
+/// Writes the journal in words.
 pub fn show(request: &Request, out: &mut impl Write) -> Result<Status, Failure> {
     let index = request.index.as_deref().map(open_index).transpose()?;
-    let (name, mut pieces) = open_journal(&request.file)?;
-    let mut progress = Progress::new("entries");
+    let (name, pieces) = open_journal(&request.file)?;
+    let line = |bytes: &[u8], out: &mut _| write_line(bytes, index.as_ref(), request.numbered, out);
+    show_all(&name, pieces, line, Progress::new("entries"), out)
+}
+
+/// A line for each entry: an empty one for what is none. That is told on standard error, with its place.
+fn show_all<W: Write>(
+    name: &str,
+    mut pieces: Pieces<impl Read>,
+    line: impl Fn(&[u8], &mut W) -> io::Result<Option<String>>,
+    mut progress: Progress<impl Write>,
+    out: &mut W,
+) -> Result<Status, Failure> {
     let mut status = Status::Answered;
     let mut number: u64 = 0;
     while let Some(bytes) = pieces.next(out)? {
         let place = number * ENTRY as u64;
         number += 1;
-        let missing = write_line(bytes, index.as_ref(), request.numbered, out);
-        if let Some(why) = missing.map_err(Failure::Output)? {
+        if let Some(why) = line(bytes, out).map_err(Failure::Output)? {
             progress.say(&format_args!("{name}: entry {number}, at byte {place}: {why}"));
             status = Status::No;
         }
         progress.at(number);
     }
-    progress.clear();
     Ok(status)
 }
 
@@ -67,7 +76,7 @@ fn write_line(
         Ok(entry) => entry,
         Err(refusal) => {
             writeln!(out)?;
-            return Ok(Some(refusal.to_string()));
+            return Ok(Some(why_none(refusal, bytes.len())));
         }
     };
     write!(out, "{}\t", Point { x: entry.x, y: entry.y })?;
@@ -105,10 +114,45 @@ fn write_zones(
     Ok(missing)
 }
 
-fn write_reason(refusal: Refusal, out: &mut impl Write) -> io::Result<()> {
-    write!(out, "{refusal}")?;
-    if refusal.number() == TOO_MANY {
-        write!(out, " The position is in more than {PLACES} zones.")?;
+/// The refusal of bytes that are no entry. Its own sentence speaks of writing, and of other places.
+fn why_none(refusal: Refusal, length: usize) -> String {
+    let number = refusal.number();
+    if length == ENTRY {
+        format!("refusal {number}: The bytes are no entry.")
+    } else {
+        format!("refusal {number}: The journal ends within it, after {length} of {ENTRY} bytes.")
     }
-    Ok(())
+}
+
+/// The refusal that an entry has. 46's own sentence speaks of lent room.
+fn write_reason(refusal: Refusal, out: &mut impl Write) -> io::Result<()> {
+    match refusal.number() {
+        TOO_MANY => {
+            write!(out, "refusal {TOO_MANY}: The position is in more than {PLACES} zones.")
+        }
+        _ => write!(out, "{refusal}"),
+    }
+}
+
+#[cfg(test)]
+mod tests {
+    use super::*;
+
+    /// The count is taken away before a message, and at the end.
+    #[test]
+    fn the_progress_of_a_long_journal() {
+        let entry = Entry { x: 1, y: 1, answer: Ok(vec![]) }.to_bytes().unwrap();
+        let journal = [entry.repeat(600), vec![7; ENTRY], entry.repeat(300)].concat();
+        let pieces = Pieces::new(journal.as_slice(), ENTRY, Failure::Input);
+        let line = |bytes: &[u8], out: &mut _| write_line(bytes, None, false, out);
+        let (mut told, mut out) = (Vec::new(), Vec::new());
+        let progress = Progress::of_test("entries", &mut told);
+        let status = show_all("a", pieces, line, progress, &mut out).unwrap();
+        assert_eq!(status, Status::No);
+        assert_eq!(String::from_utf8(out).unwrap().lines().count(), 901);
+        let told = String::from_utf8(told).unwrap();
+        let (before, behind) = told.split_once("tzb: a: entry 601, at byte 9600: ").unwrap();
+        assert_eq!(before, "\r256 entries\r512 entries\r\x1b[K");
+        assert!(behind.ends_with("\n\r768 entries\r\x1b[K"), "{behind:?}");
+    }
 }
