@@ -2,20 +2,19 @@
 -- Assumes nothing.
 use Prim.Native.Nat.{ℕ, _≤_, _<_}
 use native.Mathlib.Omega.{arith}
-use mathlib.Core.Path.{_≡_, refl, sym, ap, ap₂, _∙_}
+use mathlib.Core.Path.{_≡_, refl, sym, ap, _∙_}
 use mathlib.Core.Bool.{Bool, true, false, _&&_}
 use mathlib.Core.List.{List, [], _∷_, _++_}
 use lib.IntN.{ℤ}
 use lib.ListN.{length, take, drop, set, length-append}
 use lib.Seq.{take-at, length-take-le}
 use Rattle.basics.specs.Picked.{and-yes, and-no}
-use Rattle.basics.specs.Truth.{and-i}
 use Rattle.plane.specs.declared.I32Point.{I32Point}
 use Rattle.answer.specs.declared.Refusal.{Refusal}
 use Rattle.answer.specs.Refusals.{refusal}
 use Rattle.answer.specs.Answers.{Answer, ok, no, refused, need, _then_, outcome, howMany, left}
-use Rattle.answer.specs.Checks.{atMost, same, failed}
-use Rattle.answer.proofs.CheckLaws.{le-at, gt-at, eq-same, ne-same}
+use Rattle.answer.specs.Checks.{atMost, failed}
+use Rattle.answer.proofs.CheckLaws.{le-at, gt-at, same-eq}
 use Rattle.answer.proofs.AnswersLaws.{zero-one, then-ok, then-no, then-inv, ok-inv, need-met, need-not, left-no, left-is}
 use Rattle.opened.specs.declared.Opened.{Opened}
 use Rattle.entries.specs.Entry.{Entry, entry}
@@ -91,6 +90,10 @@ module _ (places : ℕ) (s : List ℕ) (q : I32Point) (x : Answer Opened) where
 pub laid-as : (places : ℕ) (room : List ℕ) (e e' : Entry) → e ≡ e' → laidOf places e room ≡ laidOf places e' room
 laid-as places room e e' h = ap (λ (x : Entry). laidOf places x room) h
 
+-- ---- a number of places that is offered fits a byte, as the count does
+pub offered-fits : (places : ℕ) → offered places ≡ true → places < 256
+offered-fits places g = omega (arith, same-eq places 3 g)
+
 -- ---- the question
 module _ (b s : List ℕ) (places : ℕ) (q : I32Point) (room : List ℕ) where
   pub ask-no : (k : Refusal) → refused k ≡ recordOf b → refused k ≡ journalAsked b s places q room
@@ -102,21 +105,21 @@ module _ (b s : List ℕ) (places : ℕ) (q : I32Point) (room : List ℕ) where
     unfolding journalAsked
     ask-on = then-ok (recordOf b) (λ o. need 50 (offered places) (laidOf places (entryFor places (ok o) s q) room)) o h
 
-    pub ask-other : (places ≡ 3 → ⊥) → no 50 ≡ journalAsked b s places q room
-    ask-other g = need-not 50 (offered places) (laidOf places (entryFor places (ok o) s q) room) (ne-same _ _ g) ∙ ask-on
+    pub ask-other : offered places ≡ false → no 50 ≡ journalAsked b s places q room
+    ask-other g = need-not 50 (offered places) (laidOf places (entryFor places (ok o) s q) room) g ∙ ask-on
 
-    pub ask-is : places ≡ 3 → laidOf places (entryFor places (ok o) s q) room ≡ journalAsked b s places q room
-    ask-is g = need-met 50 (offered places) (laidOf places (entryFor places (ok o) s q) room) (eq-same _ _ g) ∙ ask-on
+    pub ask-is : offered places ≡ true → laidOf places (entryFor places (ok o) s q) room ≡ journalAsked b s places q room
+    ask-is g = need-met 50 (offered places) (laidOf places (entryFor places (ok o) s q) room) g ∙ ask-on
 
 -- ---- the writer
 module _ (places : ℕ) (e : Entry) (room : List ℕ) where
-  pub written-other : (places ≡ 3 → ⊥) → no 50 ≡ journalWritten places e room
+  pub written-other : offered places ≡ false → no 50 ≡ journalWritten places e room
   unfolding journalWritten
-  written-other g = need-not 50 (offered places) (writeOf places e room) (ne-same _ _ g)
+  written-other g = need-not 50 (offered places) (writeOf places e room) g
 
-  pub written-is : places ≡ 3 → writeOf places e room ≡ journalWritten places e room
+  pub written-is : offered places ≡ true → writeOf places e room ≡ journalWritten places e room
   unfolding journalWritten
-  written-is g = need-met 50 (offered places) (writeOf places e room) (eq-same _ _ g)
+  written-is g = need-met 50 (offered places) (writeOf places e room) g
 
 -- what a call tells and leaves, where its answer is refused, and where it is another's
 pub call-no : {A : Type 0} (x : Answer (List A)) (room : List A) (n : ℕ) → no n ≡ x → (failed n ≡ outcome x) × (room ≡ left room x)
@@ -133,14 +136,14 @@ module _ (places : ℕ) (s : List ℕ) where
   unread-is h = ap unread (need-met 50 (entryIs places s) _ h)
 
   module _ (numbers room : ℕ) where
-    pub read-no : (places ≡ 3 → ⊥) → no 50 ≡ journalRead places s numbers room
+    pub read-no : offered places ≡ false → no 50 ≡ journalRead places s numbers room
     unfolding journalRead
-    read-no g = need-not _ _ _ (ne-same _ _ g)
+    read-no g = need-not _ _ _ g
 
-    module _ (g : places ≡ 3) where
-      read-on : (entryOf places s then λ e. need 46 (atMost 2 numbers && atMost (length (e .zones)) room) (ok e)) ≡ journalRead places s numbers room
+    module _ (g : offered places ≡ true) where
+      pub read-on : (entryOf places s then λ e. need 46 (atMost 2 numbers && atMost (length (e .zones)) room) (ok e)) ≡ journalRead places s numbers room
       unfolding journalRead
-      read-on = need-met _ _ _ (eq-same _ _ g)
+      read-on = need-met _ _ _ g
 
       -- no room for the position
       pub read-short : numbers < 2 → (k : Refusal) → refused k ≡ unread (entryOf places s) → refused k ≡ journalRead places s numbers room

@@ -9,7 +9,7 @@ ghost use Rattle.entries.specs.Forms.{laidOf};
 ghost use Rattle.entries.specs.Reading.{entryOf, headOf};
 ghost use Rattle.entry_bytes.specs.Told.{entryTold};
 ghost use Rattle.replies.specs.Replies.{openingTold};
-ghost use Rattle.tzb_journal.specs.Journal.{fitting, noted, entryFor, journalAsked, journalWritten, journalRead, positionOf};
+ghost use Rattle.tzb_journal.specs.Journal.{fitting, noted, entryFor, offered, journalAsked, journalWritten, journalRead, positionOf};
 ghost use Rattle.tzb_journal.specs.Steps.{unread};
 use answer::Checked;
 use answer::Refusal;
@@ -89,6 +89,13 @@ pub fn note(places: u8, opening: Opening, file: &[u8], q: I32Point, out: &mut [u
 
 // ---- the journal's calls
 
+// Whether a caller may say that number of places.
+fn is_offered(places: u32) -> bool
+    ensures { λ r. ⌜ r ≡ offered places ⌝ }
+{
+    places == 3
+}
+
 // The entry of a position, with the opened record as bytes: 44 where it cannot be read, 50 for a number of places that is not offered, then 46 where there is no room.
 pub fn ask(record: &[u8], file: &[u8], places: u32, q: I32Point, out: &mut [u8]) -> Checked
     ensures { λ r. ⌜ checkedTold r ≡ outcome (journalAsked (now («record» .entry)) (now (file .entry)) places q (now (out .entry))) ⌝ }
@@ -98,7 +105,7 @@ pub fn ask(record: &[u8], file: &[u8], places: u32, q: I32Point, out: &mut [u8])
     match a {
         RecordRead::Refused(k) => Checked::Refused(k),
         RecordRead::Is(o) => {
-            if places != 3 {
+            if !is_offered(places) {
                 return answer::fail(50);
             }
             note_opened(places as u8, o, file, q, out)
@@ -111,7 +118,7 @@ pub fn write(places: u32, q: I32Point, zones: &[u32], reason: u32, out: &mut [u8
     ensures { λ r. ⌜ checkedTold r ≡ outcome (journalWritten places (entry q (now (zones .entry)) reason) (now (out .entry))) ⌝ }
     ensures memory { λ r. ⌜ now (out .exit) ≡ left (now (out .entry)) (journalWritten places (entry q (now (zones .entry)) reason) (now (out .entry))) ⌝ }
 {
-    if places != 3 {
+    if !is_offered(places) {
         return answer::fail(50);
     }
     entry_bytes::write_entry(places as u8, q, zones, reason, out)
@@ -133,7 +140,7 @@ pub fn read(places: u32, bytes: &[u8], position: &mut [i32], zones: &mut [u32]) 
     ensures { λ r. ⌜ entryTold r ≡ (journalRead places (now (bytes .entry)) (length (now (position .entry))) (length (now (zones .entry))) then λ e. ok (headOf e)) ⌝ }
     ensures memory { λ r. ⌜ (now (position .exit) ≡ left (now (position .entry)) (journalRead places (now (bytes .entry)) (length (now (position .entry))) (length (now (zones .entry))) then λ e. ok (positionOf e))) × (now (zones .exit) ≡ left (now (zones .entry)) (journalRead places (now (bytes .entry)) (length (now (position .entry))) (length (now (zones .entry))) then λ e. ok (e .zones))) ⌝ }
 {
-    if places != 3 {
+    if !is_offered(places) {
         return EntryRead::Refused(answer::refuse(50));
     }
     if position.len() < 2 {
