@@ -1,6 +1,7 @@
 // Reads and writes the entries of standard input, each of which stands in a row with what document 02 says of it, and writes how many
-// are answered so before the first difference or the list's end. A row to read has the bytes, a row to write the position, the reason
-// and the zones; then come the zones that are read or the end of the entry, the refusal or 0, and three numbers.
+// are answered so before the first difference or the list's end. A row says how many bytes are read or zones written, and how much is
+// lent for the answer. A row to read has the bytes, a row to write the position, the reason and the zones; then come the zones that are
+// read or the end of the entry, the refusal or 0, and three numbers.
 ghost use Prim.Native.Nat.{_<_};
 use answer::Checked;
 use entry_bytes::EntryRead;
@@ -26,6 +27,11 @@ fn length(r: &[u8; 64]) -> usize
     ensures { λ n. ⌜ n < 256 ⌝ }
 {
     wide(r[1])
+}
+
+// How much is lent: places for the zones that are read, or bytes for the entry that is written.
+fn room(r: &[u8; 64]) -> usize {
+    wide(r[2])
 }
 
 // ---- to read
@@ -66,12 +72,22 @@ fn is_said(r: &[u8; 64], a: EntryRead) -> bool {
     }
 }
 
-// With one place more than an entry has.
+// Into the first of these places, as many as the row says. There must be as many.
+fn is_read_into(r: &[u8; 64], places: &mut [u32]) -> bool {
+    let n = room(r);
+    if places.len() < n {
+        return false;
+    }
+    let bytes = harness::part(r, 4, 4 + length(r));
+    let a = entry_bytes::read_entry(PLACES, bytes, &mut places[0..n]);
+    is_said(r, a)
+}
+
+// There is one place more than an entry has. Those that are not lent stay too.
 fn is_read(r: &[u8; 64]) -> bool {
     let mut places = [LENT_ZONE; 4];
-    let bytes = harness::part(r, 4, 4 + length(r));
-    let a = entry_bytes::read_entry(PLACES, bytes, &mut places);
-    is_said(r, a) & are_zones(&places, r, zone_count(r))
+    let said = is_read_into(r, &mut places);
+    said & are_zones(&places, r, zone_count(r))
 }
 
 // ---- to write
@@ -107,18 +123,27 @@ fn is_laid(r: &[u8; 64], out: &[u8]) -> bool {
     said.is_expected(r) & (harness::number(out, 12) == harness::number(r, 36)) & is_lent(out, 16)
 }
 
-// With the first of these zones, and more room than an entry needs.
+// Into the first of these bytes, as many as the row says. There must be as many, and those that are not lent stay too.
+fn is_written_into(r: &[u8; 64], zones: &[u32], out: &mut [u8]) -> bool {
+    let n = room(r);
+    if out.len() < n {
+        return false;
+    }
+    let a = write(r, zones, &mut out[0..n]);
+    match a {
+        Checked::Fine => is_laid(r, out),
+        Checked::Refused(why) => Said::refused(why).is_expected(r) & is_lent(out, 0),
+    }
+}
+
+// With the first of these zones, and more bytes than an entry needs.
 fn is_written_with(r: &[u8; 64], zones: &[u32]) -> bool {
     let n = length(r);
     if zones.len() < n {
         return false;
     }
     let mut out = [LENT; 24];
-    let a = write(r, &zones[..n], &mut out);
-    match a {
-        Checked::Fine => is_laid(r, &out),
-        Checked::Refused(why) => Said::refused(why).is_expected(r) & is_lent(&out, 0),
-    }
+    is_written_into(r, &zones[0..n], &mut out)
 }
 
 fn is_written(r: &[u8; 64]) -> bool {

@@ -5,7 +5,7 @@ use crate::file::journal::{ANSWERS, expected, kept};
 use crate::file::{put, word};
 use crate::random::Random;
 use crate::rules::Said;
-use crate::rules::journal::{Entry, PLACES, of_file};
+use crate::rules::journal::{self as rule, Entry, PLACES, of_file};
 use std::fs;
 use std::path::Path;
 
@@ -29,12 +29,17 @@ pub fn write(folder: &Path) {
         println!("{}: {} bytes", folder.join(name).display(), bytes.len());
     }
     println!("{} positions, {} rows:", ANSWERS.len(), rows.len());
-    for (kind, number) in [(READ, 0), (READ, 50), (WRITE, 0), (WRITE, 50)] {
-        let of_kind =
-            rows.iter().map(bytes).filter(|row| row[0] == kind && word(row, 48) == number);
-        let count = of_kind.count();
-        println!("  {count} to {}, {number}", if kind == READ { "read" } else { "write" });
-        assert!(count >= 20, "too few rows");
+    for kind in [READ, WRITE] {
+        for number in [0, 46, 50] {
+            let of_kind = |row: &&Row| row.kind() == kind && row.number() == number;
+            let rooms: Vec<usize> = rows.iter().filter(of_kind).map(|row| row.room).collect();
+            let (count, roomless) = (rooms.len(), rooms.iter().filter(|&&room| room == 0).count());
+            let what = if kind == READ { "read" } else { "write" };
+            println!("  {count} to {what}, {number}; {roomless} of them into no room");
+            assert!(count >= 20, "too few rows");
+            // 50 comes before 46.
+            assert!(number != 50 || roomless >= 20, "too few rows without room");
+        }
     }
 }
 
@@ -51,9 +56,50 @@ fn journal() -> (Vec<u8>, Vec<u8>) {
     (positions, entries)
 }
 
-enum Row {
+#[derive(Debug)]
+enum What {
     Read(Vec<u8>),
     Write(Entry),
+}
+
+/// An entry, and how much is lent for the answer: places for its zones, or bytes.
+#[derive(Debug)]
+struct Row {
+    what: What,
+    room: usize,
+}
+
+/// More than any answer needs.
+const OF_ZONES: usize = PLACES + 1;
+const OF_BYTES: usize = 24;
+
+impl Row {
+    fn read(bytes: Vec<u8>) -> Self {
+        Self { what: What::Read(bytes), room: OF_ZONES }
+    }
+
+    fn write(entry: Entry) -> Self {
+        Self { what: What::Write(entry), room: OF_BYTES }
+    }
+
+    fn into(self, room: usize) -> Self {
+        Self { room, ..self }
+    }
+
+    fn kind(&self) -> u8 {
+        bytes(self)[0]
+    }
+
+    /// 0 if answered, else the refusal.
+    fn number(&self) -> u32 {
+        word(&bytes(self), ANSWER)
+    }
+
+    /// The number is read off document 02 by hand.
+    fn that_says(self, number: u32) -> Self {
+        assert_eq!(self.number(), number, "{self:?}");
+        self
+    }
 }
 
 const READ: u8 = 0;
@@ -65,21 +111,22 @@ const ANSWER: usize = 48;
 
 fn bytes(row: &Row) -> Vec<u8> {
     let mut out = vec![0; ROW];
-    match row {
-        Row::Read(bytes) => {
+    out[2] = row.room as u8;
+    match &row.what {
+        What::Read(bytes) => {
             (out[0], out[1]) = (READ, bytes.len() as u8);
             out[4..4 + bytes.len()].copy_from_slice(bytes);
-            let said = Entry::read(bytes, PLACES);
+            let said = rule::read(bytes, PLACES as u32, [2, row.room]);
             answer(&mut out, said.as_ref().map(numbers));
             let zones = said.map_or(Vec::new(), |entry| entry.zones);
             zones.iter().enumerate().for_each(|(i, &zone)| put(&mut out, ELSE + 4 * i, zone));
         }
-        Row::Write(entry) => {
+        What::Write(entry) => {
             (out[0], out[1]) = (WRITE, entry.zones.len() as u8);
             let lent = [entry.x as u32, entry.y as u32, entry.reason];
             let lent = lent.iter().chain(&entry.zones).enumerate();
             lent.for_each(|(i, &n)| put(&mut out, 4 + 4 * i, n));
-            let said: Said<Vec<u8>> = entry.write(PLACES);
+            let said: Said<Vec<u8>> = rule::written(entry, PLACES as u32, row.room);
             answer(&mut out, said.as_ref().map(|bytes| [0, 4, 8].map(|at| word(bytes, at))));
             put(&mut out, ELSE, said.map_or(0, |bytes| word(&bytes, 12)));
         }
@@ -180,12 +227,46 @@ fn rows() -> Vec<Row> {
     for (places, count, reason, of_a_form) in BY_HAND {
         let bytes = laid((1, -1), &places, count, reason);
         assert_eq!(Entry::read(&bytes, PLACES).is_ok(), of_a_form, "{places:?} {count} {reason}");
-        out.push(Row::Read(bytes));
+        out.push(Row::read(bytes));
     }
     out.extend(at_the_ends());
-    out.extend((0..=24).map(|length| Row::Read(of_length(length))));
+    out.extend((0..=24).map(|length| Row::read(of_length(length))));
     out.extend(to_write());
     out.extend(by_chance());
+    out.extend(read_into_rooms());
+    out.extend(written_into_rooms());
+    out
+}
+
+/// What is of no form is 50, also where no place is lent. Else 46 is said exactly where fewer places are lent than there are zones.
+fn read_into_rooms() -> Vec<Row> {
+    let mut out = Vec::new();
+    for (places, count, reason, of_a_form) in BY_HAND {
+        let bytes = laid((1, -1), &places, count, reason);
+        for room in 0..=if of_a_form { PLACES } else { 0 } {
+            let short = room < count.into();
+            let number = if !of_a_form { 50 } else { 46 * u32::from(short) };
+            out.push(Row::read(bytes.clone()).into(room).that_says(number));
+        }
+    }
+    let outside = laid((0, 9_000_001), &[5, 65_535, 65_535], 1, 0);
+    let others = [0, 15, 17, 24].map(of_length).into_iter().chain([outside]);
+    out.extend(others.map(|bytes| Row::read(bytes).into(0).that_says(50)));
+    out
+}
+
+/// What is of no form is 50, also where no byte is lent. Else 46 is said exactly where fewer are lent than an entry has.
+fn written_into_rooms() -> Vec<Row> {
+    let mut out = Vec::new();
+    for (zones, reason, of_a_form) in TO_WRITE {
+        let entry = Entry { x: 1, y: -1, zones: zones.to_vec(), reason };
+        let rooms: &[(usize, u32)] =
+            if of_a_form { &[(0, 46), (15, 46), (16, 0)] } else { &[(0, 50), (15, 50)] };
+        let row = |&(room, number)| Row::write(entry.clone()).into(room).that_says(number);
+        out.extend(rooms.iter().map(row));
+    }
+    let outside = Entry { x: 18_000_001, y: 0, zones: vec![5], reason: 0 };
+    out.push(Row::write(outside).into(0).that_says(50));
     out
 }
 
@@ -200,7 +281,7 @@ fn at_the_ends() -> Vec<Row> {
             places.resize(PLACES, 65_535);
             let bytes = laid(at, &places, zones.len() as u8, reason as u8);
             assert_eq!(Entry::read(&bytes, PLACES).is_ok(), inside || zones.is_empty());
-            out.extend([Row::Read(bytes), Row::Write(entry)]);
+            out.extend([Row::read(bytes), Row::write(entry)]);
         }
     }
     out
@@ -265,12 +346,12 @@ fn to_write() -> Vec<Row> {
     let row = |(zones, reason, of_a_form): (&[u32], u32, bool)| {
         let entry = Entry { x: 1, y: -1, zones: zones.to_vec(), reason };
         assert_eq!(entry.write(PLACES).is_ok(), of_a_form, "{zones:?} {reason}");
-        Row::Write(entry)
+        Row::write(entry)
     };
     TO_WRITE.map(row).into()
 }
 
-/// Entries of both forms to write, to read, and to read with a byte changed.
+/// Entries of both forms to write, to read, to read with a byte changed, and to read with a place too few for their zones.
 fn by_chance() -> Vec<Row> {
     let mut random = Random::new(26);
     let mut out = Vec::new();
@@ -284,7 +365,9 @@ fn by_chance() -> Vec<Row> {
         let bytes = entry.write(PLACES).expect("an entry");
         let mut changed = bytes.clone();
         changed[random.below(bytes.len())] ^= 1 << random.below(8);
-        out.extend([Row::Write(entry), Row::Read(bytes), Row::Read(changed)]);
+        let zones = entry.zones.len();
+        out.extend([Row::write(entry), Row::read(bytes.clone()), Row::read(changed)]);
+        out.extend(zones.checked_sub(1).map(|room| Row::read(bytes).into(room).that_says(46)));
     }
     out
 }
@@ -297,34 +380,43 @@ mod tests {
     #[test]
     fn the_rows_read_back() {
         for row in rows().iter().map(bytes) {
-            assert_eq!((row.len(), &row[2..4]), (64, &[0, 0][..]));
-            let count = usize::from(row[1]);
+            assert_eq!((row.len(), row[3]), (64, 0));
+            let (count, room) = (usize::from(row[1]), usize::from(row[2]));
             let (refusal, rest) = (word(&row, 48), [52, 56, 60].map(|at| word(&row, at)));
+            let nothing = |number| assert_eq!((refusal, rest, word(&row, 36)), (number, [0; 3], 0));
             match row[0] {
-                0 => match Entry::read(&row[4..4 + count], PLACES) {
+                0 => match rule::read(&row[4..4 + count], 3, [2, room]) {
                     Ok(entry) => {
                         assert_eq!((refusal, rest), (0, numbers(&entry)));
                         let zones: Vec<u32> = (0..3).map(|i| word(&row, 36 + 4 * i)).collect();
                         assert_eq!(zones[..entry.zones.len()], entry.zones);
                     }
-                    Err(number) => assert_eq!((refusal, rest, word(&row, 36)), (number, [0; 3], 0)),
+                    Err(number) => nothing(number),
                 },
                 _ => {
                     let zones = (0..count).map(|i| word(&row, 16 + 4 * i)).collect();
                     let [x, y] = [4, 8].map(|at| word(&row, at) as i32);
                     let entry = Entry { x, y, zones, reason: word(&row, 12) };
-                    match entry.write(PLACES) {
+                    match rule::written(&entry, 3, room) {
                         Ok(bytes) => {
                             let words = [0, 4, 8].map(|at| word(&bytes, at));
                             assert_eq!((refusal, rest), (0, words));
                             assert_eq!(word(&row, 36), word(&bytes, 12));
                         }
-                        Err(number) => {
-                            assert_eq!((refusal, rest, word(&row, 36)), (number, [0; 3], 0))
-                        }
+                        Err(number) => nothing(number),
                     }
                 }
             }
         }
+    }
+
+    /// The gate's list is the one that is written.
+    #[test]
+    fn the_kept_list_is_this_one() {
+        let folder = concat!(env!("CARGO_MANIFEST_DIR"), "/../crates/run_entries");
+        let list: Vec<u8> = rows().iter().flat_map(bytes).collect();
+        assert_eq!(fs::read(Path::new(folder).join("stdin")).unwrap(), list);
+        let says = format!("{} entries read or written as document 02 says\n", rows().len());
+        assert_eq!(fs::read_to_string(Path::new(folder).join("stdout")).unwrap(), says);
     }
 }

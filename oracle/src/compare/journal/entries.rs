@@ -93,7 +93,7 @@ impl Run {
         Ok(())
     }
 
-    /// Lists of up to five zones of every kind to write, into every room.
+    /// Lists of up to four zones of every kind to write, and one of five: into every room where they can be written, else into none.
     fn telling_zones(&mut self) -> Held<()> {
         let reasons: Vec<u32> = REASONS.into_iter().map(u32::from).chain(BEYOND).collect();
         for count in 0..=4 {
@@ -107,6 +107,7 @@ impl Run {
             }
         }
         let five = (0..5).map(|i| 5 * i).collect();
+        self.tally.add("entries that tell", 1);
         self.write_into_rooms(&Entry { x: 1, y: -1, zones: five, reason: 0 })
     }
 

@@ -1,6 +1,8 @@
 //! The program `journal`: index files and positions go through it, and what it writes is what the export and the rules say. It is for
 //! x86-64; under an emulator it is started as cargo starts one.
 
+mod relatives;
+
 use super::*;
 use crate::compare::Tally;
 use crate::port::journal::PORT;
@@ -22,6 +24,8 @@ const FILES: usize = 60;
 const POSITIONS: usize = 60;
 /// More positions than any buffer holds.
 const LONG: usize = 30_000;
+/// Opening refuses with the numbers from 1 up to this one.
+const NUMBERS: usize = 34;
 
 type Points = Vec<(i32, i32)>;
 
@@ -85,6 +89,17 @@ fn entries_of(file: &[u8], points: &[(i32, i32)]) -> Held<Vec<u8>> {
     Ok(out)
 }
 
+/// The first two files of each refusal, which must be there.
+fn of_each_refusal(cases: &[(u32, Vec<u8>)]) -> Vec<&[u8]> {
+    let two = |number: u32| {
+        let all = cases.iter().filter(|(n, _)| *n == number);
+        let two: Vec<&[u8]> = all.take(2).map(|(_, file)| &file[..]).collect();
+        assert_eq!(two.len(), 2, "files of refusal {number}");
+        two
+    };
+    (1..=NUMBERS as u32).flat_map(two).collect()
+}
+
 struct Program<'a> {
     path: &'a Path,
     random: Random,
@@ -139,12 +154,19 @@ impl Program<'_> {
         differs(&ran, entries, due).map_or(Ok(()), |why| Err(format!("{kind}: {why}")))
     }
 
-    /// An index that the program reads, whether it opens or not.
-    fn index(&mut self, kind: &str, file: &[u8], points: &[(i32, i32)], piece: usize) -> Held<()> {
+    /// An index that the program reads, whether it opens or not; its entries.
+    fn index(
+        &mut self,
+        kind: &str,
+        file: &[u8],
+        points: &[(i32, i32)],
+        piece: usize,
+    ) -> Held<Vec<u8>> {
         assert!(file.len() <= LONGEST, "an index that is too large");
         std::fs::write(INDEX, file).expect("a place for the index");
         let entries = entries_of(file, points)?;
-        self.judge(kind, INDEX.as_ref(), &bytes_of(points), piece, (&entries, false))
+        self.judge(kind, INDEX.as_ref(), &bytes_of(points), piece, (&entries, false))?;
+        Ok(entries)
     }
 
     fn points(&mut self, file: &[u8], most: usize) -> Points {
@@ -182,12 +204,9 @@ impl Program<'_> {
 
     /// Two files of each refusal: it stands in every entry, also outside the domain.
     fn refused(&mut self) -> Held<()> {
-        let cases = file::cases();
-        for number in 1..=34 {
-            for (_, file) in cases.iter().filter(|(n, _)| *n == number).take(2) {
-                let points = self.points(file, 6);
-                self.index("files that do not open", file, &points, 8)?;
-            }
+        for file in of_each_refusal(&file::cases()) {
+            let points = self.points(file, 6);
+            self.index("files that do not open", file, &points, 8)?;
         }
         Ok(())
     }
@@ -264,6 +283,7 @@ pub fn run(path: &Path, seed: u64) {
     let mut program = Program { path, random, tally, statuses: Vec::new() };
     let said = program
         .files()
+        .and_then(|()| program.relatives())
         .and_then(|()| program.refused())
         .and_then(|()| program.lengths())
         .and_then(|()| program.inputs());
@@ -297,6 +317,24 @@ mod tests {
         assert!(found(ran(&entries[..16], "", 0), false), "an entry less");
         assert!(found(ran(&[&entries[..], &[0]].concat(), "", 0), false), "a byte more");
         assert!(found(ran(&[0; 32], "", 0), false), "other bytes");
+    }
+
+    /// Each refusal has two files; where one has fewer, that is told.
+    #[test]
+    fn every_refusal_has_its_files() {
+        let mut cases = file::cases();
+        let files = of_each_refusal(&cases);
+        let numbers = files.iter().map(|file| rules::open(file, &[]).err());
+        let expected = (1..=34).flat_map(|number| [Some(number); 2]);
+        assert!(numbers.eq(expected));
+        let mut seen = 0;
+        cases.retain(|(number, _)| {
+            *number != 34 || {
+                seen += 1;
+                seen == 1
+            }
+        });
+        assert!(std::panic::catch_unwind(|| of_each_refusal(&cases).len()).is_err());
     }
 
     /// The entries that are expected are the exports', for files that open and for those that do not.
