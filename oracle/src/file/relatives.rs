@@ -219,7 +219,7 @@ mod tests {
             assert!(file.len() <= longest && (3..=wish.most).contains(&zones.len()));
             let small = Judge::plain(rules::open(&file, &[]).ok().unwrap(), &[]);
             assert_eq!(small.opened.grid.is_some(), wish.grid);
-            let own = |zone: usize| small.opened.name(zone as u64).unwrap();
+            let text = |(start, length): (u64, u64)| start as usize..(start + length) as usize;
             let groups = groups_of(&small.opened).unwrap();
             shared += groups.iter().map(BTreeSet::len).sum::<usize>();
             shared -= small.opened.groups() as usize;
@@ -227,9 +227,8 @@ mod tests {
                 (0..small.opened.groups()).flat_map(|i| points_of(&small.opened, i).unwrap());
             let points: Vec<(i32, i32)> = points.flatten().collect();
             for (place, &zone) in zones.iter().enumerate() {
-                let (start, length) = own(place);
-                let name = &file[start as usize..(start + length) as usize];
-                assert_eq!(name, family.name(zone).unwrap());
+                let own = small.opened.name(place as u64).map(|name| &file[text(name)]);
+                assert_eq!(own, family.large.name(zone).map(|name| &sample[text(name)]));
                 let (a, b) = (zone_of(&family.large, zone), zone_of(&small.opened, place as u64));
                 let turned = |zone: Zone| -> Vec<bool> {
                     zone.iter().flatten().flatten().map(|op| op.turned).collect()

@@ -415,7 +415,8 @@ mod tests {
     fn the_kept_list_is_this_one() {
         let folder = concat!(env!("CARGO_MANIFEST_DIR"), "/../crates/run_entries");
         let list: Vec<u8> = rows().iter().flat_map(bytes).collect();
-        assert_eq!(fs::read(Path::new(folder).join("stdin")).unwrap(), list);
+        let kept = fs::read(Path::new(folder).join("stdin")).unwrap();
+        assert!(kept == list, "stdin of run_entries is another list");
         let says = format!("{} entries read or written as document 02 says\n", rows().len());
         assert_eq!(fs::read_to_string(Path::new(folder).join("stdout")).unwrap(), says);
     }
