@@ -5,4 +5,5 @@ pub mod Along
 pub mod Decode
 pub mod Scan
 pub mod Trace
+pub mod Count
 pub mod Steps

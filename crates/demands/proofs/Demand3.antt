@@ -9,7 +9,7 @@ use Rattle.answer.specs.Answers.{ok}
 use Rattle.shapes.specs.Shapes.{zoneIn}
 use Rattle.opened.specs.declared.Opened.{Opened}
 use Rattle.reader_zones.specs.Zones.{containsAt}
-use Rattle.reader_exact.specs.Directories.{directories}
+use Rattle.directories.specs.Directories.{directories}
 use Rattle.reader_exact.proofs.Exact.{contains-exact}
 use Rattle.tzb.specs.Opening.{openOf}
 use Rattle.tzb.specs.FullCheck.{fullCheckOf}

@@ -26,9 +26,9 @@ use Rattle.reader_ways.specs.Ways.{plain}
 use Rattle.reader_zones.specs.Zones.{zoneOf}
 use Rattle.reader_order.specs.Order.{ordered}
 use Rattle.reader_lookup.specs.Asking.{scaled, unlooked, lookupOf}
-use Rattle.reader_exact.specs.Directories.{directories}
+use Rattle.directories.specs.Directories.{directories}
 use Rattle.reader_exact.specs.Sound.{Sound}
-use Rattle.reader_exact.proofs.Chunks.{first-given}
+use Rattle.directories.proofs.Held.{first-given}
 use Rattle.reader_exact.proofs.Zones.{zone-walk}
 use Rattle.tzb.specs.Opening.{openOf}
 use Rattle.tzb.specs.FullCheck.{fullCheckOf}

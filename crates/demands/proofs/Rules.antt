@@ -14,11 +14,11 @@ use Rattle.opened.specs.declared.Opened.{Opened}
 use Rattle.reader_records.specs.declared.RingRecord.{RingRecord}
 use Rattle.reader_records.specs.declared.GroupRecord.{GroupRecord}
 use Rattle.reader_records.specs.Records.{ringAt, groupAt, countRule}
-use Rattle.reader_exact.specs.Directories as D
-use Rattle.reader_exact.specs.Directories.{directories, zoneRecord, polyRecord, ringRecord, groupRecord, chunkShape}
+use Rattle.directories.specs.Directories as D
+use Rattle.directories.specs.Directories.{directories, zoneRecord, polyRecord, ringRecord, groupRecord, chunkShape}
 use Rattle.reader_exact.specs.Sound.{Sound}
 use Rattle.reader_exact.proofs.Given.{zone-is, zone-ruled, poly-is, poly-ruled, ring-is, ring-ruled, op-is, op-named, group-is, group-ruled}
-use Rattle.reader_exact.proofs.Chunks.{Holds, holds, first-given}
+use Rattle.directories.proofs.Held.{Holds, holds, first-given}
 use Rattle.reader_check.proofs.Facts as Facts
 use Rattle.tzb.proofs.Given.{group-answered}
 use Rattle.demands.specs.Accepted.{Accepted}

@@ -7,8 +7,8 @@ use Rattle.answer.specs.Answers.{ok, _then_}
 use Rattle.opened.specs.declared.Opened.{Opened}
 use Rattle.reader_records.specs.declared.GroupRecord.{GroupRecord}
 use Rattle.reader_records.specs.Records.{groupIndex, opAt, groupAt}
-use Rattle.reader_exact.specs.Directories as D
-use Rattle.reader_exact.specs.Directories.{opWord, groupRecord}
+use Rattle.directories.specs.Directories as D
+use Rattle.directories.specs.Directories.{opWord, groupRecord}
 use Rattle.basics.specs.Total.{total}
 use Rattle.answer.proofs.AnswersLaws.{then-inv, ok-inv}
 use Rattle.reader_cover.specs.Cover.{groupOfOp, sumOfOps}

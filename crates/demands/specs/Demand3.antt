@@ -18,7 +18,7 @@ use Rattle.plane.specs.declared.I32Point.{I32Point}
 use Rattle.answer.specs.Answers.{ok}
 use Rattle.opened.specs.declared.Opened.{Opened}
 use Rattle.reader_zones.specs.Zones.{containsAt}
-use Rattle.reader_exact.specs.Directories.{directories}
+use Rattle.directories.specs.Directories.{directories}
 use Rattle.tzb.specs.Opening.{openOf}
 use Rattle.tzb.specs.FullCheck.{fullCheckOf}
 use Rattle.demands.specs.Accepted.{Accepted}

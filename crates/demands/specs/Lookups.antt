@@ -23,7 +23,7 @@ use Rattle.reader_named.specs.Asked.{nameOr}
 use Rattle.reader_cells.specs.Asked.{candidateAt}
 use Rattle.reader_order.specs.Order.{ordered}
 use Rattle.reader_lookup.specs.Asking.{unlooked, lookupOf}
-use Rattle.reader_exact.specs.Directories.{directories}
+use Rattle.directories.specs.Directories.{directories}
 use Rattle.replies.specs.Replies.{Chosen, none, all, listed, Sought, nowhere, inZone}
 use Rattle.reader_listing.specs.All.{listOf}
 use Rattle.shapes.specs.Layout.{zoneAt}

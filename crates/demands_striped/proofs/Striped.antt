@@ -24,7 +24,7 @@ use Rattle.stripes.specs.Numbers.{numbers, needOf}
 use Rattle.stripes.proofs.NeedLaws.{need-is}
 use Rattle.reader_stripes.specs.Building.{boxedGroups, stripesNeed}
 use Rattle.reader_check.proofs.Facts.{group-covers}
-use Rattle.reader_exact.specs.Directories.{directories}
+use Rattle.directories.specs.Directories.{directories}
 use Rattle.reader_same.specs.Same.{Built}
 use Rattle.reader_same.proofs.Ruled.{group-fits}
 use Rattle.reader_same.proofs.Builds.{Under, groups-given, need-given, stripes-given, need-only}

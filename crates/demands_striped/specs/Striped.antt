@@ -16,7 +16,7 @@ use Rattle.answer.specs.Answers.{ok, refused, need}
 use Rattle.opened.specs.declared.Opened.{Opened}
 use Rattle.replies.specs.Replies.{accepted}
 use Rattle.shapes.specs.Layout.{zoneAt}
-use Rattle.reader_exact.specs.Directories.{directories}
+use Rattle.directories.specs.Directories.{directories}
 use Rattle.reader_stripes.specs.Building.{stripesNeed, stripesOf}
 use Rattle.reader_ways.specs.Ways.{striped}
 use Rattle.reader_zones.specs.Zones.{containsBy}

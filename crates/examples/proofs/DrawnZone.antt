@@ -35,7 +35,7 @@ use Rattle.reader_records.specs.Records as S
 use Rattle.reader_dirs.specs.Dirs as D
 use Rattle.reader_chunks.specs.Chunks.{startOf, endOf, span, bytesOf, firstIn, firstAt, chunkPoints}
 use Rattle.reader_zones.specs.Zones.{containsAt}
-use Rattle.reader_exact.specs.Directories.{zoneRecord, polyRecord, ringRecord, opWord, groupRecord, chunkShape, directories}
+use Rattle.directories.specs.Directories.{zoneRecord, polyRecord, ringRecord, opWord, groupRecord, chunkShape, directories}
 use Rattle.reader_cover.specs.Cover.{pointsAdd, chunkCovers, jointCovers, jointsCover, chunkUnder, groupUnder, ringUnder, polyUnder, endsFit, groupCovers, ringCovers, polyCovers, zoneCovers, groupOfOp, sumOfOps}
 use Rattle.reader_check.specs.FullCheck.{met, allMet, recordsHold, chunksDecode, chunkBoxesCover, groupsCover, boxesCover, rule, lowestBroken}
 use Rattle.reader_lookup.specs.Asking.{scaled, lookupOf}

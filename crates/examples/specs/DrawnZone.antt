@@ -4,7 +4,7 @@ use Prim.Native.Nat.{ℕ}
 use mathlib.Core.List.{List, [], _∷_, _++_}
 use lib.IntN.{pos}
 use Rattle.opened.specs.declared.Opened.{Opened}
-use Rattle.reader_exact.specs.Example.{bytes}
+use Rattle.directories.specs.Example.{bytes}
 
 -- the header, from 0 on
 abbrev header : List ℕ

@@ -30,7 +30,7 @@ use Rattle.opened.specs.declared.Opened.{Opened}
 use Rattle.opened.specs.Widths.{listWide}
 use Rattle.reader_records.specs.declared.ListRecord.{ListRecord}
 use Rattle.reader_records.specs.Records.{recordAt, ruled, listIn, listRule, listAt}
-use Rattle.reader_exact.specs.Directories.{directories, zoneRecord, polyRecord}
+use Rattle.directories.specs.Directories.{directories, zoneRecord, polyRecord}
 use Rattle.reader_exact.specs.Sound.{Sound}
 use Rattle.reader_exact.proofs.Given.{zone-is, zone-ruled, poly-is, poly-ruled}
 use Rattle.reader_exact.proofs.Exact.{sound-named, sound-domain}

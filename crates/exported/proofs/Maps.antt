@@ -23,7 +23,7 @@ use Rattle.geojson.specs.Text.{mapText}
 use Rattle.geojson.specs.Reading.{readMap}
 use Rattle.geojson.proofs.Back.{map-back}
 use Rattle.opened.specs.declared.Opened.{Opened}
-use Rattle.reader_exact.specs.Directories.{directories}
+use Rattle.directories.specs.Directories.{directories}
 use Rattle.reader_map.specs.Map.{zoneText, inRoom}
 use Rattle.replies.specs.Replies.{Outcome, accepted, refusedBy, brokenAt, Drawn, drawn, undrawn, unsound}
 use Rattle.tzb.specs.Opening.{openOf, openedIs}

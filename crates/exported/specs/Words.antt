@@ -6,7 +6,7 @@ use mathlib.Core.List.{List}
 use lib.IntN.{ℤ, negsuc}
 use lib.ListN.{getD}
 use Rattle.shapes.specs.Shapes.{Zone}
-use Rattle.reader_exact.specs.Directories.{directories}
+use Rattle.directories.specs.Directories.{directories}
 use Rattle.tzb.specs.Opening.{openedIs}
 use Rattle.shapes.specs.Layout.{zoneAt}
 

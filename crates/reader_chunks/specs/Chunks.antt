@@ -16,6 +16,7 @@ use Rattle.chunks.specs.Points.{firstOf}
 use Rattle.chunks.specs.Scan.{scanOf}
 use Rattle.chunks.specs.Decode.{pointsOf, filled}
 use Rattle.chunks.specs.Trace.{traceOf}
+use Rattle.chunks.specs.Count.{countOf}
 use Rattle.opened.specs.declared.Opened.{Opened}
 use Rattle.reader_records.specs.declared.ChunkRecord.{ChunkRecord}
 use Rattle.reader_records.specs.Records.{chunkAt}
@@ -64,6 +65,10 @@ scanIn s n p a e = span s a e yields λ b. scanOf b n p
 unfoldable pub traceIn : List ℕ → ℕ → BBox → ℕ → ℕ → Answer (Bool × I32Point)
 traceIn s n b a e = span s a e then λ c. traceOf c n b
 
+-- the segments of the n points in the bytes from b to e, after the point a and with k counted
+unfoldable pub countIn : List ℕ → ℕ → I32Point → ℕ → ℕ → ℕ → Answer (ℕ × I32Point)
+countIn s n a k b e = span s b e then λ c. countOf c n a k
+
 -- ---- a chunk by its number
 -- its first point alone
 unfoldable pub firstAt : Opened → List ℕ → ℕ → Answer I32Point
@@ -72,6 +77,10 @@ firstAt o s i = chunkAt o s i then λ v. endOf o s i then λ e. firstIn s (start
 -- all its points, against its own box: 34, 37, 44, then as a chunk is scanned whole, 32 for a count of 0 and the rest
 unfoldable pub traceAt : Opened → List ℕ → ℕ → Answer (Bool × I32Point)
 traceAt o s i = chunkAt o s i then λ v. endOf o s i then λ e. traceIn s (v .count) (v .bbox) (startOf o v) e
+
+-- its segments counted, after the point a and with k counted: refused as the trace is
+unfoldable pub countAt : Opened → List ℕ → ℕ → I32Point → ℕ → Answer (ℕ × I32Point)
+countAt o s i a k = chunkAt o s i then λ v. endOf o s i then λ e. countIn s (v .count) a k (startOf o v) e
 
 -- all its points: 34, 32 for a count of 0, then 37 and the rest
 unfoldable pub chunkPoints : Opened → List ℕ → ℕ → Answer (List I32Point)

@@ -1,12 +1,12 @@
-// A chunk's bytes in the file: its range, its first point, the scan of its segments, the trace of a box, and its points decoded into lent numbers.
+// A chunk's bytes in the file: its range, its first point, the scan of its segments, their count, the trace of a box, and its points decoded into lent numbers.
 ghost use mathlib.Core.Path.{_≡_};
 ghost use Prim.Native.Nat.{_+_, _*_, _≤_, _<_};
 ghost use lib.ListN.{length};
 ghost use Rattle.answer.specs.Answers.{checkedTold, outcome};
 ghost use Rattle.chunks.specs.Decode.{filled};
-ghost use Rattle.reader_chunks.specs.Chunks.{toldOffset, toldPoint, startOf, endOf, span, firstIn, scanIn, traceIn, firstAt, traceAt, decodeBy, decodeAt, decodedAt};
+ghost use Rattle.reader_chunks.specs.Chunks.{toldOffset, toldPoint, startOf, endOf, span, firstIn, scanIn, traceIn, countIn, firstAt, traceAt, countAt, decodeBy, decodeAt, decodedAt};
 ghost use Rattle.reader_chunks.specs.Steps.{pointsIn};
-ghost use Rattle.tzb_core.specs.Reading.{scanned, toldTrace};
+ghost use Rattle.tzb_core.specs.Reading.{scanned, toldTrace, toldCount};
 use answer::Checked;
 use answer::Refusal;
 use boxes::BBox;
@@ -16,6 +16,7 @@ use plane::Point;
 use reader_records::ChunkAt;
 use reader_records::ChunkRecord;
 use tzb_core::chunk;
+use tzb_core::chunk::Counted;
 use tzb_core::chunk::Scan;
 use tzb_core::chunk::Spotted;
 use tzb_core::chunk::Traced;
@@ -118,6 +119,18 @@ pub fn trace_in(s: &[u8], count: u16, b: BBox, a: usize, e: usize) -> Traced
     chunk::trace_chunk(bytes, count, b)
 }
 
+// The segments of the points in the bytes from a to e, after the point before them and with so many counted.
+fn count_in(s: &[u8], count: u16, before: I32Point, sides: u32, a: usize, e: usize) -> Counted
+    ensures { λ r. ⌜ toldCount r ≡ countIn (now (s .entry)) count before sides a e ⌝ }
+{
+    let c = check_span(s, a, e);
+    if let Checked::Refused(k) = c {
+        return Counted::Refused(k);
+    }
+    let b = &s[a..e];
+    chunk::count_chunk(b, count, before, sides)
+}
+
 // The first point alone, of chunk `index`.
 pub fn first_at(o: Opened, s: &[u8], index: usize) -> PointAt
     ensures { λ r. ⌜ toldPoint r ≡ firstAt o (now (s .entry)) index ⌝ }
@@ -147,6 +160,23 @@ pub fn trace_at(o: Opened, s: &[u8], index: usize) -> Traced
             match u {
                 Offset::Refused(k) => Traced::Refused(k),
                 Offset::At(e) => trace_in(s, v.count, v.bbox, start_of(o, v), e),
+            }
+        }
+    }
+}
+
+// The segments of chunk `index`, after the point before it and with so many counted.
+pub fn count_at(o: Opened, s: &[u8], index: usize, before: I32Point, sides: u32) -> Counted
+    ensures { λ r. ⌜ toldCount r ≡ countAt o (now (s .entry)) index before sides ⌝ }
+{
+    let t = reader_records::chunk_at(o, s, index);
+    match t {
+        ChunkAt::Refused(k) => Counted::Refused(k),
+        ChunkAt::At(v) => {
+            let u = end_of(o, s, index);
+            match u {
+                Offset::Refused(k) => Counted::Refused(k),
+                Offset::At(e) => count_in(s, v.count, before, sides, start_of(o, v), e),
             }
         }
     }

@@ -1,10 +1,9 @@
--- A chunk of a sound file: its bytes decode to the points of its shape, and its walk over bytes is the walk over its shape.
+-- A chunk of a sound file: it lies in the domain, and its walk over bytes is the walk over its shape.
 -- Assumes nothing.
 use Prim.Native.Nat.{ℕ, _+_, _<_}
 use mathlib.Core.Path.{_≡_, refl, sym, ap, _∙_}
 use mathlib.Core.Bool.{Bool, true, false}
 use mathlib.Core.List.{List, [], _∷_}
-use lib.Dec.{ltb}
 use Rattle.basics.specs.Truth.{and-i}
 use Rattle.plane.specs.declared.Point.{Point}
 use Rattle.plane.specs.declared.I32Point.{I32Point}
@@ -12,70 +11,27 @@ use Rattle.plane.specs.Sight.{Sight}
 use Rattle.plane.specs.Tally.{none}
 use Rattle.plane.specs.Lines.{every, lastFrom, chain}
 use Rattle.plane.specs.Domain.{inDomain}
-use Rattle.answer.specs.Answers.{ok, _then_, need, Given}
+use Rattle.answer.specs.Answers.{ok}
 use Rattle.answer.specs.Walks.{done}
 use Rattle.boxes.specs.declared.BBox.{BBox}
 use Rattle.boxes.specs.Box.{boxInDomain, relevant, right}
 use Rattle.rays.specs.Ray.{rayOf, parityOf}
 use Rattle.chunks.specs.Scan.{past}
-use Rattle.chunks.specs.Decode.{pointsOf}
-use Rattle.chunks.proofs.Neighbours.{scan-list, first-list, domain-list, never-empty}
+use Rattle.chunks.proofs.Neighbours.{scan-list, domain-list}
 use Rattle.shapes.specs.Shapes.{Chunk, chunkInDomain}
 use Rattle.shapes.specs.Walk.{floatTests, chunkWalk}
 use Rattle.opened.specs.declared.Opened.{Opened}
 use Rattle.opened.specs.Widths.{chunkWide}
 use Rattle.reader_records.specs.declared.ChunkRecord.{ChunkRecord}
 use Rattle.reader_records.specs.Records.{recordAt, chunkIn, chunkRule, chunkAt}
-use Rattle.reader_chunks.specs.Chunks.{startOf, endOf, span, bytesOf, firstIn, scanIn, firstAt, chunkPoints}
+use Rattle.reader_chunks.specs.Chunks.{startOf, firstIn, scanIn}
 use Rattle.reader_groups.specs.Groups.{nextFirst, skipTo, scanTo, joinedTo, lastIn, lastAt}
-use Rattle.reader_exact.specs.Directories.{chunkShape, shapeFrom}
+use Rattle.directories.specs.Directories.{chunkShape}
+use Rattle.directories.proofs.Held.{Holds, held-first}
 use Rattle.reader_exact.proofs.Walks.{past-go}
 use Rattle.reader_exact.proofs.Given.{ruled-kept}
-use Rattle.answer.proofs.AnswersLaws.{then-inv, need-inv, ok-inv}
-use Rattle.reader_chunks.proofs.ChunksLaws.{end-is, first-is, scan-is}
-
--- chunk i of the file: its record, where it ends, and its bytes, which decode to the points of its shape
-pub record Holds (o : Opened) (s : List ℕ) (i : ℕ) : Type 0 where
-  pub found : ChunkRecord
-  pub there : ok found ≡ chunkAt o s i
-  pub box-is : found .bbox ≡ chunkShape o s i .box
-  pub end : ℕ
-  pub ends : ok end ≡ endOf o s i
-  pub bytes : List ℕ
-  pub spans : ok bytes ≡ span s (startOf o found) end
-  pub decodes : ok (chunkShape o s i .first ∷ chunkShape o s i .rest) ≡ pointsOf bytes (found .count)
-  pub points : ok (chunkShape o s i .first ∷ chunkShape o s i .rest) ≡ chunkPoints o s i
-
--- the shape is made of the record and the points
-pub shape-is : (o : Opened) (s : List ℕ) (i : ℕ) (l : List I32Point) (v : ChunkRecord) → ok l ≡ chunkPoints o s i → ok v ≡ chunkAt o s i → chunkShape o s i ≡ shapeFrom (v .bbox) l
-unfolding chunkShape
-shape-is o s i l v p t = rw (← t, ← p)
-
-pub holds : (o : Opened) (s : List ℕ) (i : ℕ) → Given (chunkPoints o s i) → Holds o s i
-unfolding chunkPoints bytesOf
-holds o s i g =
-    let a = then-inv (chunkAt o s i) (λ v. need 32 (ltb 0 (v .count)) (bytesOf o s i v then λ b. pointsOf b (v .count))) (g .value) (g .is) in
-    let v = a .0 in
-    let b = need-inv 32 (ltb 0 (v .count)) (bytesOf o s i v then λ b. pointsOf b (v .count)) (g .value) (a .2) in
-    let c = then-inv (bytesOf o s i v) (λ b. pointsOf b (v .count)) (g .value) (b .1) in
-    let d = then-inv (endOf o s i) (λ e. span s (startOf o v) e) (c .0) (c .1) in
-    make (g .value) (g .is) v (a .1) (d .0) (d .1) (c .0) (d .2) (c .2)
-  where
-    make : (l : List I32Point) → ok l ≡ chunkPoints o s i → (v : ChunkRecord) → ok v ≡ chunkAt o s i → (e : ℕ) → ok e ≡ endOf o s i → (b : List ℕ) → ok b ≡ span s (startOf o v) e → ok l ≡ pointsOf b (v .count) → Holds o s i
-    make [] p v t e m b n d = absurd (never-empty b (v .count) d)
-    make (q ∷ l) p v t e m b n d =
-        let shape : chunkShape o s i ≡ shapeFrom (v .bbox) (q ∷ l) = shape-is o s i (q ∷ l) v p t in
-        record {
-          found = v;
-          there = t;
-          box-is = sym (ap (λ (c : Chunk). c .box) shape);
-          end = e;
-          ends = m;
-          bytes = b;
-          spans = n;
-          decodes = ap (λ (c : Chunk). ok (c .first ∷ c .rest)) shape ∙ d;
-          points = ap (λ (c : Chunk). ok (c .first ∷ c .rest)) shape ∙ p;
-        }
+use Rattle.answer.proofs.AnswersLaws.{ok-inv}
+use Rattle.reader_chunks.proofs.ChunksLaws.{end-is, scan-is}
 
 -- the segments between the points of a chunk, and its last point
 abbrev through : Point → Chunk → Sight
@@ -93,18 +49,6 @@ module _ (o : Opened) (s : List ℕ) (i : ℕ) (h : Holds o s i) where
       and-i (boxInDomain (c .box)) (every inDomain (c .first ∷ c .rest))
       (ap boxInDomain (sym (h .box-is)) ∙ ruled-kept (recordAt s (o .chunks) chunkWide i) (chunkIn s) chunkRule 34 (h .found) (h .there))
       (domain-list (h .bytes) (h .found .count) (c .first) (c .rest) (h .decodes))
-
-  -- its first point, read alone
-  held-first : ok (chunkShape o s i .first) ≡ firstIn s (startOf o (h .found)) (h .end)
-  held-first =
-      let c = chunkShape o s i in
-      let k = first-list (h .bytes) (h .found .count) (c .first) (c .rest) (h .decodes) in
-      first-is s (startOf o (h .found)) (h .end) (h .bytes) (h .spans) (c .first) (k .0) (k .1)
-
-  -- and asked for by the chunk's number
-  pub first-given : ok (chunkShape o s i .first) ≡ firstAt o s i
-  unfolding firstAt
-  first-given = rw (← h .there, ← h .ends) held-first
 
 module _ (o : Opened) (s : List ℕ) (i : ℕ) (h : Holds o s i) where
   abbrev c : Chunk

@@ -14,10 +14,11 @@ use Rattle.shapes.specs.Layout.{Named, Covered, Domain, zoneAt}
 use Rattle.shapes.proofs.File.{float-file-exact, file-elsewhere}
 use Rattle.opened.specs.declared.Opened.{Opened}
 use Rattle.reader_zones.specs.Zones.{zoneOf, containsBy, containsAt}
-use Rattle.reader_exact.specs.Directories.{directories}
+use Rattle.directories.specs.Directories.{directories}
 use Rattle.reader_exact.specs.Sound.{Sound}
 use Rattle.reader_exact.proofs.Given.{zone-ruled, poly-ruled, ring-ruled, op-named, group-ruled, entry-in, exit-in}
-use Rattle.reader_exact.proofs.Chunks.{holds, chunk-in}
+use Rattle.directories.proofs.Held.{holds}
+use Rattle.reader_exact.proofs.Chunks.{chunk-in}
 use Rattle.reader_exact.proofs.Zones.{zone-walk}
 use Rattle.plane.specs.Places.{pointOf}
 

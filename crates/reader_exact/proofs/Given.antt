@@ -14,7 +14,7 @@ use Rattle.shapes.specs.Layout.{Span, Names}
 use Rattle.opened.specs.declared.Opened.{Opened}
 use Rattle.reader_records.specs.Records.{recordAt, ruled, listIn, listRule, listAt, polyAt, ringIn, ringRule, ringAt, opRule, opAt, groupIn, groupRule, groupAt, fitsBelow, tzAt}
 use Rattle.opened.specs.Widths.{listWide, ringWide, opWide, groupWide}
-use Rattle.reader_exact.specs.Directories.{noList, noRing, noGroup, listSpan, ringSpan, groupSpan, zoneRecord, polyRecord, ringRecord, opWord, opGroup, groupRecord}
+use Rattle.directories.specs.Directories.{noList, noRing, noGroup, listSpan, ringSpan, groupSpan, zoneRecord, polyRecord, ringRecord, opWord, opGroup, groupRecord}
 use Rattle.reader_exact.specs.Sound.{Sound}
 use Rattle.answer.proofs.AnswersLaws.{zero-one, then-inv, need-inv, ok-inv}
 use Rattle.reader_records.proofs.RecordsLaws.{within-some, within-fits, group-ends}

@@ -22,11 +22,12 @@ use Rattle.reader_groups.specs.Groups.{passAt, chunksFrom, groupScan}
 use Rattle.reader_ways.specs.Ways.{plain}
 use Rattle.reader_ways.proofs.WaysLaws.{by-plain}
 use Rattle.reader_rings.specs.Rings.{groupWalk}
-use Rattle.reader_exact.specs.Directories.{groupRecord, chunkShape, directories}
+use Rattle.directories.specs.Directories.{groupRecord, chunkShape, directories}
 use Rattle.reader_exact.specs.Sound.{Sound}
 use Rattle.reader_exact.proofs.Walks.{past-go, past-done}
 use Rattle.reader_exact.proofs.Given.{group-ruled}
-use Rattle.reader_exact.proofs.Chunks.{Holds, holds, last-walk, joined-walk}
+use Rattle.directories.proofs.Held.{Holds, holds}
+use Rattle.reader_exact.proofs.Chunks.{last-walk, joined-walk}
 
 module _ (o : Opened) (s : List ℕ) (p : Point) where
   -- a chunk that another follows, and what follows it

@@ -29,7 +29,7 @@ use Rattle.reader_ways.specs.Ways.{plain}
 use Rattle.reader_rings.specs.declared.Turned.{Turned}
 use Rattle.reader_rings.specs.declared.Round.{Round}
 use Rattle.reader_rings.specs.Rings.{turnOf, turnedAt, jointOf, groupWalk, turnWalk, opStep, opsFrom, ringEnd, ringRest, ringOf, ringContains}
-use Rattle.reader_exact.specs.Directories.{ringRecord, opWord, opGroup, opPoints, groupRecord, directories}
+use Rattle.directories.specs.Directories.{ringRecord, opWord, opGroup, opPoints, groupRecord, directories}
 use Rattle.reader_exact.specs.Sound.{Sound}
 use Rattle.reader_exact.proofs.Walks.{past-go, past-done, go-assoc, past-verdict}
 use Rattle.reader_exact.proofs.Given.{ring-is, ring-ruled, op-is, op-named, group-is}

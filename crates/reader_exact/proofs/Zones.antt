@@ -16,7 +16,7 @@ use Rattle.opened.specs.declared.Opened.{Opened}
 use Rattle.reader_rings.specs.Rings.{ringContains}
 use Rattle.reader_ways.specs.Ways.{plain}
 use Rattle.reader_zones.specs.Zones.{polyOf, zoneBy, zoneOf, firstSo}
-use Rattle.reader_exact.specs.Directories.{zoneRecord, polyRecord, directories}
+use Rattle.directories.specs.Directories.{zoneRecord, polyRecord, directories}
 use Rattle.reader_exact.specs.Sound.{Sound}
 use Rattle.reader_exact.proofs.Given.{zone-is, zone-ruled, poly-is, poly-ruled}
 use Rattle.reader_exact.proofs.Rings.{ring-walk}

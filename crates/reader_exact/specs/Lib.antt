@@ -1,4 +1,3 @@
--- From bytes to shapes: the directories that a file holds, and when they are sound.
-pub mod Directories
+-- From bytes to shapes: when the directories that a file holds are sound.
 pub mod Sound
 pub mod Example

@@ -8,7 +8,7 @@ use Rattle.answer.specs.Answers.{Given}
 use Rattle.opened.specs.declared.Opened.{Opened}
 use Rattle.reader_records.specs.Records.{polyAt, ringAt, opAt, groupAt, countRule, tzAt}
 use Rattle.reader_chunks.specs.Chunks.{chunkPoints}
-use Rattle.reader_exact.specs.Directories.{ringRecord, opPoints}
+use Rattle.directories.specs.Directories.{ringRecord, opPoints}
 use Rattle.basics.specs.Total.{total}
 
 pub record Sound (o : Opened) (s : List ℕ) : Type 0 where

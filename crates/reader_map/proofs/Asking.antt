@@ -17,7 +17,7 @@ use Rattle.geojson.specs.Text.{mapText}
 use Rattle.answer.specs.Over.{over}
 use Rattle.answer.proofs.OverLaws.{over-all}
 use Rattle.opened.specs.declared.Opened.{Opened}
-use Rattle.reader_exact.specs.Directories.{directories}
+use Rattle.directories.specs.Directories.{directories}
 use Rattle.reader_map.specs.Map.{zoneText, inRoom}
 use Rattle.reader_map.specs.Steps.{DrawnAs}
 

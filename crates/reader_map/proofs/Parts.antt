@@ -24,7 +24,7 @@ use Rattle.geojson.specs.Text.{array, ringText, polygonText, headText, tailText
 use Rattle.opened.specs.declared.Opened.{Opened}
 use Rattle.reader_records.specs.declared.ListRecord.{ListRecord}
 use Rattle.reader_records.specs.Records.{polyAt, tzAt}
-use Rattle.reader_exact.specs.Directories.{directories, polyRecord, zoneRecord}
+use Rattle.directories.specs.Directories.{directories, polyRecord, zoneRecord}
 use Rattle.reader_exact.specs.Sound.{Sound}
 use Rattle.reader_exact.proofs.Given.{poly-is, poly-ruled, zone-is, zone-ruled}
 use Rattle.reader_outline.specs.Held.{pointsIn}

@@ -11,7 +11,7 @@ use Rattle.shapes.specs.Outline.{outlines}
 use Rattle.geojson.specs.Reading.{readMap}
 use Rattle.geojson.proofs.Back.{map-back}
 use Rattle.opened.specs.declared.Opened.{Opened}
-use Rattle.reader_exact.specs.Directories.{directories}
+use Rattle.directories.specs.Directories.{directories}
 use Rattle.reader_map.specs.Map.{zoneText}
 use Rattle.reader_map.proofs.Asking.{text-is}
 

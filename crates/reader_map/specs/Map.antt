@@ -11,7 +11,7 @@ use Rattle.shapes.specs.Layout.{zoneAt}
 use Rattle.shapes.specs.Outline.{outlines, zoneDrawable}
 use Rattle.geojson.specs.Text.{mapText}
 use Rattle.opened.specs.declared.Opened.{Opened}
-use Rattle.reader_exact.specs.Directories.{directories}
+use Rattle.directories.specs.Directories.{directories}
 use Rattle.reader_map.specs.declared.Text.{Text}
 use Rattle.reader_map.specs.declared.Text.the-variants as T
 

@@ -16,7 +16,7 @@ use Rattle.geojson.specs.Ascii.{ascii}
 use Rattle.geojson.specs.Text.{positionText, ringText, polygonText}
 use Rattle.answer.specs.Over.{over}
 use Rattle.opened.specs.declared.Opened.{Opened}
-use Rattle.reader_exact.specs.Directories.{directories}
+use Rattle.directories.specs.Directories.{directories}
 
 -- a JSON array by the places of its elements: what is still to be written of it, where n elements from place i on are left; before the first stands the mark m, before each other a comma
 unfoldable pub toCome : (ℕ → List ℕ) → ℕ → ℕ → ℕ → List ℕ

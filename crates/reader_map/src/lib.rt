@@ -11,7 +11,7 @@ ghost use Rattle.shapes.specs.Layout.{ringAt, polygonAt, zoneAt};
 ghost use Rattle.shapes.specs.Outline.{outline, outlines, zoneDrawable};
 ghost use Rattle.geojson.specs.Text.{ringText, mapText};
 ghost use Rattle.answer.specs.Over.{over};
-ghost use Rattle.reader_exact.specs.Directories.{directories};
+ghost use Rattle.directories.specs.Directories.{directories};
 ghost use Rattle.reader_outline.specs.Held.{pointsIn};
 ghost use Rattle.reader_outline.specs.Told.{Ready};
 ghost use Rattle.reader_map.specs.Map.{textTold, zoneText, inRoom};

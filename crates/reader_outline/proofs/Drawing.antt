@@ -27,7 +27,7 @@ use Rattle.shapes.specs.Outline.{ringPositions, doubledArea, drawable, backward
 use Rattle.shapes.proofs.File.{ring-in}
 use Rattle.shapes.proofs.Outline.{positions-in}
 use Rattle.opened.specs.declared.Opened.{Opened}
-use Rattle.reader_exact.specs.Directories.{directories}
+use Rattle.directories.specs.Directories.{directories}
 use Rattle.reader_exact.proofs.Exact.{sound-named, sound-domain}
 use Rattle.reader_outline.specs.Held.{pointsIn}
 use Rattle.reader_outline.specs.Told.{Ready, fewEnough, Keeps, positionsAt, drawnBy}

@@ -21,9 +21,9 @@ use Rattle.reader_records.specs.declared.ChunkRecord.{ChunkRecord}
 use Rattle.reader_records.specs.Records.{chunkAt}
 use Rattle.reader_chunks.specs.Chunks.{chunkPoints, decodeAt, decodedAt}
 use Rattle.reader_chunks.proofs.Decodes.{stands, count-stands, taken, roomless, accepted}
-use Rattle.reader_exact.specs.Directories.{chunkShape}
+use Rattle.directories.specs.Directories.{chunkShape}
 use Rattle.reader_exact.specs.Sound.{Sound}
-use Rattle.reader_exact.proofs.Chunks.{holds}
+use Rattle.directories.proofs.Held.{holds}
 use Rattle.reader_outline.specs.Held.{pointsIn}
 use Rattle.reader_outline.specs.Told.{fewEnough, Keeps}
 use Rattle.reader_outline.proofs.Spots.{points-length, points-anew}

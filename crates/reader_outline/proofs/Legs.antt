@@ -22,7 +22,7 @@ use Rattle.opened.specs.declared.Opened.{Opened}
 use Rattle.reader_records.specs.declared.GroupRecord.{GroupRecord}
 use Rattle.reader_records.specs.declared.RingRecord.{RingRecord}
 use Rattle.reader_records.specs.Records.{opAt, groupAt, ringAt, groupIndex, turnsRound}
-use Rattle.reader_exact.specs.Directories.{directories, chunkShape, opWord, opGroup, groupRecord, ringRecord}
+use Rattle.directories.specs.Directories.{directories, chunkShape, opWord, opGroup, groupRecord, ringRecord}
 use Rattle.reader_exact.proofs.Given.{op-is, op-named, group-is, group-ruled, ring-is, ring-ruled}
 use Rattle.reader_exact.proofs.Exact.{sound-named}
 use Rattle.reader_outline.specs.Held.{pointsIn}

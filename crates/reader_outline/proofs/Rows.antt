@@ -12,7 +12,7 @@ use Rattle.answer.specs.Answers.{ok, refused}
 use Rattle.plane.specs.Runs.{run}
 use Rattle.shapes.specs.Shapes.{chunkPoints}
 use Rattle.opened.specs.declared.Opened.{Opened}
-use Rattle.reader_exact.specs.Directories.{chunkShape}
+use Rattle.directories.specs.Directories.{chunkShape}
 use Rattle.reader_outline.specs.Held.{pointsIn}
 use Rattle.reader_outline.specs.Told.{fewEnough, Keeps}
 use Rattle.reader_outline.specs.Steps.{rowPoints}

@@ -14,7 +14,7 @@ use Rattle.shapes.specs.Layout.{legAt}
 use Rattle.shapes.specs.Outline.{after}
 use Rattle.opened.specs.declared.Opened.{Opened}
 use Rattle.reader_records.specs.declared.GroupRecord.{GroupRecord}
-use Rattle.reader_exact.specs.Directories.{chunkShape, directories}
+use Rattle.directories.specs.Directories.{chunkShape, directories}
 use Rattle.reader_outline.specs.Held.{pointsIn}
 
 -- the points of n chunks from chunk i on

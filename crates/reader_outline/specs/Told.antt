@@ -12,7 +12,7 @@ use Rattle.answer.specs.Answers.{Answer, ok, refused, need}
 use Rattle.shapes.specs.Layout.{Covered, ringAt}
 use Rattle.shapes.specs.Outline.{ringPositions, drawable, backwards}
 use Rattle.opened.specs.declared.Opened.{Opened}
-use Rattle.reader_exact.specs.Directories.{directories}
+use Rattle.directories.specs.Directories.{directories}
 use Rattle.reader_exact.specs.Sound.{Sound}
 use Rattle.reader_outline.specs.Held.{pointsIn}
 use Rattle.reader_outline.specs.declared.Filled.{Filled}

@@ -10,7 +10,7 @@ ghost use Rattle.plane.specs.Lines.{every, origin};
 ghost use Rattle.shapes.specs.Shapes.{chunkPoints, legPoints};
 ghost use Rattle.shapes.specs.Layout.{legAt};
 ghost use Rattle.shapes.specs.Outline.{closed, swept, doubledArea};
-ghost use Rattle.reader_exact.specs.Directories.{chunkShape, directories};
+ghost use Rattle.directories.specs.Directories.{chunkShape, directories};
 ghost use Rattle.reader_outline.specs.Held.{spots, pointsIn};
 ghost use Rattle.reader_outline.specs.Told.{Ready, filledTold, outlinedTold, fewEnough, Keeps, positionsAt, drawnBy, outlineAt};
 ghost use Rattle.reader_outline.specs.Steps.{rowPoints, sidePoints, legsRow, entryOf, joinedOn, legsOn, Starts, turnedIn};

@@ -1,8 +1,9 @@
--- A ring's meaning once more, in the very words of document 01's "Exact geometry": the list of its segments, whether the point is on any, and how many count. `ring-in-words`, in proofs/Words, says that `ringIn` is the same.
+-- A ring's meaning once more, in the very words of document 01's "Exact geometry": the list of its segments, whether the point is on any, and how many count. And which rings have room in them, by the same list. `ring-in-words`, in proofs/Words, says that `ringIn` is the same.
 -- Assumes nothing.
 use Prim.Native.Nat.{ℕ, zero, suc}
 use mathlib.Core.Bool.{Bool, true, false, not, cond}
 use mathlib.Core.List.{List, [], _∷_, _++_, map}
+use lib.Dec.{leb}
 use Rattle.plane.specs.declared.I32Point.{I32Point}
 use Rattle.plane.specs.Sight.{Sight, On, Off}
 use Rattle.plane.specs.Lines.{some, firstOf, lastOf}
@@ -61,3 +62,17 @@ module _ (seg : I32Point → I32Point → Sight) where
   unfoldable pub counted : List Side → ℕ
   counted [] = 0
   counted (e ∷ l) = countsIn (seg (e .from) (e .to)) (counted l)
+
+-- ---- document 02, request 2026-05: "at least three segments, counted as in the exact geometry, degenerate ones not counted"
+-- degenerate: from a point to itself
+abbrev pub degenerate : Side → Bool
+degenerate e = samePoint (e .from) (e .to)
+
+-- how many are not
+unfoldable pub proper : List Side → ℕ
+proper [] = 0
+proper (e ∷ l) = cond (degenerate e) (proper l) (suc (proper l))
+
+-- a ring of fewer has no room in it
+unfoldable pub hasRoom : Ring → Bool
+hasRoom r = leb 3 (proper (ringSides r))

@@ -1,4 +1,4 @@
--- What the enums of the code say: of a number, of a sum, of a point, of a scan and of a trace, and of the place after it. What each is stands in varints and in chunks.
+-- What the enums of the code say: of a number, of a sum, of a point, of a scan, of a trace and of a count, and of the place after it. What each is stands in varints and in chunks.
 -- Assumes nothing.
 use Prim.Native.Nat.{ℕ}
 use lib.IntN.{ℤ}
@@ -17,6 +17,8 @@ use Rattle.tzb_core.specs.declared.chunk.Scan.{Scan}
 use Rattle.tzb_core.specs.declared.chunk.Scan.the-variants as W
 use Rattle.tzb_core.specs.declared.chunk.Traced.{Traced}
 use Rattle.tzb_core.specs.declared.chunk.Traced.the-variants as T
+use Rattle.tzb_core.specs.declared.chunk.Counted.{Counted}
+use Rattle.tzb_core.specs.declared.chunk.Counted.the-variants as C
 
 -- what the enum of the code says
 abbrev pub readTold : Read → Answer (ℤ × ℕ)
@@ -39,3 +41,7 @@ scanned (W.Off b q) = off b q
 abbrev pub toldTrace : Traced → Answer (Bool × I32Point)
 toldTrace (T.Points inside q) = ok (inside, q)
 toldTrace (T.Refused r) = refused r
+
+abbrev pub toldCount : Counted → Answer (ℕ × I32Point)
+toldCount (C.Upto n q) = ok (n, q)
+toldCount (C.Refused r) = refused r

@@ -1,4 +1,4 @@
-// Chunk code: the points of one chunk's bytes, the scan of its segments, and the trace of a box. The bytes s are that chunk's own.
+// Chunk code: the points of one chunk's bytes, the scan of its segments, their count, and the trace of a box. The bytes s are that chunk's own.
 ghost use mathlib.Core.Path.{_≡_};
 ghost use mathlib.Core.Bool.{true, _||_};
 ghost use Prim.Native.Nat.{_+_, _*_, _≤_, _<_};
@@ -13,10 +13,11 @@ ghost use Rattle.rays.specs.Ray.{rayOf};
 ghost use Rattle.chunks.specs.Scan.{scanOf};
 ghost use Rattle.chunks.specs.Along.{along};
 ghost use Rattle.chunks.specs.Trace.{also, tracer, traceOf};
+ghost use Rattle.chunks.specs.Count.{withSide, counter, countOf};
 ghost use Rattle.chunks.specs.Decode.{led, filled, decodeOf, decoded};
 ghost use Rattle.plane.specs.Places.{point};
 ghost use Rattle.tzb_core.specs.Steps.{moved, Around, bothBelow, bothAbove, aside};
-ghost use Rattle.tzb_core.specs.Reading.{spotted, scanned, toldTrace};
+ghost use Rattle.tzb_core.specs.Reading.{spotted, scanned, toldTrace, toldCount};
 ghost use Rattle.chunks.specs.Steps.{arrive, onward, pointsFrom, put, readFrom};
 use crate::delta;
 use crate::delta::Sum;
@@ -52,6 +53,12 @@ pub enum Scan {
 // Past a chunk's points: whether a box covers them all, and the last of them.
 pub enum Traced {
     Points(bool, I32Point),
+    Refused(Refusal),
+}
+
+// How many segments are counted, and the last point read.
+pub enum Counted {
+    Upto(u32, I32Point),
     Refused(Refusal),
 }
 
@@ -330,6 +337,69 @@ pub fn trace_chunk(s: &[u8], count: u16, b: BBox) -> Traced
         }
         Spotted::At(q, n) => {
             return trace_from(s, b, count - 1, q, n);
+        }
+    }
+}
+
+// The segment from a to b counted, where its ends differ; three are enough.
+pub fn with_side(a: I32Point, b: I32Point, n: u32) -> u32
+    ensures { λ r. ⌜ r ≡ withSide a b n ⌝ }
+{
+    if boxes::same_point(a, b) {
+        return n;
+    }
+    if n < 3 { n + 1 } else { n }
+}
+
+// From the first point on, over that many points more: the third segment that counts ends the walk.
+fn count_from(s: &[u8], count: u16, first: I32Point, from: Place, sides: u32) -> Counted
+    ensures { λ r. ⌜ toldCount r ≡ along counter (now (s .entry)) count first (from .at) sides ⌝ }
+{
+    let mut q = first;
+    let mut at = from;
+    let mut n = sides;
+    let mut left = count;
+    while 0 < left {
+        let t = next_point(s, q, at);
+        match t {
+            Spotted::Refused(k) => {
+                return Counted::Refused(k);
+            }
+            Spotted::At(v, m) => {
+                n = with_side(q, v, n);
+                if 3 <= n {
+                    return Counted::Upto(n, v);
+                }
+                q = v;
+                at = m;
+            }
+        }
+        left -= 1;
+    }
+    if !at.at_end(s) {
+        return Counted::Refused(answer::refuse(43));
+    }
+    Counted::Upto(n, q)
+}
+
+// The segments of a chunk, after the point before it and with so many counted: the third ends the walk.
+pub fn count_chunk(s: &[u8], count: u16, before: I32Point, sides: u32) -> Counted
+    ensures { λ r. ⌜ toldCount r ≡ countOf (now (s .entry)) count before sides ⌝ }
+{
+    if count == 0 {
+        return Counted::Refused(answer::refuse(32));
+    }
+    let f = first_point(s);
+    match f {
+        Spotted::Refused(k) => {
+            return Counted::Refused(k);
+        }
+        Spotted::At(q, m) => {
+            let n = with_side(before, q, sides);
+            if 3 <= n {
+                return Counted::Upto(n, q);
+            }
+            return count_from(s, count - 1, q, m, n);
         }
     }
 }

@@ -3,7 +3,7 @@
 use mathlib.Core.Path.{_≡_, sym, ap, _∙_}
 use lib.ListN.{length}
 use Rattle.shapes.specs.Layout.{ringAt}
-use Rattle.reader_exact.specs.Directories.{directories}
+use Rattle.directories.specs.Directories.{directories}
 use Rattle.reader_map.specs.Map.{textTold}
 use Rattle.reader_map.specs.Steps.{ringFits, sideText}
 use Rattle.reader_map.proofs.Onward.{Row, row-start, row-on, row-off, row-drawn}

@@ -1,0 +1,2 @@
+-- What a chunk that decodes holds.
+pub mod Held

@@ -1,0 +1,1 @@
+// Only definitions and theorems: see specs/ and proofs/.

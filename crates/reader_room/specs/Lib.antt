@@ -1,0 +1,2 @@
+-- The count of a ring's segments as the code goes about it.
+pub mod Steps
