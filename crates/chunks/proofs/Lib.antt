@@ -1,6 +1,7 @@
 -- Laws of a chunk's points, and a table of small chunks.
 pub mod TraceLaws
 pub mod ScanLaws
+pub mod CountLaws
 pub mod PointsLaws
 pub mod DeltaLaws
 pub mod DecodeLaws
