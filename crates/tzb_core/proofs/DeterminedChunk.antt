@@ -14,13 +14,17 @@ use Rattle.tzb_core.specs.declared.chunk.Scan.{Scan}
 use Rattle.tzb_core.specs.declared.chunk.Scan.the-variants as W
 use Rattle.tzb_core.specs.declared.chunk.Traced.{Traced}
 use Rattle.tzb_core.specs.declared.chunk.Traced.the-variants as T
+use Rattle.tzb_core.specs.declared.chunk.Counted.{Counted}
+use Rattle.tzb_core.specs.declared.chunk.Counted.the-variants as C
 use Rattle.tzb_core.proofs.chunk.first_point.Reads as first-point-reads
 use Rattle.tzb_core.proofs.chunk.next_point.Reads as next-point-reads
 use Rattle.tzb_core.proofs.chunk.scan_chunk.Reads as scan-chunk-reads
 use Rattle.tzb_core.proofs.chunk.trace_chunk.Reads as trace-chunk-reads
+use Rattle.tzb_core.proofs.chunk.with_side.Reads as with-side-reads
+use Rattle.tzb_core.proofs.chunk.count_chunk.Reads as count-chunk-reads
 use Rattle.tzb_core.proofs.chunk.decode_points.Reads as decode-points-reads
 use Rattle.answer.proofs.AnswersLaws.{readBack, one-answer, checked-one}
-use Rattle.tzb_core.specs.Reading.{spotted, scanned, toldTrace}
+use Rattle.tzb_core.specs.Reading.{spotted, scanned, toldTrace, toldCount}
 
 pub one-spotted : (a b : Spotted) (x : Answer (I32Point × ℕ)) → spotted a ≡ x → spotted b ≡ x → a ≡ b
 one-spotted = one-answer spotted point S.Refused back
@@ -57,6 +61,17 @@ one-trace = one-answer toldTrace points T.Refused back
     back (T.Points i p) = refl
     back (T.Refused k) = refl
 
+pub one-count : (a b : Counted) (x : Answer (ℕ × I32Point)) → toldCount a ≡ x → toldCount b ≡ x → a ≡ b
+one-count = one-answer toldCount upto C.Refused back
+  where
+    -- how many are counted, and the last point read
+    upto : ℕ × I32Point → Counted
+    upto t = C.Upto (t .0) (t .1)
+
+    back : (a : Counted) → readBack upto C.Refused (toldCount a) ≡ a
+    back (C.Upto n p) = refl
+    back (C.Refused k) = refl
+
 pub first-point : Determined first-point-reads.Learnt
 first-point κ a r r' e e' p q = one-spotted r r' _ p q
 
@@ -68,6 +83,12 @@ scan-chunk κ a r r' e e' p q = one-scan r r' _ p q
 
 pub trace-chunk : Determined trace-chunk-reads.Learnt
 trace-chunk κ a r r' e e' p q = one-trace r r' _ p q
+
+pub with-side : Determined with-side-reads.Learnt
+with-side κ a r r' e e' p q = p ∙ sym q
+
+pub count-chunk : Determined count-chunk-reads.Learnt
+count-chunk κ a r r' e e' p q = one-count r r' _ p q
 
 pub decode-points : Determined decode-points-reads.Learnt
 decode-points κ a r r' e e' p q = checked-one r r' (p .0 ∙ sym (q .0))
