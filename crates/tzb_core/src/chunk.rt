@@ -304,18 +304,34 @@ fn trace_from(s: &[u8], b: BBox, count: u16, first: I32Point, from: Place) -> Tr
     let mut inside = boxes::in_box(b, first);
     let mut left = count;
     while 0 < left {
-        let t = next_point(s, q, at);
-        match t {
-            Spotted::Refused(k) => {
+        let a = at.varint(s);
+        match a {
+            Read::Refused(k) => {
                 return Traced::Refused(k);
             }
-            Spotted::At(n, m) => {
-                inside = inside & boxes::in_box(b, n);
-                q = n;
-                at = m;
+            Read::Number(x, m) => {
+                let d = m.varint(s);
+                match d {
+                    Read::Refused(k) => {
+                        return Traced::Refused(k);
+                    }
+                    Read::Number(y, next) => {
+                        let t = point_after(q, x, y);
+                        match t {
+                            Moved::Refused(k) => {
+                                return Traced::Refused(k);
+                            }
+                            Moved::To(n) => {
+                                inside = inside & boxes::in_box(b, n);
+                                q = n;
+                                at = next;
+                                left -= 1;
+                            }
+                        }
+                    }
+                }
             }
         }
-        left -= 1;
     }
     if !at.at_end(s) {
         return Traced::Refused(answer::refuse(43));
