@@ -17,10 +17,11 @@ use Rattle.chunks.specs.Points.{firstOf}
 use Rattle.chunks.specs.Scan.{scanOf}
 use Rattle.chunks.specs.Decode.{pointsOf, intoRoom}
 use Rattle.chunks.specs.Trace.{traceOf}
+use Rattle.chunks.specs.Count.{countOf}
 use Rattle.opened.specs.declared.Opened.{Opened}
 use Rattle.reader_records.specs.declared.ChunkRecord.{ChunkRecord}
 use Rattle.reader_records.specs.Records.{chunkAt}
-use Rattle.reader_chunks.specs.Chunks.{startOf, endOf, span, bytesOf, firstIn, scanIn, traceIn, firstAt, traceAt, decodeBy, decodeIn}
+use Rattle.reader_chunks.specs.Chunks.{startOf, endOf, span, bytesOf, firstIn, scanIn, traceIn, countIn, firstAt, traceAt, countAt, decodeBy, decodeIn}
 use Rattle.reader_chunks.specs.Steps.{pointsIn}
 
 pub start-is : (o : Opened) (v : ChunkRecord) → o .points .off + v .off ≡ startOf o v
@@ -85,6 +86,15 @@ module _ (s : List ℕ) (a e : ℕ) where
       unfolding traceIn
       trace-is c h = rw (← h)
 
+    module _ (t : I32Point) (k : ℕ) where
+      pub count-no : (r : Refusal) → refused r ≡ span s a e → refused r ≡ countIn s n t k a e
+      unfolding countIn
+      count-no r h = rw (← h)
+
+      pub count-is : (c : List ℕ) → ok c ≡ span s a e → countOf c n t k ≡ countIn s n t k a e
+      unfolding countIn
+      count-is c h = rw (← h)
+
     pub points-no : (r : Refusal) → refused r ≡ span s a e → refused r ≡ pointsIn s n a e
     unfolding pointsIn
     points-no r h = rw (← h)
@@ -124,6 +134,20 @@ module _ (o : Opened) (s : List ℕ) (i : ℕ) where
     pub trace-at-is : (e : ℕ) → ok e ≡ endOf o s i → (a : ℕ) → a ≡ startOf o v → traceIn s (v .count) (v .bbox) a e ≡ traceAt o s i
     unfolding traceAt
     trace-at-is e k a g = rw (← h, ← k, g)
+
+  module _ (t : I32Point) (n : ℕ) where
+    pub count-at-no : (r : Refusal) → refused r ≡ chunkAt o s i → refused r ≡ countAt o s i t n
+    unfolding countAt
+    count-at-no r h = rw (← h)
+
+    module _ (v : ChunkRecord) (h : ok v ≡ chunkAt o s i) where
+      pub count-at-far : (r : Refusal) → refused r ≡ endOf o s i → refused r ≡ countAt o s i t n
+      unfolding countAt
+      count-at-far r k = rw (← h, ← k)
+
+      pub count-at-is : (e : ℕ) → ok e ≡ endOf o s i → (a : ℕ) → a ≡ startOf o v → countIn s (v .count) t n a e ≡ countAt o s i t n
+      unfolding countAt
+      count-at-is e k a g = rw (← h, ← k, g)
 
   module _ (out : List ℤ) where
     module _ (v : ChunkRecord) where

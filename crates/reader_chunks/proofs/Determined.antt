@@ -5,7 +5,7 @@ use mathlib.Core.Path.{_≡_, refl, sym, _∙_}
 use Rattle.basics.specs.Determined.{Determined, DeterminedMemory}
 use Rattle.answer.specs.Answers.{Answer}
 use Rattle.plane.specs.declared.I32Point.{I32Point}
-use Rattle.tzb_core.proofs.DeterminedChunk.{one-scan, one-trace}
+use Rattle.tzb_core.proofs.DeterminedChunk.{one-scan, one-trace, one-count}
 use Rattle.reader_chunks.specs.Chunks.{toldOffset, toldPoint}
 use Rattle.reader_chunks.specs.declared.Offset.{Offset}
 use Rattle.reader_chunks.specs.declared.Offset.the-variants as O
@@ -18,6 +18,7 @@ use Rattle.reader_chunks.proofs.scan_in.Reads as scan-in-reads
 use Rattle.reader_chunks.proofs.trace_in.Reads as trace-in-reads
 use Rattle.reader_chunks.proofs.first_at.Reads as first-at-reads
 use Rattle.reader_chunks.proofs.trace_at.Reads as trace-at-reads
+use Rattle.reader_chunks.proofs.count_at.Reads as count-at-reads
 use Rattle.reader_chunks.proofs.decode_chunk_points.Reads as decode-chunk-points-reads
 use Rattle.answer.proofs.AnswersLaws.{readBack, one-answer, checked-one}
 
@@ -55,6 +56,9 @@ first-at κ a r r' e e' p q = one-point r r' _ p q
 
 pub trace-at : Determined trace-at-reads.Learnt
 trace-at κ a r r' e e' p q = one-trace r r' _ p q
+
+pub count-at : Determined count-at-reads.Learnt
+count-at κ a r r' e e' p q = one-count r r' _ p q
 
 pub decode-chunk-points : Determined decode-chunk-points-reads.Learnt
 decode-chunk-points κ a r r' e e' p q = checked-one r r' (p .0 ∙ sym (q .0))

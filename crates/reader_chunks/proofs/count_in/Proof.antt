@@ -1,0 +1,54 @@
+-- `reader_chunks::count_in` meets its contract: the range, then the count.
+-- Assumes nothing.
+use mathlib.Core.Path.{sym, _∙_, ap}
+use Rattle.answer.specs.Answers.{checkedTold}
+use Rattle.reader_chunks.proofs.Ranges.{span-fine}
+use native.Mathlib.Omega.{arith}
+use borrow.Author.Needs.{needs}
+use Rattle.reader_chunks.proofs.count_in.Statement.{statement}
+use Rattle.reader_chunks.proofs.count_in.Tie as tie
+use Rattle.answer.proofs.AnswersLaws.{outcome-no}
+use Rattle.reader_chunks.proofs.ChunksLaws.{span-is, count-no, count-is}
+
+check-span-requires : tie.Need-check-span-requires
+check-span-requires c κs = search needs
+
+enum-known-c : tie.Need-enum-known-c
+enum-known-c c = search needs
+
+returns : tie.Need-returns
+returns c = count-no _ _ _ _ _ _ _ (outcome-no _ _ (sym (ap checkedTold (c .before .c .given .1)) ∙ c .before .before .before .check-span .ensures))
+
+enum-told : tie.Need-enum-told
+enum-told c = search needs
+
+sub-b : tie.Need-sub-b
+sub-b c = let h = span-fine _ _ _ (sym (ap checkedTold (c .enum-told .given .1)) ∙ c .before .before .check-span .ensures) in omega (arith, h .0)
+
+part-b-start : tie.Need-part-b-start
+part-b-start c = let h = span-fine _ _ _ (sym (ap checkedTold (c .enum-told .given .1)) ∙ c .before .before .check-span .ensures) in omega (arith, h .0, h .1)
+
+part-b-end : tie.Need-part-b-end
+part-b-end c = let h = span-fine _ _ _ (sym (ap checkedTold (c .enum-told .given .1)) ∙ c .before .before .check-span .ensures) in omega (arith, h .0, h .1)
+
+count-chunk-requires : tie.Need-count-chunk-requires
+count-chunk-requires c κs = search needs
+
+returns-2 : tie.Need-returns-2
+returns-2 c =
+    let h = span-fine _ _ _ (sym (ap checkedTold (c .before .before .enum-told .given .1)) ∙ c .before .before .before .before .check-span .ensures) in
+    c .count-chunk .ensures ∙ count-is _ _ _ _ _ _ _ (span-is _ _ _ (h .0) (h .1))
+
+pub count-in-spec : {M : Type 1} → statement M
+count-in-spec =
+    tie.close
+    (tie.spec
+    check-span-requires
+    enum-known-c
+    returns
+    enum-told
+    sub-b
+    part-b-start
+    part-b-end
+    count-chunk-requires
+    returns-2)
