@@ -10,4 +10,5 @@ pub mod Sums
 pub mod Decoded
 pub mod Turns
 pub mod Neighbours
+pub mod Counting
 pub mod Worked

@@ -130,13 +130,13 @@ every-from s (suc n) q k l e =
     ∙ and-i (inDomain (o .at .0)) (every inDomain (o .rest)) (next-in s q k (o .at) (o .next)) (every-from s n (o .at .0) (o .at .1) (o .rest) (o .from))
 
 -- ---- a whole chunk
-record Whole (s : List ℕ) (n : ℕ) (q : I32Point) (l : List I32Point) : Type 0 where
-  some : ltb 0 n ≡ true
-  at : ℕ
-  first : ok (q, at) ≡ firstOf s
-  from : ok l ≡ pointsFrom s (n - 1) q at
+pub record Whole (s : List ℕ) (n : ℕ) (q : I32Point) (l : List I32Point) : Type 0 where
+  pub some : ltb 0 n ≡ true
+  pub at : ℕ
+  pub first : ok (q, at) ≡ firstOf s
+  pub from : ok l ≡ pointsFrom s (n - 1) q at
 
-whole-of : (s : List ℕ) (n : ℕ) (q : I32Point) (l : List I32Point) → ok (q ∷ l) ≡ pointsOf s n → Whole s n q l
+pub whole-of : (s : List ℕ) (n : ℕ) (q : I32Point) (l : List I32Point) → ok (q ∷ l) ≡ pointsOf s n → Whole s n q l
 whole-of s n q l e =
     let h = need-inv 32 (ltb 0 n) (firstOf s then λ t. led (t .0) (pointsFrom s (n - 1) (t .0) (t .1))) (q ∷ l) (e ∙ points-are s n) in
     let g = then-inv (firstOf s) (λ t. led (t .0) (pointsFrom s (n - 1) (t .0) (t .1))) (q ∷ l) (h .1) in

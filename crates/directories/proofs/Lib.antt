@@ -1,2 +1,3 @@
--- What a chunk that decodes holds.
+-- What a chunk that decodes holds; what stands in a row.
 pub mod Held
+pub mod Rows

@@ -29,7 +29,7 @@ use Rattle.reader_groups.specs.Groups.{nextFirst, skipTo, scanTo, joinedTo, las
 use Rattle.directories.specs.Directories.{chunkShape}
 use Rattle.directories.proofs.Held.{Holds, held-first}
 use Rattle.reader_exact.proofs.Walks.{past-go}
-use Rattle.reader_exact.proofs.Given.{ruled-kept}
+use Rattle.reader_records.proofs.RecordsLaws.{ruled-kept}
 use Rattle.answer.proofs.AnswersLaws.{ok-inv}
 use Rattle.reader_chunks.proofs.ChunksLaws.{end-is, scan-is}
 

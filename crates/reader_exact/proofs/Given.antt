@@ -1,23 +1,23 @@
 -- What every record of a sound file gives: it is the one that its directory holds, and it keeps its rule.
 -- Assumes nothing.
 use Prim.Native.Nat.{ℕ, _<_}
-use mathlib.Core.Path.{_≡_, refl, ap, _∙_}
-use mathlib.Core.Bool.{Bool, true, _&&_}
+use mathlib.Core.Path.{_≡_, refl}
+use mathlib.Core.Bool.{true, _&&_}
 use mathlib.Core.List.{List}
 use borrow.Author.Tests.{ltb-true}
 use Rattle.basics.specs.Truth.{and-l, and-r}
 use Rattle.plane.specs.Domain.{inDomain}
-use Rattle.answer.specs.Answers.{Answer, ok, refused, need, valueOr, Given}
+use Rattle.answer.specs.Answers.{Answer, ok, refused, valueOr, Given}
 use Rattle.fields.specs.Le.{le}
 use Rattle.boxes.specs.Box.{boxInDomain}
 use Rattle.shapes.specs.Layout.{Span, Names}
 use Rattle.opened.specs.declared.Opened.{Opened}
-use Rattle.reader_records.specs.Records.{recordAt, ruled, listIn, listRule, listAt, polyAt, ringIn, ringRule, ringAt, opRule, opAt, groupIn, groupRule, groupAt, fitsBelow, tzAt}
+use Rattle.reader_records.specs.Records.{recordAt, listIn, listRule, listAt, polyAt, ringIn, ringRule, ringAt, opRule, opAt, groupIn, groupRule, groupAt, fitsBelow, tzAt}
 use Rattle.opened.specs.Widths.{listWide, ringWide, opWide, groupWide}
 use Rattle.directories.specs.Directories.{noList, noRing, noGroup, listSpan, ringSpan, groupSpan, zoneRecord, polyRecord, ringRecord, opWord, opGroup, groupRecord}
 use Rattle.reader_exact.specs.Sound.{Sound}
-use Rattle.answer.proofs.AnswersLaws.{zero-one, then-inv, need-inv, ok-inv}
-use Rattle.reader_records.proofs.RecordsLaws.{within-some, within-fits, group-ends}
+use Rattle.answer.proofs.AnswersLaws.{zero-one}
+use Rattle.reader_records.proofs.RecordsLaws.{ruled-kept, within-some, within-fits, group-ends}
 
 -- where an answer is given, nothing stands in
 given-value : {A : Type 0} (fixed : A) (x : Answer A) → Given x → ok (valueOr fixed x) ≡ x
@@ -26,14 +26,6 @@ given-value fixed (refused r) g =
     let e : ok (g .value) ≡ refused r = g .is in
     let z : _≡_ {A = ℕ} 0 1 = cc in
     absurd (zero-one z)
-
--- a record that is answered keeps its rule
-pub ruled-kept : {A : Type 0} (at : Answer ℕ) (read : ℕ → A) (rule : A → Bool) (n : ℕ) (a : A) → ok a ≡ ruled at read rule n → rule a ≡ true
-unfolding ruled
-ruled-kept at read rule n a e =
-    let h = then-inv at (λ p. need n (rule (read p)) (ok (read p))) a e in
-    let g = need-inv n (rule (read (h .0))) (ok (read (h .0))) a (h .2) in
-    ap rule (ok-inv a (read (h .0)) (g .1)) ∙ g .0
 
 -- what the record rule says of a span
 pub record Ruled (t : Span) (below : ℕ) : Type 0 where

@@ -1,10 +1,10 @@
 -- A ring op of a sound file whose groups are covered: its leg is its group's points, stored or turned, and starts where the group is entered. Legs one after another, as the loop strings them.
 -- Assumes nothing.
-use Prim.Native.Nat.{ℕ, suc, _+_, _-_, _≤_, _<_}
+use Prim.Native.Nat.{ℕ, _+_, _-_, _≤_, _<_}
 use native.Mathlib.Omega.{arith}
 use mathlib.Core.Path.{_≡_, refl, sym, ap, ap₂, _∙_, subst}
 use mathlib.Core.Bool.{Bool, true, false, cond}
-use mathlib.Core.List.{List, [], _∷_, _++_, reverse}
+use mathlib.Core.List.{List, [], _∷_, _++_, map, reverse}
 use lib.ListN.{length, drop, length-append, length-reverse}
 use lib.IntN.{ℤ}
 use Rattle.plane.specs.declared.I32Point.{I32Point}
@@ -23,6 +23,7 @@ use Rattle.reader_records.specs.declared.GroupRecord.{GroupRecord}
 use Rattle.reader_records.specs.declared.RingRecord.{RingRecord}
 use Rattle.reader_records.specs.Records.{opAt, groupAt, ringAt, groupIndex, turnsRound}
 use Rattle.directories.specs.Directories.{directories, chunkShape, opWord, opGroup, groupRecord, ringRecord}
+use Rattle.directories.proofs.Rows.{run-one, group-row}
 use Rattle.reader_exact.proofs.Given.{op-is, op-named, group-is, group-ruled, ring-is, ring-ruled}
 use Rattle.reader_exact.proofs.Exact.{sound-named}
 use Rattle.reader_outline.specs.Held.{pointsIn}
@@ -50,8 +51,8 @@ module _ (o : Opened) (s : List ℕ) (k : Ready o s) where
     row = rowPoints o s (groupRecord o s j .count) (groupRecord o s j .first)
 
     row-is : groupPoints (Layout.groupAt (directories o s) j) ≡ row
-    unfolding Layout.groupAt directories rowPoints
-    row-is = sym (row-one o s (rec .count) (rec .first) (group-ruled o s (k .sound) j h .names .some))
+    unfolding rowPoints
+    row-is = group-row o s j (group-ruled o s (k .sound) j h .names .some)
 
     row-some : 0 < length row
     row-some =
@@ -154,11 +155,8 @@ module _ (o : Opened) (s : List ℕ) where
   legs-none n i e = rw e
 
   legs-one : (n i : ℕ) → 0 < n → legsRow o s n i ≡ leg i ∷ legsRow o s (n - 1) (i + 1)
-  unfolding legsRow run
-  legs-one n i h = let e : n ≡ suc (n - 1) = omega arith in go n (n - 1) e
-    where
-      go : (a b : ℕ) → a ≡ suc b → legsRow o s a i ≡ leg i ∷ legsRow o s b (i + 1)
-      go a b e = rw e
+  unfolding legsRow
+  legs-one n i h = ap (map legPoints) (run-one (Layout.legAt (directories o s)) n i h)
 
   -- m₀ are the numbers at the start, m those now, which hold n positions; `left` legs from op i on are to come
   pub record Legging (m₀ m : List ℤ) (first count n i left : ℕ) : Type 0 where

@@ -1,6 +1,6 @@
 -- Chunks in a row, as the loop writes their points: what is left, behind what is written, is the whole.
 -- Assumes nothing.
-use Prim.Native.Nat.{ℕ, suc, _+_, _-_, _≤_, _<_}
+use Prim.Native.Nat.{ℕ, _+_, _-_, _≤_, _<_}
 use native.Mathlib.Omega.{arith}
 use mathlib.Core.Path.{_≡_, refl, sym, ap, _∙_}
 use mathlib.Core.List.{List, [], _++_, append-assoc, append-nil}
@@ -10,9 +10,10 @@ use Rattle.plane.specs.declared.I32Point.{I32Point}
 use Rattle.answer.specs.declared.Refusal.{Refusal}
 use Rattle.answer.specs.Answers.{ok, refused}
 use Rattle.plane.specs.Runs.{run}
-use Rattle.shapes.specs.Shapes.{chunkPoints}
+use Rattle.shapes.specs.Shapes.{chunkPoints, points}
 use Rattle.opened.specs.declared.Opened.{Opened}
 use Rattle.directories.specs.Directories.{chunkShape}
+use Rattle.directories.proofs.Rows.{run-one}
 use Rattle.reader_outline.specs.Held.{pointsIn}
 use Rattle.reader_outline.specs.Told.{fewEnough, Keeps}
 use Rattle.reader_outline.specs.Steps.{rowPoints}
@@ -24,11 +25,8 @@ module _ (o : Opened) (s : List ℕ) where
   row-none n i e = rw e
 
   pub row-one : (n i : ℕ) → 0 < n → rowPoints o s n i ≡ chunkPoints (chunkShape o s i) ++ rowPoints o s (n - 1) (i + 1)
-  unfolding rowPoints run
-  row-one n i h = let e : n ≡ suc (n - 1) = omega arith in go n (n - 1) e
-    where
-      go : (a b : ℕ) → a ≡ suc b → rowPoints o s a i ≡ chunkPoints (chunkShape o s i) ++ rowPoints o s b (i + 1)
-      go a b e = rw e
+  unfolding rowPoints
+  row-one n i h = ap points (run-one (chunkShape o s) n i h)
 
   -- m₀ and k are the numbers and positions at the start, m and n those now; `left` chunks from chunk i on are to come
   pub record Rowing (m₀ m : List ℤ) (k first count n i left : ℕ) : Type 0 where

@@ -12,6 +12,7 @@ use Rattle.basics.specs.Truth.{and-l, and-r}
 use Rattle.plane.specs.Domain.{inDomain}
 use Rattle.answer.specs.declared.Refusal.{Refusal}
 use Rattle.answer.specs.Answers.{Answer, ok, refused, no, need}
+use Rattle.answer.proofs.AnswersLaws.{then-inv, need-inv, ok-inv}
 use Rattle.fields.specs.Loads.{inside}
 use Rattle.boxes.specs.Box.{boxInDomain}
 use Rattle.opened.specs.declared.Directory.{Directory}
@@ -61,6 +62,14 @@ module _ {A : Type 0} (at : Answer ℕ) (read : ℕ → A) (rule : A → Bool) (
     ruled-ok z =
         let y : rule (read p) ≡ true = ap rule (sym g) ∙ sym h ∙ z in
         ap ok g ∙ sym (rw (← e, y) refl)
+
+-- a record that is answered keeps its rule
+pub ruled-kept : {A : Type 0} (at : Answer ℕ) (read : ℕ → A) (rule : A → Bool) (n : ℕ) (a : A) → ok a ≡ ruled at read rule n → rule a ≡ true
+unfolding ruled
+ruled-kept at read rule n a e =
+    let h = then-inv at (λ p. need n (rule (read p)) (ok (read p))) a e in
+    let g = need-inv n (rule (read (h .0))) (ok (read (h .0))) a (h .2) in
+    ap rule (ok-inv a (read (h .0)) (g .1)) ∙ g .0
 
 -- a record that is there and keeps its rule is answered
 pub ruled-there : {A : Type 0} (s : List ℕ) (d : Directory) (w i n : ℕ) (read : ℕ → A) (rule : A → Bool)

@@ -8,3 +8,4 @@ pub mod Floats
 pub mod Fits
 pub mod File
 pub mod Outline
+pub mod Room
