@@ -23,12 +23,12 @@ module _ (file : List ℕ) where
       go e =
           let t = accepted-holds (openOf file) file (sym e) in
           let h = t .2 in
-          (t .0, record { f1 = t .1; f2 = h .records; f3 = h .decode; f4 = h .chunk-boxes; f5 = h .groups; f6 = h .boxes })
+          (t .0, record { f1 = t .1; f2 = h .records; f2-room = h .room; f3 = h .decode; f4 = h .chunk-boxes; f5 = h .groups; f6 = h .boxes })
 
       back : (o : Opened) × Accepted file o → Rules.checkOf (openOf file) file ≡ accepted
       back p =
           let a = p .1 in
-          sym (holds-accepted (openOf file) file (p .0) (a .f1) (record { records = a .f2; decode = a .f3; chunk-boxes = a .f4; groups = a .f5; boxes = a .f6 }))
+          sym (holds-accepted (openOf file) file (p .0) (a .f1) (record { records = a .f2; room = a .f2-room; decode = a .f3; chunk-boxes = a .f4; groups = a .f5; boxes = a .f6 }))
 
   -- with the very record that opening makes
   pub accepted-with : fullCheckOf file ≡ accepted → (o : Opened) → ok o ≡ openOf file → Accepted file o

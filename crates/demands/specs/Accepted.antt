@@ -1,4 +1,4 @@
--- "document 01's F1 to F6 hold": of a file, with the record that opening makes of it.
+-- "document 01's F1 to F6 hold", F2 with document 02's request 2026-05: of a file, with the record that opening makes of it.
 -- Assumes nothing.
 use Prim.Native.Nat.{ℕ}
 use mathlib.Core.Path.{_≡_}
@@ -6,7 +6,7 @@ use mathlib.Core.Bool.{true}
 use mathlib.Core.List.{List}
 use Rattle.answer.specs.Answers.{ok}
 use Rattle.opened.specs.declared.Opened.{Opened}
-use Rattle.reader_check.specs.FullCheck.{recordsHold, chunksDecode, chunkBoxesCover, groupsCover, boxesCover}
+use Rattle.reader_check.specs.FullCheck.{recordsHold, ringsHaveRoom, chunksDecode, chunkBoxesCover, groupsCover, boxesCover}
 use Rattle.tzb.specs.Opening.{openOf}
 
 pub record Accepted (file : List ℕ) (o : Opened) : Type 0 where
@@ -14,6 +14,8 @@ pub record Accepted (file : List ℕ) (o : Opened) : Type 0 where
   pub f1 : ok o ≡ openOf file
   -- "F2 Every zone, polygon and ring meets the record rule, every ring op names a group, every ring's groups' point counts, less its number of groups, add to its point count."
   pub f2 : recordsHold o file ≡ true
+  -- "F2 is to require at least three segments, counted as in the exact geometry, degenerate ones not counted."
+  pub f2-room : ringsHaveRoom o file ≡ true
   -- "F3 Every chunk decodes."
   pub f3 : chunksDecode o file ≡ true
   -- "F4 Each chunk's box covers its points and, within a group, the next chunk's first."

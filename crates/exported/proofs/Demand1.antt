@@ -160,9 +160,10 @@ unfolding lowestBroken rule
 lowest-rule o s =
     on 2 (omega arith) (omega arith) (Rules.recordsHold o s) _
     (on 3 (omega arith) (omega arith) (Rules.chunksDecode o s) _
+    (on 2 (omega arith) (omega arith) (Rules.ringsHaveRoom o s) _
     (on 4 (omega arith) (omega arith) (Rules.chunkBoxesCover o s) _
     (on 5 (omega arith) (omega arith) (Rules.groupsCover o s) _
-    (on 6 (omega arith) (omega arith) (Rules.boxesCover o s) 0 (inl refl)))))
+    (on 6 (omega arith) (omega arith) (Rules.boxesCover o s) 0 (inl refl))))))
   where
     on : (n : ℕ) → 2 ≤ n → n ≤ 6 → (b : Bool) (after : ℕ) → Rule after → Rule (rule n b after)
     on n l g true after h = h

@@ -15,14 +15,18 @@ use Rattle.reader_records.specs.declared.ListRecord.{ListRecord}
 use Rattle.reader_records.specs.declared.RingRecord.{RingRecord}
 use Rattle.reader_records.specs.declared.GroupRecord.{GroupRecord}
 use Rattle.reader_records.specs.declared.ChunkRecord.{ChunkRecord}
-use Rattle.reader_records.specs.Records.{polyAt, ringAt, opAt, groupAt, chunkAt, countRule, tzAt}
+use Rattle.reader_records.specs.Records.{polyAt, ringAt, opAt, groupAt, groupIndex, chunkAt, countRule, tzAt}
 use Rattle.reader_chunks.specs.Chunks.{firstAt, chunkPoints}
 use Rattle.reader_cover.specs.Cover.{pointsAdd, chunkCovers, jointCovers, jointsCover, chunkUnder, groupUnder, ringUnder, polyUnder, endsFit, groupCovers, ringCovers, polyCovers, zoneCovers, groupOfOp, sumOfOps}
 use Rattle.reader_check.specs.declared.Demand.{Demand}
 use Rattle.reader_check.specs.declared.Demand.the-variants as D
-use Rattle.reader_check.specs.FullCheck.{asked, met, allMet, recordsHold, chunksDecode, chunkBoxesCover, groupsCover, boxesCover}
+use Rattle.reader_check.specs.FullCheck.{asked, met, allMet, recordsHold, chunksDecode, ringsHaveRoom, chunkBoxesCover, groupsCover, boxesCover}
 use Rattle.reader_cover.specs.All.{all}
-use Rattle.answer.proofs.AnswersLaws.{holds-at, held, answer-of}
+use Rattle.shapes.specs.Words.{hasRoom}
+use Rattle.shapes.specs.Layout as Layout
+use Rattle.directories.specs.Directories.{directories}
+use Rattle.answer.proofs.AnswersLaws.{then-inv, holds-at, held, answer-of}
+use Rattle.reader_cover.proofs.Sums.{sum-each}
 use Rattle.reader_cover.proofs.AllLaws.{all-at}
 use Rattle.plane.specs.Segment.{samePoint}
 
@@ -72,11 +76,26 @@ module _ (o : Opened) (s : List ℕ) (h : recordsHold o s ≡ true) where
       unfolding pointsAdd
       ring-adds v e = held (countRule v) (sumOfOps o s (v .count) (v .first)) (holds-at (pointsAdd o s) (ringAt o s i) v e ring-passes)
 
+      -- and each of its ops has its group
+      pub ring-legs : (v : RingRecord) → ok v ≡ ringAt o s i → (j : ℕ) → v .first ≤ j → j < v .first + v .count → (w : ℕ) × (g : GroupRecord) × (ok w ≡ opAt o s j) × (ok g ≡ groupAt o s (groupIndex w))
+      unfolding groupOfOp
+      ring-legs v e j a b =
+          let t = ring-adds v e in
+          let g = sum-each o s (v .count) (v .first) (t .0) (t .1) j a b in
+          let w = then-inv (opAt o s j) (λ w. groupAt o s (groupIndex w)) (g .0) (g .1) in
+          (w .0, g .0, w .1, w .2)
+
 -- ---- F3
 module _ (o : Opened) (s : List ℕ) (h : chunksDecode o s ≡ true) where
   pub chunk-decodes : (i : ℕ) → i < o .chunks .count → (l : List I32Point) × (ok l ≡ chunkPoints o s i)
   unfolding chunksDecode
   chunk-decodes i m = answer-of (chunkPoints o s i) (each o s D.Decode (one o s _ _ h) i m)
+
+-- ---- F2, document 02's part
+module _ (o : Opened) (s : List ℕ) (h : ringsHaveRoom o s ≡ true) where
+  pub ring-room : (i : ℕ) → i < o .rings .count → hasRoom (Layout.ringAt (directories o s) i) ≡ true
+  unfolding ringsHaveRoom
+  ring-room i m = each o s D.Room (one o s _ _ h) i m
 
 -- ---- F4
 module _ (o : Opened) (s : List ℕ) (h : chunkBoxesCover o s ≡ true) where

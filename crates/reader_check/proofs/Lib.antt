@@ -3,4 +3,5 @@ pub mod FullCheckLaws
 pub mod Judging
 pub mod Lowest
 pub mod Facts
+pub mod Rooms
 pub mod Determined

@@ -1,4 +1,4 @@
--- Document 01, "What the full check demands": F2 to F6, and the lowest that is broken. A rule is a list of demands, and a demand is made of every record of a directory. F1 is that opening accepts (tzb). For any opened record and any bytes.
+-- Document 01, "What the full check demands", with document 02's request 2026-05: F2 to F6, and the lowest that is broken. A rule is a list of demands, and a demand is made of every record of a directory. F1 is that opening accepts (tzb). For any opened record and any bytes.
 -- Assumes nothing.
 use Prim.Native.Nat.{ℕ, zero, suc}
 use mathlib.Core.Bool.{Bool, true, false, _&&_}
@@ -9,6 +9,9 @@ use Rattle.opened.specs.declared.Opened.{Opened}
 use Rattle.reader_records.specs.Records.{polyAt, ringAt, opAt, groupAt, tzAt}
 use Rattle.reader_chunks.specs.Chunks.{chunkPoints}
 use Rattle.reader_cover.specs.Cover.{pointsAdd, chunkCovers, jointsCover, groupCovers, ringCovers, polyCovers, zoneCovers}
+use Rattle.shapes.specs.Words.{hasRoom}
+use Rattle.shapes.specs.Layout as Layout
+use Rattle.directories.specs.Directories.{directories}
 use Rattle.reader_check.specs.declared.Demand.{Demand}
 use Rattle.reader_check.specs.declared.Demand.the-variants as D
 use Rattle.reader_cover.specs.All.{all}
@@ -31,6 +34,8 @@ asked o s D.Polygon = each (o .polys .count) (λ i. answered (polyAt o s i))
 asked o s D.Op = each (o .ops .count) (λ i. answered (opAt o s i))
 -- every ring's groups' point counts, less its number of groups, add to its point count." (A ring that does not meet the record rule has no counts that add.)
 asked o s D.Ring = each (o .rings .count) (λ i. holds (pointsAdd o s) (ringAt o s i))
+-- and, by document 02, "at least three segments, counted as in the exact geometry, degenerate ones not counted": the segments of the ring's shape, made of the points that its chunks decode to. Judged where all of these are there.
+asked o s D.Room = each (o .rings .count) (λ i. hasRoom (Layout.ringAt (directories o s) i))
 -- F3 "Every chunk decodes."
 asked o s D.Decode = each (o .chunks .count) (λ i. answered (chunkPoints o s i))
 -- F4 "Each chunk's box covers its points
@@ -55,13 +60,17 @@ allMet o s [] = true
 allMet o s (d ∷ l) = met o s d && allMet o s l
 
 -- ---- the rules
--- F2
+-- F2, the older part
 unfoldable pub recordsHold : Opened → List ℕ → Bool
 recordsHold o s = allMet o s (D.Zone ∷ D.Polygon ∷ D.Op ∷ D.Ring ∷ [])
 
 -- F3
 unfoldable pub chunksDecode : Opened → List ℕ → Bool
 chunksDecode o s = allMet o s (D.Decode ∷ [])
+
+-- F2, document 02's part
+unfoldable pub ringsHaveRoom : Opened → List ℕ → Bool
+ringsHaveRoom o s = allMet o s (D.Room ∷ [])
 
 -- F4
 unfoldable pub chunkBoxesCover : Opened → List ℕ → Bool
@@ -80,15 +89,16 @@ unfoldable pub rule : ℕ → Bool → ℕ → ℕ
 rule n true after = after
 rule n false after = n
 
--- the lowest broken rule, 2 to 6; 0 where none is. They are judged in this order
+-- the lowest broken rule, 2 to 6; 0 where none is. They are judged in this order: document 02's part of F2 "only where F2's older part and F3 hold, and before F4"
 unfoldable pub lowestBroken : Opened → List ℕ → ℕ
 lowestBroken o s =
     rule 2 (recordsHold o s)
     (rule 3 (chunksDecode o s)
+    (rule 2 (ringsHaveRoom o s)
     (rule 4 (chunkBoxesCover o s)
     (rule 5 (groupsCover o s)
     (rule 6 (boxesCover o s)
-    0))))
+    0)))))
 
 abbrev pub judged : ℕ → Outcome
 judged zero = accepted

@@ -1,16 +1,20 @@
 -- A ring's point counts, added one by one: what is left to add decides as the whole does.
 -- Assumes nothing.
-use Prim.Native.Nat.{ℕ, suc, _+_, _-_, _<_}
+use Prim.Native.Nat.{ℕ, zero, suc, _+_, _-_, _≤_, _<_}
 use native.Mathlib.Omega.{arith}
 use mathlib.Core.Path.{_≡_, refl, sym, ap, _∙_}
-use mathlib.Core.Bool.{Bool, false}
+use mathlib.Core.Bool.{Bool, true, false}
 use mathlib.Core.List.{List}
+use mathlib.Core.Logic.{_≢_}
+use lib.Dec.{eqb}
+use borrow.Author.Tests.{eqb-true, eqb-false}
 use Rattle.answer.specs.declared.Refusal.{Refusal}
 use Rattle.answer.specs.Answers.{Answer, ok, refused, _then_, holds}
 use Rattle.opened.specs.declared.Opened.{Opened}
 use Rattle.reader_records.specs.declared.RingRecord.{RingRecord}
 use Rattle.reader_records.specs.declared.GroupRecord.{GroupRecord}
 use Rattle.reader_records.specs.Records.{countRule}
+use Rattle.answer.proofs.AnswersLaws.{then-inv}
 use Rattle.reader_cover.specs.Cover.{pointsAdd, groupOfOp, sumOfOps}
 
 -- with `sum` counted so far, n ops from op j on
@@ -59,3 +63,16 @@ module _ (o : Opened) (s : List ℕ) (v : RingRecord) where
         let y : sum + 0 ≡ sum = omega arith in
         let i : countRule v (sum + 0) ≡ whole = rw z at inv in
         ap (countRule v) (sym y) ∙ i
+
+-- where a sum is answered, so is every group that it adds
+pub sum-each : (o : Opened) (s : List ℕ) (n j t : ℕ) → ok t ≡ sumOfOps o s n j → (i : ℕ) → j ≤ i → i < j + n → (g : GroupRecord) × (ok g ≡ groupOfOp o s i)
+unfolding sumOfOps
+sum-each o s zero j t e i l m = absurd (omega arith)
+sum-each o s (suc n) j t e i l m =
+    let a = then-inv (groupOfOp o s j) (λ g. sumOfOps o s n (j + 1) then λ t. ok (g .points + t)) t e in
+    let b = then-inv (sumOfOps o s n (j + 1)) (λ t. ok (a .0 .points + t)) t (a .2) in
+    go (eqb j i) refl (a .0) (a .1) (sum-each o s n (j + 1) (b .0) (b .1) i)
+  where
+    go : (c : Bool) → eqb j i ≡ c → (g : GroupRecord) → ok g ≡ groupOfOp o s j → (j + 1 ≤ i → i < j + 1 + n → (g : GroupRecord) × (ok g ≡ groupOfOp o s i)) → (g : GroupRecord) × (ok g ≡ groupOfOp o s i)
+    go true c g f later = (g, f ∙ ap (groupOfOp o s) (eqb-true j i c))
+    go false c g f later = let ne : j ≢ i = eqb-false j i c in later (omega arith) (omega arith)

@@ -30,7 +30,9 @@ loop-holds c =
     (omega arith, w .1, all-start _ _ _ _ _ refl (omega (arith, w .0)))
 
 is-met-requires : tie.Need-is-met-requires Inv-loop μ-loop
-is-met-requires c κs = search needs
+is-met-requires c κs =
+    let none = c .before .before .before in
+    none .before .before .pre (none .if1 .left)
 
 returns-2 : tie.Need-returns-2 Inv-loop μ-loop
 returns-2 c =
