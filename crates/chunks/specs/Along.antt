@@ -1,5 +1,5 @@
 -- Document 01, "Chunk bytes": the one walk along a chunk's points, whatever is done on the way. A count of 0 is 32; then the first point, and the others one by one; bytes left over are 43, tested last.
--- Scanning (specs/Scan), decoding (Decode) and the trace by which the full check goes (Trace) are this walk, each with a walker of its own.
+-- Scanning (specs/Scan), decoding (Decode), and the trace and the count by which the full check goes (Trace, Count) are this walk, each with a walker of its own.
 -- Assumes nothing.
 use Prim.Native.Nat.{ℕ, zero, suc, _-_}
 use mathlib.Core.List.{List, [], _∷_}

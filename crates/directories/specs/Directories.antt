@@ -23,7 +23,7 @@ nowhere = record { minx = pos 0; miny = pos 0; maxx = pos 0; maxy = pos 0 }
 pub noList : ListRecord
 noList = record { first = 0; count = 0; bbox = nowhere }
 
-pub noRing : RingRecord
+unfoldable pub noRing : RingRecord
 noRing = record { first = 0; points = 0; count = 0; bbox = nowhere }
 
 pub noGroup : GroupRecord

@@ -23,6 +23,7 @@ use Rattle.chunks.specs.Points as Points
 use Rattle.chunks.specs.Along.{along, walkOf}
 use Rattle.chunks.specs.Decode.{pointsOf}
 use Rattle.shapes.specs.Shapes.{Zone, ringIn, polygonIn, zoneIn, inBox, covers}
+use Rattle.shapes.specs.Words.{ringSides, proper, hasRoom}
 use Rattle.shapes.specs.Layout.{groupAt, legAt, ringAt, polygonAt, zoneAt}
 use Rattle.shapes.specs.Example.{zone}
 use Rattle.reader_head.specs.Magic as M
@@ -37,7 +38,7 @@ use Rattle.reader_chunks.specs.Chunks.{startOf, endOf, span, bytesOf, firstIn, 
 use Rattle.reader_zones.specs.Zones.{containsAt}
 use Rattle.directories.specs.Directories.{zoneRecord, polyRecord, ringRecord, opWord, groupRecord, chunkShape, directories}
 use Rattle.reader_cover.specs.Cover.{pointsAdd, chunkCovers, jointCovers, jointsCover, chunkUnder, groupUnder, ringUnder, polyUnder, endsFit, groupCovers, ringCovers, polyCovers, zoneCovers, groupOfOp, sumOfOps}
-use Rattle.reader_check.specs.FullCheck.{met, allMet, recordsHold, chunksDecode, chunkBoxesCover, groupsCover, boxesCover, rule, lowestBroken}
+use Rattle.reader_check.specs.FullCheck.{met, allMet, recordsHold, chunksDecode, ringsHaveRoom, chunkBoxesCover, groupsCover, boxesCover, rule, lowestBroken}
 use Rattle.reader_lookup.specs.Asking.{scaled, lookupOf}
 use Rattle.tzb.specs.Opening as P
 use Rattle.tzb.specs.FullCheck.{fullCheckOf}
@@ -61,7 +62,7 @@ opens = refl
 
 -- F2 to F6
 none-broken : 0 ≡ lowestBroken opened file
-unfolding file opened lowestBroken rule recordsHold chunksDecode chunkBoxesCover groupsCover boxesCover allMet met all run holds answered groupOfOp sumOfOps pointsAdd chunkCovers jointCovers jointsCover chunkUnder groupUnder ringUnder polyUnder endsFit groupCovers ringCovers polyCovers zoneCovers inBox covers samePoint S.listAt S.ringAt S.opAt S.groupAt S.chunkAt S.ruled S.recordAt S.listIn S.listRule S.ringIn S.ringRule S.countRule S.opRule S.groupIn S.groupRule S.chunkIn S.chunkRule S.boxIn S.pointIn S.fitsBelow L.inside E.le B.ordered B.boxInDomain A.inDomain chunkPoints bytesOf endOf span startOf firstIn firstAt pointsOf pointsFrom walkOf along Points.firstOf Points.nextAt Points.numbersAt Points.movedBy Points.mustLie Deltas.addDelta Deltas.fits32 numberAt digits
+unfolding file opened lowestBroken rule recordsHold chunksDecode ringsHaveRoom hasRoom proper ringSides directories ringRecord opWord groupRecord chunkShape ringAt legAt groupAt chunkBoxesCover groupsCover boxesCover allMet met all run holds answered groupOfOp sumOfOps pointsAdd chunkCovers jointCovers jointsCover chunkUnder groupUnder ringUnder polyUnder endsFit groupCovers ringCovers polyCovers zoneCovers inBox covers samePoint S.listAt S.ringAt S.opAt S.groupAt S.chunkAt S.ruled S.recordAt S.listIn S.listRule S.ringIn S.ringRule S.countRule S.opRule S.groupIn S.groupRule S.chunkIn S.chunkRule S.boxIn S.pointIn S.fitsBelow L.inside E.le B.ordered B.boxInDomain A.inDomain chunkPoints bytesOf endOf span startOf firstIn firstAt pointsOf pointsFrom walkOf along Points.firstOf Points.nextAt Points.numbersAt Points.movedBy Points.mustLie Deltas.addDelta Deltas.fits32 numberAt digits
 none-broken = refl
 
 pub accepts : fullCheckOf file ≡ accepted

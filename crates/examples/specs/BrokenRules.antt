@@ -18,11 +18,14 @@ use Rattle.chunks.specs.Points as Points
 use Rattle.chunks.specs.Along.{along, walkOf}
 use Rattle.chunks.specs.Decode.{pointsOf}
 use Rattle.shapes.specs.Shapes.{inBox, covers}
+use Rattle.shapes.specs.Words.{ringSides, proper, hasRoom}
+use Rattle.shapes.specs.Layout as Layout
+use Rattle.directories.specs.Directories.{ringRecord, opWord, groupRecord, chunkShape, directories}
 use Rattle.opened.specs.declared.Opened.{Opened}
 use Rattle.reader_records.specs.Records as Records
 use Rattle.reader_chunks.specs.Chunks.{startOf, endOf, span, bytesOf, firstIn, firstAt, chunkPoints}
 use Rattle.reader_cover.specs.Cover.{pointsAdd, chunkCovers, jointCovers, jointsCover, chunkUnder, groupUnder, ringUnder, polyUnder, endsFit, groupCovers, ringCovers, polyCovers, zoneCovers, groupOfOp, sumOfOps}
-use Rattle.reader_check.specs.FullCheck.{met, allMet, recordsHold, chunksDecode, chunkBoxesCover, groupsCover, boxesCover, rule, lowestBroken}
+use Rattle.reader_check.specs.FullCheck.{met, allMet, recordsHold, chunksDecode, ringsHaveRoom, chunkBoxesCover, groupsCover, boxesCover, rule, lowestBroken}
 use Rattle.answer.specs.Answers.{holds, answered}
 use Rattle.reader_cover.specs.All.{all}
 use Rattle.plane.specs.Segment.{samePoint}
@@ -105,6 +108,12 @@ rows =
     ∷ (row ((104, 1) ∷ []) 2)
     -- the last op names a third group
     ∷ (row ((136, 2) ∷ []) 2)
+    -- the second ring goes to (0, 0) and back: two segments that are not degenerate
+    ∷ (row ((309, 19) ∷ (311, 0) ∷ []) 2)
+    -- the same where no polygon names it
+    ∷ (row ((48, 0) ∷ (309, 19) ∷ (311, 0) ∷ []) 2)
+    -- it stays at (10, 10): none; its group's exit is elsewhere too
+    ∷ (row ((308, 0) ∷ (311, 0) ∷ []) 2)
     -- F3: the first chunk's last number goes on
     ∷ (row ((303, 128) ∷ []) 3)
     -- the second chunk counts a point more
@@ -148,8 +157,14 @@ rows =
     ∷ (row ((311, 128) ∷ (136, 2) ∷ []) 2)
     ∷ (row ((16, 9) ∷ (292, 9) ∷ []) 4)
     ∷ (row ((20, 9) ∷ (204, 1) ∷ []) 5)
+    -- a ring of two segments, and a chunk that does not decode: the segments are not looked at
+    ∷ (row ((303, 128) ∷ (309, 19) ∷ (311, 0) ∷ []) 3)
+    -- a ring of two segments, and F4, F5, F6
+    ∷ (row ((244, 9) ∷ (309, 19) ∷ (311, 0) ∷ []) 2)
+    ∷ (row ((152, 1) ∷ (309, 19) ∷ (311, 0) ∷ []) 2)
+    ∷ (row ((20, 9) ∷ (309, 19) ∷ (311, 0) ∷ []) 2)
     ∷ []
 
 pub judged : T (every told rows)
-unfolding lowestBroken rule recordsHold chunksDecode chunkBoxesCover groupsCover boxesCover allMet met all run holds answered groupOfOp sumOfOps pointsAdd chunkCovers jointCovers jointsCover chunkUnder groupUnder ringUnder polyUnder endsFit groupCovers ringCovers polyCovers zoneCovers inBox covers samePoint Records.listAt Records.ringAt Records.opAt Records.groupAt Records.chunkAt Records.ruled Records.recordAt Records.listIn Records.listRule Records.ringIn Records.ringRule Records.countRule Records.opRule Records.groupIn Records.groupRule Records.chunkIn Records.chunkRule Records.boxIn Records.pointIn Records.fitsBelow Loads.inside le ordered boxInDomain inDomain chunkPoints bytesOf endOf span startOf firstIn firstAt pointsOf pointsFrom walkOf along Points.firstOf Points.nextAt Points.numbersAt Points.movedBy Points.mustLie addDelta fits32 numberAt digits
+unfolding lowestBroken rule recordsHold chunksDecode ringsHaveRoom hasRoom proper ringSides directories ringRecord opWord groupRecord chunkShape Layout.ringAt Layout.legAt Layout.groupAt chunkBoxesCover groupsCover boxesCover allMet met all run holds answered groupOfOp sumOfOps pointsAdd chunkCovers jointCovers jointsCover chunkUnder groupUnder ringUnder polyUnder endsFit groupCovers ringCovers polyCovers zoneCovers inBox covers samePoint Records.listAt Records.ringAt Records.opAt Records.groupAt Records.chunkAt Records.ruled Records.recordAt Records.listIn Records.listRule Records.ringIn Records.ringRule Records.countRule Records.opRule Records.groupIn Records.groupRule Records.chunkIn Records.chunkRule Records.boxIn Records.pointIn Records.fitsBelow Loads.inside le ordered boxInDomain inDomain chunkPoints bytesOf endOf span startOf firstIn firstAt pointsOf pointsFrom walkOf along Points.firstOf Points.nextAt Points.numbersAt Points.movedBy Points.mustLie addDelta fits32 numberAt digits
 judged = tt

@@ -1,4 +1,4 @@
--- One small file that the full check accepts: a header, a table, a name, and the worked zone of shapes as reader_exact has it in bytes (a square with a hole, and a triangle), with no GRID.
+-- One small file that the full check accepts: a header, a table, a name, and the worked zone of shapes as directories has it in bytes (a square with a hole, and a triangle), with no GRID.
 -- Assumes nothing.
 use Prim.Native.Nat.{ℕ}
 use mathlib.Core.List.{List, [], _∷_, _++_}
@@ -18,7 +18,7 @@ table = 1 ∷ 0 ∷ 0 ∷ 0 ∷ 192 ∷ 0 ∷ 0 ∷ 0 ∷ 17 ∷ 0 ∷ 0 ∷ 0 �
 abbrev names : List ℕ
 names = 5 ∷ 0 ∷ 0 ∷ 0 ∷ 0 ∷ 0 ∷ 0 ∷ 0 ∷ 5 ∷ 0 ∷ 0 ∷ 0 ∷ 69 ∷ 116 ∷ 99 ∷ 47 ∷ 48 ∷ 0 ∷ 0 ∷ 0 ∷ []
 
--- the directories and the points: reader_exact's, from 212 on
+-- the directories and the points: those of directories/specs/Example, from 212 on
 
 -- the checksum, from 778 on
 abbrev checksum : List ℕ

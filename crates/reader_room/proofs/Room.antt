@@ -12,7 +12,8 @@ use Rattle.plane.specs.declared.I32Point.{I32Point}
 use Rattle.plane.specs.Segment.{samePoint}
 use Rattle.plane.specs.Lines.{lastFrom, firstOf, lastOf, first-reverse, last-reverse}
 use Rattle.plane.specs.Runs.{run}
-use Rattle.answer.specs.Answers.{Answer, ok, _then_, Given, holds}
+use Rattle.answer.specs.declared.Refusal.{Refusal}
+use Rattle.answer.specs.Answers.{Answer, ok, refused, _then_, Given, holds}
 use Rattle.answer.proofs.AnswersLaws.{holds-ok}
 use Rattle.boxes.specs.Box.{boxInDomain}
 use Rattle.chunks.specs.Along.{overFrom}
@@ -29,7 +30,7 @@ use Rattle.reader_records.specs.declared.GroupRecord.{GroupRecord}
 use Rattle.reader_records.specs.Records.{recordAt, ringIn, ringRule, ringAt, groupIn, groupRule, groupAt, groupIndex, turnsRound, opAt, fitsBelow}
 use Rattle.reader_records.proofs.RecordsLaws.{ruled-kept, within-some, within-fits, group-within}
 use Rattle.reader_chunks.specs.Chunks.{countIn, countAt, chunkPoints}
-use Rattle.directories.specs.Directories.{chunkShape, groupRecord, opWord, ringRecord, directories}
+use Rattle.directories.specs.Directories.{noRing, chunkShape, groupRecord, opWord, ringRecord, directories}
 use Rattle.directories.proofs.Held as Held
 use Rattle.directories.proofs.Held.{Holds, first-given}
 use Rattle.directories.proofs.Rows.{run-one, group-row}
@@ -396,3 +397,8 @@ module _ (o : Opened) (s : List ℕ)
       let b = leb 3 (proper (sidesOf (legs o s (v .count) (v .first)))) in
       sym (holds-ok (λ c. c) (roomOf o s v) b (room-of o s (λ j h. Held.holds o s j (decode j h)) v ring-some legs-there) b refl)
       ∙ has-room
+
+-- a ring that is not there has none
+pub room-none : (o : Opened) (s : List ℕ) (i : ℕ) (k : Refusal) → refused k ≡ ringAt o s i → false ≡ hasRoom (Layout.ringAt (directories o s) i)
+unfolding hasRoom proper ringSides Layout.ringAt directories ringRecord run noRing
+room-none o s i k e = rw (← e)
