@@ -157,8 +157,8 @@ lined-side true k a l e x c =
       is = rw (← c .is);
       over = λ h. c .over (omega (arith, h, proper-reverse l));
       under = λ h.
-        let u = c .under (omega (arith, h, proper-reverse l)) in
-        (omega (arith, u .0, proper-reverse l), u .1 ∙ sym (first-reverse l), e ∙ sym (last-reverse l));
+          let u = c .under (omega (arith, h, proper-reverse l)) in
+          (omega (arith, u .0, proper-reverse l), u .1 ∙ sym (first-reverse l), e ∙ sym (last-reverse l));
     }
 lined-side false k a l e x c =
     record {
@@ -207,11 +207,11 @@ module _ (o : Opened) (s : List ℕ) where
       let m = row n (i + 1) in
       let e = proper-joined a l m in
       let one : Counts (countAt o s i a k) (k + proper (sidesFrom a l)) (lastFrom a l) =
-          counts-as _ _ _ _ _ _ (count-given i (held i (omega arith) (omega arith)) a k) refl refl (over-counts a l k h) in
+      counts-as _ _ _ _ _ _ (count-given i (held i (omega arith) (omega arith)) a k) refl refl (over-counts a l k h) in
       counts-on (chunksCount o s n (i + 1)) (countAt o s i a k) (k + proper (sidesFrom a l)) (lastFrom a l) one
       (k + proper (sidesFrom a (l ++ m))) (lastFrom a (l ++ m)) (omega (arith, e))
       (λ g. counts-as _ _ _ _ _ _ refl (omega (arith, e)) (sym (last-joined a l m))
-        (chunks-count n (i + 1) (lastFrom a l) (k + proper (sidesFrom a l)) g (λ j u v. held j (omega (arith, u)) (omega (arith, v)))))
+      (chunks-count n (i + 1) (lastFrom a l) (k + proper (sidesFrom a l)) g (λ j u v. held j (omega (arith, u)) (omega (arith, v)))))
 
   row-one : (n i : ℕ) → 0 < n → row n i ≡ chunkShape o s i .first ∷ (chunkShape o s i .rest ++ row (n - 1) (i + 1))
   row-one n i h = ap points (run-one (chunkShape o s) n i h)
@@ -227,7 +227,7 @@ module _ (o : Opened) (s : List ℕ) where
       let e = row-one n i some in
       rw (← first-given o s i (held i (omega arith) (omega (arith, some))))
       (lined-side t k (c .first) (row n i) (ap firstOf (sym e)) (chunksCount o s n i (c .first) k)
-        (counts-own (chunksCount o s n i (c .first) k) k (c .first) (row n i) (c .rest ++ row (n - 1) (i + 1)) e (chunks-count n i (c .first) k h held)))
+      (counts-own (chunksCount o s n i (c .first) k) k (c .first) (row n i) (c .rest ++ row (n - 1) (i + 1)) e (chunks-count n i (c .first) k h held)))
 
   -- ---- the leg of an op
   leg : ℕ → List P
@@ -347,7 +347,7 @@ module _ (o : Opened) (s : List ℕ) (held : (i : ℕ) → i < o .chunks .count 
       let m = k + proper (neighbours l) in
       let total = k + proper (joining a (firstOf l) ++ (neighbours l ++ rest)) in
       let sum : total ≡ m + apart a (firstOf l) + proper rest =
-          omega (arith, proper-append (joining a (firstOf l)) (neighbours l ++ rest), proper-append (neighbours l) rest, proper-joining a (firstOf l)) in
+      omega (arith, proper-append (joining a (firstOf l)) (neighbours l ++ rest), proper-append (neighbours l) rest, proper-joining a (firstOf l)) in
       line-on a (linesRoom o s start n (j + 1)) (lineAt o s j k) m (firstOf l) (lastOf l) (lined j (there j (omega arith) (omega arith)) k h)
       total (omega (arith, sum))
       (λ g. ap (λ (x : ℕ). ok (leb 3 x)) sum ∙ lines-room n (j + 1) start (lastOf l) (m + apart a (firstOf l)) g (λ i u v. there i (omega (arith, u)) (omega (arith, v))))
@@ -369,8 +369,8 @@ module _ (o : Opened) (s : List ℕ) (held : (i : ℕ) → i < o .chunks .count 
         let sum : total ≡ m + proper rest = omega (arith, proper-append (neighbours l) rest) in
         ap (λ (x : List (List P)). ok (leb 3 (proper (sidesOf x)))) legs-one
         ∙ line-first (λ p q k. linesRoom o s p (v .count - 1) (v .first + 1) q k) (lineAt o s (v .first) 0) m (firstOf l) (lastOf l) (lined (v .first) (there (v .first) (omega arith) (omega (arith, some))) 0 (omega arith))
-          total (omega (arith, sum))
-          (λ g. ap (λ (x : ℕ). ok (leb 3 x)) sum ∙ lines-room (v .count - 1) (v .first + 1) (firstOf l) (lastOf l) m g (λ j u w. there j (omega (arith, u)) (omega (arith, some, w))))
+        total (omega (arith, sum))
+        (λ g. ap (λ (x : ℕ). ok (leb 3 x)) sum ∙ lines-room (v .count - 1) (v .first + 1) (firstOf l) (lastOf l) m g (λ j u w. there j (omega (arith, u)) (omega (arith, some, w))))
 
 -- ---- THE LAW: of a ring that is there, with its ops and their groups, in a file whose chunks decode
 module _ (o : Opened) (s : List ℕ)
@@ -378,25 +378,25 @@ module _ (o : Opened) (s : List ℕ)
     (i : ℕ) (v : RingRecord) (there : ok v ≡ ringAt o s i)
     (legs-there : (j : ℕ) → v .first ≤ j → j < v .first + v .count → (w : ℕ) × (g : GroupRecord) × (ok w ≡ opAt o s j) × (ok g ≡ groupAt o s (groupIndex w)))
   where
-  ring-is : ringRecord o s i ≡ v
-  unfolding ringRecord
-  ring-is = rw (← there)
+    ring-is : ringRecord o s i ≡ v
+    unfolding ringRecord
+    ring-is = rw (← there)
 
-  ring-some : 0 < v .count
-  unfolding ringAt ringRule
-  ring-some =
-      within-some (v .first) (v .count) (o .ops .count)
-      (and-r (boxInDomain (v .bbox)) (fitsBelow (v .first) (v .count) (o .ops .count)) (ruled-kept (recordAt s (o .rings) ringWide i) (ringIn s) (ringRule (o .ops .count)) 34 v there))
+    ring-some : 0 < v .count
+    unfolding ringAt ringRule
+    ring-some =
+        within-some (v .first) (v .count) (o .ops .count)
+        (and-r (boxInDomain (v .bbox)) (fitsBelow (v .first) (v .count) (o .ops .count)) (ruled-kept (recordAt s (o .rings) ringWide i) (ringIn s) (ringRule (o .ops .count)) 34 v there))
 
-  has-room : leb 3 (proper (sidesOf (legs o s (v .count) (v .first)))) ≡ hasRoom (Layout.ringAt (directories o s) i)
-  unfolding hasRoom ringSides Layout.ringAt directories legs
-  has-room = ap (λ (x : RingRecord). leb 3 (proper (sidesOf (map legPoints (run (Layout.legAt (directories o s)) (x .count) (x .first)))))) (sym ring-is)
+    has-room : leb 3 (proper (sidesOf (legs o s (v .count) (v .first)))) ≡ hasRoom (Layout.ringAt (directories o s) i)
+    unfolding hasRoom ringSides Layout.ringAt directories legs
+    has-room = ap (λ (x : RingRecord). leb 3 (proper (sidesOf (map legPoints (run (Layout.legAt (directories o s)) (x .count) (x .first)))))) (sym ring-is)
 
-  pub room-is : holds (λ b. b) (roomOf o s v) ≡ hasRoom (Layout.ringAt (directories o s) i)
-  room-is =
-      let b = leb 3 (proper (sidesOf (legs o s (v .count) (v .first)))) in
-      sym (holds-ok (λ c. c) (roomOf o s v) b (room-of o s (λ j h. Held.holds o s j (decode j h)) v ring-some legs-there) b refl)
-      ∙ has-room
+    pub room-is : holds (λ b. b) (roomOf o s v) ≡ hasRoom (Layout.ringAt (directories o s) i)
+    room-is =
+        let b = leb 3 (proper (sidesOf (legs o s (v .count) (v .first)))) in
+        sym (holds-ok (λ c. c) (roomOf o s v) b (room-of o s (λ j h. Held.holds o s j (decode j h)) v ring-some legs-there) b refl)
+        ∙ has-room
 
 -- a ring that is not there has none
 pub room-none : (o : Opened) (s : List ℕ) (i : ℕ) (k : Refusal) → refused k ≡ ringAt o s i → false ≡ hasRoom (Layout.ringAt (directories o s) i)

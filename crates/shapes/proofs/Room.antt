@@ -141,7 +141,7 @@ round-length start a ((b ∷ r) ∷ ls) f =
       side-length b r,
       length-append (after a (b ∷ r)) rest,
       after-length a b r,
-      ap (λ (x : P). length (joining x start)) e
+      ap (λ (x : P). length (joining x start)) e,
     )
 
 closed-length : (a : P) (r : List P) → length (closed (a ∷ r)) ≡ suc (length r) + length (joining (lastFrom a r) a)
@@ -162,7 +162,7 @@ positions-length a r ls f =
       round-length a c ls f,
       length-append (sidesFrom a r) (roundTo a c ls),
       side-length a r,
-      ap (λ (x : P). length (joining x a)) (last-joined a r rest)
+      ap (λ (x : P). length (joining x a)) (last-joined a r rest),
     )
 
 -- ---- a leg has a point
