@@ -1,6 +1,7 @@
 -- Demand 3, and what else is proved of a file that the full check accepts.
 pub mod Sums
 pub mod Rules
+pub mod Room
 pub mod Accepted
 pub mod Words
 pub mod Demand3
