@@ -54,7 +54,9 @@ fn some(met: &mut Met, random: &mut Random, most: usize, count: usize) {
         _ => file::on_lattice(random),
     };
     let file = draft.lay();
-    assert_eq!(full_check(&file), Ok(()), "a file of the builder");
+    let said = full_check(&file).map_err(|broken| broken.rule);
+    let expected = if draft.has_room() { Ok(()) } else { Err(2) };
+    assert_eq!(said, expected, "a file of the builder");
     judge(met, &file, most);
     let cut = random.below(file.len());
     let record = Sides::open(&file).record(&file).expect("a file that opens");

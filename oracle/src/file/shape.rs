@@ -130,6 +130,35 @@ impl Shape {
         all.fold(Bounds::NONE, Bounds::and).wider(self.slack)
     }
 
+    /// How many of a ring's segments have two different ends: its points one after another, round to the first.
+    fn segments(&self, ring: &Ring) -> usize {
+        let leg = |op: &Op| {
+            let points = self.groups[op.group].points();
+            if op.turned { points.into_iter().rev().collect() } else { points }
+        };
+        let points: Vec<Point> = ring.iter().flat_map(leg).collect();
+        let next = points.iter().cycle().skip(1);
+        points.iter().zip(next).filter(|(a, b)| a != b).count()
+    }
+
+    /// A ring of this maker. Where it has to have room it is made anew until three of its segments count.
+    pub fn made(&mut self, room: bool, mut make: impl FnMut(&mut Self) -> Ring) -> Ring {
+        let groups = self.groups.len();
+        loop {
+            let ring = make(self);
+            if !room || self.segments(&ring) >= 3 {
+                return ring;
+            }
+            self.groups.truncate(groups);
+        }
+    }
+
+    /// Of the ring that has the fewest. With fewer than three the full check refuses the file.
+    pub fn fewest_segments(&self) -> usize {
+        let rings = self.zones.iter().flatten().flatten();
+        rings.map(|ring| self.segments(ring)).min().unwrap()
+    }
+
     /// The cell of a point of the first group, in degrees.
     pub fn cell(&self) -> (i32, i32) {
         let (x, y) = self.groups[0].0[0][0];
@@ -328,16 +357,27 @@ impl Lattice {
         self.at(random.from_to(0, self.side), random.from_to(0, self.side))
     }
 
-    /// Corners: a rectangle, any points, a few points on one line, a walk of steps to all sides.
+    /// Corners: a rectangle, any points, a few points on one line, a walk of steps to all sides, a few points and the same again.
     fn corners(self, random: &mut Random) -> Vec<Point> {
         let (a, c) = (self.point(random), self.point(random));
-        match random.below(8) {
+        match random.below(9) {
             0..3 => vec![a, (c.0, a.1), c, (a.0, c.1)],
             3 => vec![a, c],
             4 => (0..20).map(|_| self.point(random)).collect(),
             5 => self.walk(random),
+            6 => self.few(random),
             _ => (0..3 + random.below(4)).map(|_| self.point(random)).collect(),
         }
+    }
+
+    /// Two to four points, each once, twice or three times in turn: few segments count.
+    fn few(self, random: &mut Random) -> Vec<Point> {
+        let mut out = Vec::new();
+        for _ in 0..2 + random.below(3) {
+            let point = self.point(random);
+            out.extend(vec![point; 1 + random.below(3)]);
+        }
+        out
     }
 
     fn walk(self, random: &mut Random) -> Vec<Point> {
@@ -354,15 +394,17 @@ impl Lattice {
 
 impl Shape {
     /// Zones on one small lattice: level and upright edges, edges that touch and lie on each other, joints between groups, groups shared and turned round, many chunks.
+    /// One time in four its rings may also be lines and points.
     pub fn on_lattice(random: &mut Random) -> Self {
-        let lattice = Lattice::some(random);
+        let (lattice, room) = (Lattice::some(random), random.below(4) > 0);
         let slack = random.pick(&[0, 0, 0, 1, 7]);
         let mut shape = Self { lead: random.pick(&[0, 0, 0, 2]), slack, ..Self::default() };
         for _ in 0..1 + random.below(3) {
             let mut zone = Vec::new();
             for _ in 0..random.pick(&[1, 1, 2]) {
                 let rings = random.pick(&[1, 1, 2, 3]);
-                zone.push((0..rings).map(|_| shape.lattice_ring(random, lattice)).collect());
+                let mut ring = |_| shape.made(room, |shape| shape.lattice_ring(random, lattice));
+                zone.push((0..rings).map(&mut ring).collect());
             }
             shape.zones.push(zone);
         }

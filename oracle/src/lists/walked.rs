@@ -20,6 +20,8 @@ pub fn full() -> Vec<(u32, Vec<u8>)> {
         |(rule, file): (u32, Vec<u8>)| (if rule == 0 { 0 } else { 47 + 100 * rule }, file);
     let mut out: Vec<(u32, Vec<u8>)> = file::broken::files().into_iter().map(by_hand).collect();
     out.extend(file::departing().into_iter().map(by_hand));
+    let small = file::small_rings::cases().into_iter();
+    out.extend(small.map(|case| by_hand((case.rule, case.file))));
     out.extend(file::cases().into_iter().step_by(8).filter(|(number, _)| *number > 0));
     let said = |file: &[u8]| full_check(file).err().map_or(0, |b| b.number + 100 * b.rule);
     out.iter().enumerate().for_each(|(i, (number, file))| assert_eq!(said(file), *number, "{i}"));

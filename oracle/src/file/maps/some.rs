@@ -3,14 +3,16 @@
 use super::*;
 
 /// A valid file whose rings are made of short groups: of one point too, with equal neighbours, turned round and shared, meeting or not, closed or not.
+/// One time in four they may also be lines and points.
 pub fn some(random: &mut Random) -> Draft {
-    let mut shape = Shape::default();
+    let (mut shape, room) = (Shape::default(), random.below(4) > 0);
     let reach = random.pick(&[1, 2, 3, 1_000, 100_000, 20_000_000, 0]);
     for _ in 0..1 + random.below(3) {
         let mut zone = Vec::new();
         for _ in 0..random.pick(&[1, 1, 2]) {
             let rings = random.pick(&[1, 1, 2, 3]);
-            zone.push((0..rings).map(|_| some_ring(random, &mut shape, reach)).collect());
+            let mut ring = |_| shape.made(room, |shape| some_ring(random, shape, reach));
+            zone.push((0..rings).map(&mut ring).collect());
         }
         shape.zones.push(zone);
     }
