@@ -147,7 +147,7 @@ fn with_other_ends() -> Vec<Case> {
     ]
 }
 
-/// Breaks a rule of a group of the first zone's: of a zone of one ring of one group of one chunk, (5, 5) its first point.
+/// What breaks a rule, of a file whose zones have one ring of one group of one chunk each, with x from 5 on.
 fn breaks(rule: u32, record: usize) -> Field {
     match rule {
         // A point count one off.
@@ -159,7 +159,7 @@ fn breaks(rule: u32, record: usize) -> Field {
     }
 }
 
-/// The last number of a chunk goes on past its end: rule 3. Of a file of two zones, the place of the byte in POINTS.
+/// The last number of a chunk, with its byte's place in POINTS, goes on past the chunk's end: rule 3.
 fn running_on(file: &[u8], byte: usize) -> Vec<u8> {
     let [_, off, _] = entries(file).into_iter().find(|entry| entry[0] == POINTS).unwrap();
     let mut out = file.to_vec();
