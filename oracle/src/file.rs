@@ -190,12 +190,25 @@ pub fn some(random: &mut Random) -> Draft {
     around(random, &shape, false, Grid::some)
 }
 
-/// A valid file whose zones lie on a small lattice; now and then a ring of them has no room. Now and then all have the same name.
+/// A valid file whose zones lie on a small lattice. A ring may also be a line or a point: then the full check refuses it. Now and then all zones have the same name.
 pub fn on_lattice(random: &mut Random) -> Draft {
     let shape = Shape::on_lattice(random);
+    over_lattice(random, &shape)
+}
+
+/// The same, but three times in four each ring has room.
+pub fn mostly_with_room(random: &mut Random) -> Draft {
+    let shape = match random.below(4) {
+        0 => Shape::on_lattice(random),
+        _ => Shape::with_room(random),
+    };
+    over_lattice(random, &shape)
+}
+
+fn over_lattice(random: &mut Random, shape: &Shape) -> Draft {
     let alike = random.below(8) == 0;
     let cell = shape.cell();
-    around(random, &shape, alike, |random, zones| Grid::over(random, zones, cell))
+    around(random, shape, alike, |random, zones| Grid::over(random, zones, cell))
 }
 
 /// A file with these zones; their names are alike or not.

@@ -4,7 +4,7 @@ use super::asking::questions;
 use super::{DIFFERENCE, Tally};
 use crate::exact::Exact;
 use crate::file::damage::Aim;
-use crate::file::{maps, on_lattice, some};
+use crate::file::{maps, mostly_with_room, some};
 use crate::port::asking;
 use crate::port::opening::{self, Opened};
 use crate::random::Random;
@@ -61,8 +61,8 @@ pub fn run(seconds: u64, seed: u64) {
     while start.elapsed() < Duration::from_secs(seconds) {
         let draft = match random.below(8) {
             0 => some(&mut random),
-            1 => maps::some(&mut random),
-            _ => on_lattice(&mut random),
+            1 => maps::mostly_with_room(&mut random),
+            _ => mostly_with_room(&mut random),
         };
         let (file, kind) = (draft.lay(), kind(draft.fewest.unwrap()));
         let expected = if draft.has_room() { (0, 0) } else { (47, 2) };

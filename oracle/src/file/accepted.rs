@@ -2,8 +2,8 @@
 
 use super::damage::Aim;
 use super::{
-    CHUNKDIR, GROUPDIR, POLYDIR, RINGDIR, RINGOPS, TZDIR, broken, entries, maps, on_lattice, some,
-    word,
+    CHUNKDIR, GROUPDIR, POLYDIR, RINGDIR, RINGOPS, TZDIR, broken, entries, maps, mostly_with_room,
+    some, word,
 };
 use crate::random::Random;
 use crate::rules::full_check;
@@ -138,8 +138,8 @@ fn the_full_check_accepts_every_file_made_whose_rings_have_room() {
     for i in 0..3000 {
         let draft = match i % 3 {
             0 => some(&mut random),
-            1 => on_lattice(&mut random),
-            _ => maps::some(&mut random),
+            1 => mostly_with_room(&mut random),
+            _ => maps::mostly_with_room(&mut random),
         };
         let (file, fewest) = (draft.lay(), draft.fewest.unwrap());
         let said = full_check(&file).map_err(|broken| broken.rule);
@@ -159,7 +159,7 @@ fn damaged_files_are_accepted_by_both_or_by_none() {
     let mut random = Random::new(4);
     let (mut judged, mut without_room) = ([0; 2], 0);
     for _ in 0..500 {
-        let file = on_lattice(&mut random).lay();
+        let file = mostly_with_room(&mut random).lay();
         let aim = Aim::at_geometry(&file);
         for _ in 0..10 {
             let damaged = aim.damage(&mut random, &file, 1);

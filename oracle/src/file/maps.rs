@@ -5,7 +5,7 @@ mod some;
 mod tables;
 
 pub use long::long;
-pub use some::some;
+pub use some::{mostly_with_room, some};
 
 use super::*;
 use crate::rules::map::Polygon as Written;

@@ -357,15 +357,14 @@ impl Lattice {
         self.at(random.from_to(0, self.side), random.from_to(0, self.side))
     }
 
-    /// Corners: a rectangle, any points, a few points on one line, a walk of steps to all sides, a few points and the same again.
+    /// Corners: a rectangle, any points, a few points on one line, a walk of steps to all sides.
     fn corners(self, random: &mut Random) -> Vec<Point> {
         let (a, c) = (self.point(random), self.point(random));
-        match random.below(9) {
+        match random.below(8) {
             0..3 => vec![a, (c.0, a.1), c, (a.0, c.1)],
             3 => vec![a, c],
             4 => (0..20).map(|_| self.point(random)).collect(),
             5 => self.walk(random),
-            6 => self.few(random),
             _ => (0..3 + random.below(4)).map(|_| self.point(random)).collect(),
         }
     }
@@ -394,16 +393,30 @@ impl Lattice {
 
 impl Shape {
     /// Zones on one small lattice: level and upright edges, edges that touch and lie on each other, joints between groups, groups shared and turned round, many chunks.
-    /// One time in four its rings may also be lines and points.
+    /// A ring may also be a line or a point.
     pub fn on_lattice(random: &mut Random) -> Self {
-        let (lattice, room) = (Lattice::some(random), random.below(4) > 0);
+        Self::of_lattice(random, false)
+    }
+
+    /// The same, but each ring has room. There are more of three segments and four.
+    pub fn with_room(random: &mut Random) -> Self {
+        Self::of_lattice(random, true)
+    }
+
+    fn of_lattice(random: &mut Random, room: bool) -> Self {
+        let lattice = Lattice::some(random);
         let slack = random.pick(&[0, 0, 0, 1, 7]);
         let mut shape = Self { lead: random.pick(&[0, 0, 0, 2]), slack, ..Self::default() };
         for _ in 0..1 + random.below(3) {
             let mut zone = Vec::new();
             for _ in 0..random.pick(&[1, 1, 2]) {
                 let rings = random.pick(&[1, 1, 2, 3]);
-                let mut ring = |_| shape.made(room, |shape| shape.lattice_ring(random, lattice));
+                let mut make = |shape: &mut Self| {
+                    let few = room && random.below(6) == 0;
+                    let corners = if few { lattice.few(random) } else { lattice.corners(random) };
+                    shape.lattice_ring(random, corners)
+                };
+                let mut ring = |_| shape.made(room, &mut make);
                 zone.push((0..rings).map(&mut ring).collect());
             }
             shape.zones.push(zone);
@@ -411,9 +424,8 @@ impl Shape {
         shape
     }
 
-    /// Its groups meet, or a joint lies between them; now and then one is a group that stands elsewhere too.
-    fn lattice_ring(&mut self, random: &mut Random, lattice: Lattice) -> Ring {
-        let mut points = lattice.corners(random);
+    /// A ring of these corners. Its groups meet, or a joint lies between them; now and then one is a group that stands elsewhere too.
+    fn lattice_ring(&mut self, random: &mut Random, mut points: Vec<Point>) -> Ring {
         let (joined, open) = (random.below(3) > 0, random.below(6) == 0);
         if !open {
             points.push(points[0]);

@@ -119,7 +119,7 @@ mod tests {
     use super::*;
     use crate::exact::Exact;
     use crate::file::maps::{self, Drawn};
-    use crate::file::{on_lattice, some};
+    use crate::file::{mostly_with_room, some};
     use crate::random::Random;
 
     /// Document 02's own text.
@@ -170,8 +170,8 @@ mod tests {
         for i in 0..2000 {
             let draft = match i % 3 {
                 0 => some(&mut random),
-                1 => on_lattice(&mut random),
-                _ => maps::some(&mut random),
+                1 => mostly_with_room(&mut random),
+                _ => maps::mostly_with_room(&mut random),
             };
             let file = draft.lay();
             if !draft.has_room() {

@@ -3,9 +3,19 @@
 use super::*;
 
 /// A valid file whose rings are made of short groups: of one point too, with equal neighbours, turned round and shared, meeting or not, closed or not.
-/// One time in four they may also be lines and points.
+/// A ring may also be a line or a point.
 pub fn some(random: &mut Random) -> Draft {
-    let (mut shape, room) = (Shape::default(), random.below(4) > 0);
+    of_groups(random, false)
+}
+
+/// The same, but three times in four each ring has room.
+pub fn mostly_with_room(random: &mut Random) -> Draft {
+    let room = random.below(4) > 0;
+    of_groups(random, room)
+}
+
+fn of_groups(random: &mut Random, room: bool) -> Draft {
+    let mut shape = Shape::default();
     let reach = random.pick(&[1, 2, 3, 1_000, 100_000, 20_000_000, 0]);
     for _ in 0..1 + random.below(3) {
         let mut zone = Vec::new();
