@@ -30,7 +30,7 @@ const D: Point = (4, 4);
 const W: Point = (-18_000_000, -9_000_000);
 const E: Point = (18_000_000, 9_000_000);
 
-pub const RINGS: [(&str, Ring, usize); 47] = [
+pub const RINGS: [(&str, Ring, usize); 50] = [
     // One point.
     ("a point", &[ahead(&[&[A]])], 0),
     ("a point, twice", &[ahead(&[&[B, B]])], 0),
@@ -68,6 +68,17 @@ pub const RINGS: [(&str, Ring, usize); 47] = [
     ("three neighbours", &[ahead(&[&[A, (1, 0), (1, 1)]])], 3),
     ("three of the domain's corners", &[ahead(&[&[W, (W.0, E.1), E]])], 3),
     ("three groups of one point", &[ahead(&[&[A]]), turned(&[&[B]]), ahead(&[&[C]])], 3),
+    (
+        "three groups of one point, one above the other",
+        &[ahead(&[&[A]]), ahead(&[&[(0, 2)]]), ahead(&[&[C]])],
+        3,
+    ),
+    ("three points 65,536 apart", &[ahead(&[&[A, (65_536, 0), (0, 65_536)]])], 3),
+    (
+        "three groups of one point, 65,536 apart",
+        &[ahead(&[&[A]]), ahead(&[&[(65_536, 0)]]), ahead(&[&[(0, 65_536)]])],
+        3,
+    ),
     ("a line and a point", &[ahead(&[&[A, B]]), ahead(&[&[C]])], 3),
     ("a line that is turned, and a point", &[turned(&[&[A, B]]), ahead(&[&[C]])], 3),
     ("two lines that meet, and a joint", &[ahead(&[&[A, B]]), turned(&[&[C, B]])], 3),
