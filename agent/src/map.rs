@@ -28,7 +28,8 @@ const AT_FIRST: usize = 65_536;
 /// # Errors
 /// The first of these: the [full check](crate::full_check)'s refusal, 1 to 34, or 47 with the lowest broken
 /// [`rule`](Refusal::rule); 45 for a zone number that is too large; 48 where a ring of the zone, a hole too, has under
-/// four positions, over 10,000, or no area; 46 where there is no memory for the text.
+/// four positions, over 10,000, or no area; 46 where there is no memory for the text. A ring of under four positions has
+/// fewer than three segments, which is told before, by 47 and rule 2: so 48 is met for the other two.
 pub fn map(file: &[u8], zone: u32) -> Result<String, Refusal> {
     let told = |code| Refusal::of_code(code).map_err(|refusal| refusal.with_rule_of(file));
     let mut text = room(AT_FIRST)?;

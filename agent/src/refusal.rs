@@ -73,7 +73,8 @@ impl Refusal {
     /// For 47, what the broken rule means.
     ///
     /// A file that breaks rule 2 or 3 can have questions refused. A file that breaks rule 4, 5 or 6 can have them
-    /// answered wrongly, since the reader trusts the boxes to skip what lies elsewhere.
+    /// answered wrongly, since the reader trusts the boxes to skip what lies elsewhere. Rule 2 is also broken by a ring of
+    /// fewer than three segments, a line or a point: questions are answered then, but a zone drawn so has no room in it.
     #[must_use]
     pub fn rule_sentence(&self) -> Option<&'static str> {
         let place = (self.rule as usize).checked_sub(2)?;
@@ -150,7 +151,7 @@ const SENTENCES: [&str; 50] = [
 
 /// The rules 2 to 6 of the full check, each by what it means that it is broken.
 const RULES: [&str; 5] = [
-    "a zone, polygon or ring has a bad record, names a group that is not there, or has a wrong point count. A question that meets it is refused.",
+    "a zone, polygon or ring has a bad record, names a group that is not there, or has a wrong point count, and a question that meets it is refused; or a ring has fewer than three segments, so that it is a line or a point, and only the spots on it are in it.",
     "the points of a chunk cannot be read. A question that meets it is refused.",
     "a chunk's box does not cover its points and the next chunk's first. A question near it can be answered wrongly.",
     "a group's box does not cover its chunks' boxes, or its two ends are not its first and last point. A question near it can be answered wrongly.",

@@ -9,7 +9,7 @@ use std::time::Duration;
 
 use common::program::{Kept, answered, ended, run, tzb};
 use common::{
-    CHUNKDIR, GROUPDIR, RINGDIR, Squares, TZDIR, changed, coast, in_chunks, start_of, words,
+    CHUNKDIR, GROUPDIR, RINGDIR, Squares, TZDIR, changed, coast, drawn, in_chunks, start_of, words,
 };
 
 const SAMPLE: &str = "../sample/real-ne.tzb";
@@ -101,6 +101,22 @@ fn the_full_check() {
     let (status, out, _) = run(&["check", "Cargo.toml"], "");
     assert_eq!(status, Some(1));
     assert!(out.starts_with("Cargo.toml: not accepted: refusal 2: "), "{out}");
+}
+
+/// A zone drawn as a line; and one as three points on a line, which are segments enough.
+#[test]
+fn the_full_check_of_a_line() {
+    let line = Kept::new("line.tzb", &drawn(&["A"], &[&[&[(0, 0), (100, 100)]]]));
+    let (status, out, err) = run(&["check", &line.0], "");
+    assert_eq!((status, err.as_str()), (Some(1), ""));
+    assert!(out.starts_with(&format!("{}: not accepted: refusal 47: ", line.0)), "{out}");
+    assert!(
+        out.contains("Rule 2 is broken: ") && out.contains("fewer than three segments"),
+        "{out}"
+    );
+    assert_eq!(run(&["zone", &line.0, "0.0005", "0.0005"], ""), answered("A\n"));
+    let three = Kept::new("three.tzb", &drawn(&["A"], &[&[&[(0, 0), (50, 50), (100, 100)]]]));
+    assert_eq!(run(&["check", &three.0], ""), answered(&format!("{}: accepted\n", three.0)));
 }
 
 /// A square whose zone has a box that is too small: a question by its right edge is answered wrongly.

@@ -5,8 +5,8 @@ mod common;
 use std::collections::BTreeSet;
 
 use common::{
-    CHUNKDIR, GROUPDIR, NAMES, POINTS, RINGDIR, RINGOPS, Squares, TZDIR, changed, coast, in_chunks,
-    same_at, sample, words,
+    CHUNKDIR, GROUPDIR, NAMES, POINTS, RINGDIR, RINGOPS, Squares, TZDIR, changed, coast, drawn,
+    in_chunks, same_at, sample, words,
 };
 use tzb::journal::Entry;
 use tzb::{Index, Refusal, Walk, WhyPlain, full_check, map};
@@ -144,6 +144,20 @@ fn the_full_check_gives_the_broken_rule() {
         let index = Index::open(&damaged).unwrap();
         let answer = index.contains(0, 50_000, 50_000).map_err(|refusal| refusal.number());
         assert_eq!(answer, inside, "rule {rule}");
+    }
+}
+
+/// A zone drawn as a line opens and is answered as it stands, on the line and beside it; the full check refuses it.
+#[test]
+fn a_line_is_answered_and_not_accepted() {
+    for (ring, rule) in
+        [(&[(0, 0), (50_000, 0)][..], Some(2)), (&[(0, 0), (50_000, 0), (0, 1)], None)]
+    {
+        let file = drawn(&["A"], &[&[ring]]);
+        assert_eq!(full_check(&file).err().map(|refusal| refusal.rule()), rule.map(Some));
+        let index = Index::open(&file).unwrap();
+        assert_eq!([0, 1, -1].map(|y| index.contains(0, 20_000, y)), [true, false, false].map(Ok));
+        assert_eq!([index.zone(0.2, 0.0), index.zone(0.2, 0.1)], [Ok(Some(0)), Ok(None)]);
     }
 }
 

@@ -141,22 +141,41 @@ fn a_zone_number_too_large_is_45() {
     }
 }
 
-/// In the outer ring and in a hole, of the first polygon and of the last.
+/// Files with this ring: the outer one and a hole, of the first polygon and of the last.
+fn files_with(ring: &[Point]) -> [Vec<u8>; 4] {
+    let shapes: [&[&[&[Point]]]; 4] = [
+        &[&[ring]],
+        &[&[&SQUARE, ring]],
+        &[&[&SQUARE], &[ring]],
+        &[&[&SQUARE], &[&SQUARE, &TRIANGLE, ring]],
+    ];
+    shapes.map(|polygons| drawn(&["A"], polygons))
+}
+
+/// Three points on a line, a bow whose halves cancel out, two points there and back twice: segments enough, and no area.
 #[test]
-fn a_ring_out_of_form_is_48() {
+fn a_ring_without_area_is_48() {
     let line = [(0, 0), (5, 5), (10, 10)];
     let bow = [(0, 0), (10, 10), (10, 0), (0, 10)];
-    let bad: [&[Point]; 4] = [&[(0, 0), (10, 10)], &[(7, 7)], &line, &bow];
+    let twice = [(0, 0), (10, 10), (0, 0), (10, 10)];
+    let bad: [&[Point]; 3] = [&line, &bow, &twice];
     for ring in bad {
-        let shapes: [&[&[&[Point]]]; 4] = [
-            &[&[ring]],
-            &[&[&SQUARE, ring]],
-            &[&[&SQUARE], &[ring]],
-            &[&[&SQUARE], &[&SQUARE, &TRIANGLE, ring]],
-        ];
-        for polygons in shapes {
-            let file = drawn(&["A"], polygons);
+        for file in files_with(ring) {
             assert_eq!((full_check(&file), number(map(&file, 0))), (Ok(()), 48), "{ring:?}");
+        }
+    }
+}
+
+/// A line of two points and a point have fewer than three segments. So has a line some of whose points are stored twice.
+#[test]
+fn a_ring_with_fewer_than_three_segments_is_47() {
+    let bad: [&[Point]; 3] = [&[(0, 0), (10, 10)], &[(7, 7)], &[(0, 0), (0, 0), (10, 1), (10, 1)]];
+    for ring in bad {
+        for file in files_with(ring) {
+            let refusal = map(&file, 0).unwrap_err();
+            assert_eq!((refusal.number(), refusal.rule()), (47, Some(2)), "{ring:?}");
+            assert_eq!(full_check(&file), Err(refusal));
+            assert_eq!(Index::open_checked(&file).err(), Some(refusal));
         }
     }
 }

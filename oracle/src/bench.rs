@@ -6,6 +6,7 @@ mod journal;
 mod large;
 pub mod map;
 mod mixed;
+pub mod rings;
 mod striped;
 pub mod zones;
 

@@ -12,6 +12,7 @@ pub mod journal;
 pub mod maps;
 pub mod relatives;
 mod shape;
+pub mod small_rings;
 pub mod smaller;
 pub mod striped;
 pub mod tables;
@@ -59,6 +60,8 @@ pub struct Draft {
     pub tail: usize,
     /// What stands in every byte that nobody reads.
     pub unread: u8,
+    /// Of the ring with the fewest: how many segments it has whose ends differ. Told by who makes valid files at random.
+    pub fewest: Option<usize>,
 }
 
 impl Draft {
@@ -73,7 +76,19 @@ impl Draft {
             parts,
             tail: 0,
             unread: 0,
+            fewest: None,
         }
+    }
+
+    /// Without sections but these of a shape's.
+    fn of_shape(shape: &Shape, parts: Vec<Part>) -> Self {
+        let fewest = Some(shape.fewest_segments());
+        Self { fewest, ..Self::new(shape.zones.len() as u32, parts) }
+    }
+
+    /// Whether every ring has its three segments: a valid file without is refused by the full check, by rule 2.
+    pub fn has_room(&self) -> bool {
+        self.fewest.expect("a draft whose maker tells") >= 3
     }
 
     pub fn lay(&self) -> Vec<u8> {
@@ -175,12 +190,25 @@ pub fn some(random: &mut Random) -> Draft {
     around(random, &shape, false, Grid::some)
 }
 
-/// A valid file whose zones lie on a small lattice. Now and then all have the same name.
+/// A valid file whose zones lie on a small lattice. A ring may also be a line or a point: then the full check refuses it. Now and then all zones have the same name.
 pub fn on_lattice(random: &mut Random) -> Draft {
     let shape = Shape::on_lattice(random);
+    over_lattice(random, &shape)
+}
+
+/// The same, but three times in four each ring has room.
+pub fn mostly_with_room(random: &mut Random) -> Draft {
+    let shape = match random.below(4) {
+        0 => Shape::on_lattice(random),
+        _ => Shape::with_room(random),
+    };
+    over_lattice(random, &shape)
+}
+
+fn over_lattice(random: &mut Random, shape: &Shape) -> Draft {
     let alike = random.below(8) == 0;
     let cell = shape.cell();
-    around(random, &shape, alike, |random, zones| Grid::over(random, zones, cell))
+    around(random, shape, alike, |random, zones| Grid::over(random, zones, cell))
 }
 
 /// A file with these zones; their names are alike or not.
@@ -215,7 +243,7 @@ fn around(
         let length = random.pick(&[0, 0, 1, 4, 9]);
         parts.push(Part { typ, bytes: random.bytes(length), gap: 0 });
     }
-    finish(random, Draft::new(zones as u32, parts))
+    finish(random, Draft::of_shape(shape, parts))
 }
 
 /// Order of the sections and of their entries, gaps, version, flags.

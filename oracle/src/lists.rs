@@ -90,6 +90,12 @@ fn walked(folder: &Path) {
         println!("  {count} with rule {rule}");
         assert!(count >= 4, "a rule with too few files");
     }
+    let small = crate::file::small_rings::cases();
+    for segments in [0, 2, 3, 4] {
+        let count = small.iter().filter(|case| case.fewest == segments).count();
+        println!("  {count} with a ring of {segments} segments that count, by hand");
+        assert!(count >= 4, "a ring of {segments} segments is met too seldom");
+    }
 }
 
 fn keep(folder: &Path, name: &str, list: &[u8], counts: &asked::Counts) {

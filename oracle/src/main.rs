@@ -44,6 +44,7 @@ oracle bench [FILE.tzb [ROWS]]
 oracle bench large [ROWS]
 oracle bench sections
 oracle bench zones
+oracle bench rings [RINGS OPS POINTS [CHUNK]]
 oracle bench map FILE.tzb";
 
 fn main() {
@@ -109,6 +110,9 @@ fn main() {
         ["bench", "large", rows] => bench::large(rows),
         ["bench", "sections"] => bench::hostile::run(),
         ["bench", "zones"] => bench::zones::run(),
+        ["bench", "rings"] => bench::rings::run(None),
+        ["bench", "rings", rings, ops, points] => worst([rings, ops, points, "65535"]),
+        ["bench", "rings", rings, ops, points, chunk] => worst([rings, ops, points, chunk]),
         ["bench", "map", file] => bench::map::run(file.as_ref()),
         ["bench", file] => bench::run(Some(file.as_ref()), ""),
         ["bench", file, rows] => bench::run(Some(file.as_ref()), rows),
@@ -153,6 +157,15 @@ fn load_from(rest: &[&str], from: u64) {
         [inputs, seed] => load::run(number(inputs), number(seed), from),
         _ => usage(),
     }
+}
+
+/// RINGS OPS POINTS CHUNK: how large a file is made.
+fn worst(words: [&str; 4]) {
+    let sizes = words.map(|word| number(word) as usize);
+    if sizes.contains(&0) {
+        usage();
+    }
+    bench::rings::run(Some(bench::rings::Sizes::of(sizes)));
 }
 
 fn number(word: &str) -> u64 {

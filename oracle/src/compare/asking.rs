@@ -51,10 +51,12 @@ pub fn short(seconds: u64, seed: u64) {
 fn some(met: &mut Met, random: &mut Random, most: usize, count: usize) {
     let draft = match random.below(4) {
         0 => file::some(random),
-        _ => file::on_lattice(random),
+        _ => file::mostly_with_room(random),
     };
     let file = draft.lay();
-    assert_eq!(full_check(&file), Ok(()), "a file of the builder");
+    let said = full_check(&file).map_err(|broken| broken.rule);
+    let expected = if draft.has_room() { Ok(()) } else { Err(2) };
+    assert_eq!(said, expected, "a file of the builder");
     judge(met, &file, most);
     let cut = random.below(file.len());
     let record = Sides::open(&file).record(&file).expect("a file that opens");
@@ -83,6 +85,11 @@ fn fixed(met: &mut Met) {
         let broken = full_check(&file).err().map_or(0, |broken| broken.rule);
         assert_eq!(broken, rule, "file {i} that breaks a rule");
         judge(met, &file, MANY);
+    }
+    for case in file::small_rings::cases() {
+        let broken = full_check(&case.file).err().map_or(0, |broken| broken.rule);
+        assert_eq!(broken, case.rule, "{}", case.what);
+        judge(met, &case.file, FEW);
     }
     file::at_the_shortcuts_ends().iter().for_each(|file| judge(met, file, MANY));
     file::kinds().iter().for_each(|file| judge(met, file, MANY));

@@ -4,7 +4,7 @@ use super::asking::questions;
 use super::{DIFFERENCE, Tally};
 use crate::exact::Exact;
 use crate::file::damage::Aim;
-use crate::file::{on_lattice, some};
+use crate::file::{maps, mostly_with_room, some};
 use crate::port::asking;
 use crate::port::opening::{self, Opened};
 use crate::random::Random;
@@ -44,6 +44,15 @@ impl<'a> Pair<'a> {
     }
 }
 
+/// By how many segments count in the ring that has the fewest. Below three the file is to be refused.
+fn kind(fewest: usize) -> String {
+    match fewest {
+        0..3 => format!("files refused, a ring of {fewest} segments"),
+        3 | 4 => format!("files, the smallest ring of {fewest} segments"),
+        _ => "files, all rings of 5 segments or more".to_string(),
+    }
+}
+
 /// Small files, as they are made and damaged where that is still accepted: every zone at every point of a lattice around them, or on and beside every point and edge.
 pub fn run(seconds: u64, seed: u64) {
     println!("seed {seed}, random files for {seconds} s");
@@ -52,10 +61,15 @@ pub fn run(seconds: u64, seed: u64) {
     while start.elapsed() < Duration::from_secs(seconds) {
         let draft = match random.below(8) {
             0 => some(&mut random),
-            _ => on_lattice(&mut random),
+            1 => maps::mostly_with_room(&mut random),
+            _ => mostly_with_room(&mut random),
         };
-        let file = draft.lay();
-        assert!(small(&file, &mut tally, "files"), "a file of the builder");
+        let (file, kind) = (draft.lay(), kind(draft.fewest.unwrap()));
+        let expected = if draft.has_room() { (0, 0) } else { (47, 2) };
+        assert_eq!(asking::full_check(&file), expected, "a file of the builder");
+        if !small(&file, &mut tally, &kind) {
+            tally.add(&kind, 1);
+        }
         let damaged = Aim::at_geometry(&file).damage(&mut random, &file, 1);
         small(&damaged, &mut tally, "files, damaged and accepted");
     }

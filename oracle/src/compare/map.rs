@@ -168,8 +168,8 @@ impl Run {
         let valid = match random.below(16) {
             0 => tables::valid(random),
             1..4 => file::some(random).lay(),
-            4..8 => file::on_lattice(random).lay(),
-            _ => maps::some(random).lay(),
+            4..8 => file::mostly_with_room(random).lay(),
+            _ => maps::mostly_with_room(random).lay(),
         };
         let mut judge =
             |kind: &str, file: Vec<u8>| self.judge(kind, &file).map_err(|why| (file, why));

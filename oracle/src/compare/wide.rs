@@ -145,7 +145,7 @@ impl Run {
         let (name, share, file) = match self.random.below(64) {
             0 => (MANY_SECTIONS, 8, tables::valid(&mut self.random)),
             1..24 => ("valid files", 1, file::some(&mut self.random).lay()),
-            _ => ("valid files", 1, file::on_lattice(&mut self.random).lay()),
+            _ => ("valid files", 1, file::mostly_with_room(&mut self.random).lay()),
         };
         self.tally.add(name, 1);
         let sides = Sides::open(&file);

@@ -1,8 +1,9 @@
-//! A second opinion on the full check, by the original's own records and decoder: every file of the builder is accepted, and of damaged ones the rules accept the same.
+//! A second opinion on the full check, by the original's own records and decoder: every file of the builder is accepted whose rings have room, and of damaged ones the rules accept the same.
 
 use super::damage::Aim;
 use super::{
-    CHUNKDIR, GROUPDIR, POLYDIR, RINGDIR, RINGOPS, TZDIR, broken, entries, on_lattice, some,
+    CHUNKDIR, GROUPDIR, POLYDIR, RINGDIR, RINGOPS, TZDIR, broken, entries, maps, mostly_with_room,
+    some, word,
 };
 use crate::random::Random;
 use crate::rules::full_check;
@@ -66,6 +67,37 @@ fn ring(r: &Reader, index: u32) -> Option<bool> {
     Some(good && points == u64::from(ring.count) + u64::from(ring.point_count))
 }
 
+/// How many segments of a ring count: its points in ring order, round to the first, each only where it is another than the one before.
+/// The ring's record is read by hand, since the original refuses one with a point count below 3.
+fn segments(r: &Reader, file: &[u8], index: u32) -> Option<usize> {
+    let [_, off, _] = entries(file).into_iter().find(|entry| entry[0] == RINGDIR).unwrap();
+    let at = (off + 28 * index) as usize;
+    let (first, count) = (word(file, at), word(file, at + 8) & 0xffff);
+    let mut walk = Vec::new();
+    for op in first..first + count {
+        let op = r.op_at(op).ok()?;
+        let g = r.group_at(op & 0x7fff_ffff).ok()?;
+        let mut line = Vec::new();
+        for c in g.first..g.first + u32::from(g.count) {
+            line.extend(decoded(r, c)?.into_iter().map(|p| (p.x, p.y)));
+        }
+        if op > 0x7fff_ffff {
+            line.reverse();
+        }
+        walk.append(&mut line);
+    }
+    walk.push(*walk.first()?);
+    walk.dedup();
+    Some(walk.len() - 1)
+}
+
+/// The fewest of any ring.
+pub fn fewest_segments(file: &[u8]) -> Option<usize> {
+    let r = Reader::open(Cow::Borrowed(file)).ok()?;
+    let rings = (0..count(file, RINGDIR, 28)).map(|i| segments(&r, file, i));
+    rings.collect::<Option<Vec<usize>>>()?.into_iter().min()
+}
+
 fn polygon(r: &Reader, index: u32) -> Option<bool> {
     let polygon = r.poly_at(index).ok()?;
     let mut rings = polygon.first..polygon.first + u32::from(polygon.count);
@@ -86,6 +118,7 @@ fn accepts(r: &Reader, file: &[u8]) -> bool {
         && all(GROUPDIR, 44, group)
         && all(RINGOPS, 4, |r, i| Some(r.op_at(i).is_ok()))
         && all(RINGDIR, 28, ring)
+        && fewest_segments(file).is_some_and(|fewest| fewest >= 3)
         && all(POLYDIR, 24, polygon)
         && all(TZDIR, 24, zone)
 }
@@ -94,26 +127,39 @@ fn accepts(r: &Reader, file: &[u8]) -> bool {
 fn has_short_ring(file: &[u8]) -> bool {
     let section = entries(file).into_iter().find(|entry| entry[0] == RINGDIR).unwrap();
     let (from, to) = (section[1] as usize, (section[1] + section[2]) as usize);
-    (from..to).step_by(28).any(|at| super::word(file, at + 4) < 3)
+    (from..to).step_by(28).any(|at| word(file, at + 4) < 3)
 }
 
+/// A file made at random is accepted where each of its rings has room; else it breaks rule 2 and no other. At the border there are many: rings of 0, 2, 3 and 4 segments.
 #[test]
-fn the_full_check_accepts_every_file_made() {
+fn the_full_check_accepts_every_file_made_whose_rings_have_room() {
     let mut random = Random::new(3);
-    for i in 0..1000 {
-        let file = if i % 2 == 0 { some(&mut random) } else { on_lattice(&mut random) }.lay();
-        assert_eq!(full_check(&file), Ok(()));
-        let r = Reader::open(Cow::Borrowed(&file)).unwrap();
-        assert!(accepts(&r, &file) || has_short_ring(&file));
+    let mut met = [0; 6];
+    for i in 0..3000 {
+        let draft = match i % 3 {
+            0 => some(&mut random),
+            1 => mostly_with_room(&mut random),
+            _ => maps::mostly_with_room(&mut random),
+        };
+        let (file, fewest) = (draft.lay(), draft.fewest.unwrap());
+        let said = full_check(&file).map_err(|broken| broken.rule);
+        assert_eq!(said, if fewest >= 3 { Ok(()) } else { Err(2) });
+        met[fewest.min(5)] += 1;
+        // The original does not open a file with a group of one point.
+        let Ok(r) = Reader::open(Cow::Borrowed(&file)) else { continue };
+        assert_eq!(fewest_segments(&file), Some(fewest));
+        assert!(accepts(&r, &file) == said.is_ok() || has_short_ring(&file));
     }
+    assert_eq!(met[1], 0);
+    assert!([0, 2, 3, 4, 5].iter().all(|&n| met[n] > 50), "{met:?}");
 }
 
 #[test]
 fn damaged_files_are_accepted_by_both_or_by_none() {
     let mut random = Random::new(4);
-    let mut judged = [0; 2];
+    let (mut judged, mut without_room) = ([0; 2], 0);
     for _ in 0..500 {
-        let file = on_lattice(&mut random).lay();
+        let file = mostly_with_room(&mut random).lay();
         let aim = Aim::at_geometry(&file);
         for _ in 0..10 {
             let damaged = aim.damage(&mut random, &file, 1);
@@ -126,9 +172,11 @@ fn damaged_files_are_accepted_by_both_or_by_none() {
             let accepted = full_check(&damaged).is_ok();
             assert_eq!(accepts(&r, &damaged), accepted);
             judged[usize::from(accepted)] += 1;
+            without_room += usize::from(fewest_segments(&damaged).is_some_and(|n| n < 3));
         }
     }
     assert!(judged[0] > 1000 && judged[1] > 100, "{judged:?}");
+    assert!(without_room > 100, "{without_room}");
 }
 
 #[test]

@@ -186,7 +186,7 @@ pub fn departing() -> Vec<(u32, Vec<u8>)> {
     let last = chunks.bytes.len() - 24;
     chunks.bytes[last + 12..last + 16].copy_from_slice(&(-1i32).to_le_bytes());
     vec![
-        (0, zone(&[(0, 0), (0, 0)]).lay()),
+        (2, zone(&[(0, 0), (0, 0)]).lay()),
         (0, zone(&[(0, 0), (0, 4), (4, 0)]).lay()),
         (3, left_over.lay()),
         (5, below.lay()),

@@ -158,5 +158,5 @@ pub fn some(random: &mut Random) -> Draft {
         let grid = Grid::over(random, zones, shape.cell());
         parts.push(Part { typ: GRID, bytes: grid.bytes(), gap: 0 });
     }
-    finish(random, Draft::new(zones as u32, parts))
+    finish(random, Draft::of_shape(&shape, parts))
 }

@@ -5,11 +5,11 @@ mod some;
 mod tables;
 
 pub use long::long;
-pub use some::some;
+pub use some::{mostly_with_room, some};
 
 use super::*;
 use crate::rules::map::Polygon as Written;
-use tables::{DIGITS, LINE, REFUSED, RINGS, SEVERAL, SQUARE, SQUARE_WRITTEN};
+use tables::{DIGITS, LINE, REFUSED, RINGS, SEVERAL, SQUARE, SQUARE_WRITTEN, STROKE, WITHOUT_ROOM};
 
 type Point = (i32, i32);
 
@@ -81,11 +81,13 @@ fn case(what: &str, file: Vec<u8>, zone: u32, drawn: Drawn) -> Case {
 /// Small files. What is expected of each is read off document 02 by hand.
 pub fn cases() -> Vec<Case> {
     let mut out = rings();
-    out.extend(
-        REFUSED
-            .iter()
-            .map(|&(what, ring)| case(what, file(&[&[&[ring]]], WHOLE), 0, Drawn::Refused(48))),
-    );
+    let refused = |number| {
+        move |&(what, ring): &(&str, Ring)| {
+            case(what, file(&[&[&[ring]]], WHOLE), 0, Drawn::Refused(number))
+        }
+    };
+    out.extend(REFUSED.iter().map(refused(48)));
+    out.extend(WITHOUT_ROOM.iter().map(refused(247)));
     out.extend(SEVERAL.iter().map(|&(what, zone, polygons)| {
         let polygon = |rings: &&[&[Point]]| rings.iter().map(|ring| written(ring)).collect();
         let drawn = match polygons {
@@ -137,7 +139,23 @@ fn of_two_zones() -> Vec<Case> {
     }
     let alone = file(&[line], WHOLE);
     out.push(case("past one zone, a line", alone, 1, Drawn::Refused(45)));
+    out.extend(of_a_file_without_room());
     out
+}
+
+/// A ring of two segments is a matter of every zone, and is told before a number too large.
+fn of_a_file_without_room() -> Vec<Case> {
+    let (fine, line, stroke): (&[Polygon], &[Polygon], &[Polygon]) =
+        (&[&[SQUARE]], &[&[LINE]], &[&[SQUARE, STROKE]]);
+    let refused = |what, zones: &[&[Polygon]], zone| {
+        case(what, file(zones, WHOLE), zone, Drawn::Refused(247))
+    };
+    vec![
+        refused("the first of two, the second's hole without room", &[fine, stroke], 0),
+        refused("the second of two, the first's hole without room", &[stroke, fine], 1),
+        refused("a line, the second's hole without room", &[line, stroke], 0),
+        refused("past one zone without room", &[stroke], 1),
+    ]
 }
 
 /// The full check's refusals come before 45 and 48: opening's numbers, and each rule of 47 in the first file that breaks it and in some more.

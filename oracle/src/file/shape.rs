@@ -130,6 +130,35 @@ impl Shape {
         all.fold(Bounds::NONE, Bounds::and).wider(self.slack)
     }
 
+    /// How many of a ring's segments have two different ends: its points one after another, round to the first.
+    fn segments(&self, ring: &Ring) -> usize {
+        let leg = |op: &Op| {
+            let points = self.groups[op.group].points();
+            if op.turned { points.into_iter().rev().collect() } else { points }
+        };
+        let points: Vec<Point> = ring.iter().flat_map(leg).collect();
+        let next = points.iter().cycle().skip(1);
+        points.iter().zip(next).filter(|(a, b)| a != b).count()
+    }
+
+    /// A ring of this maker. Where it has to have room it is made anew until three of its segments count.
+    pub fn made(&mut self, room: bool, mut make: impl FnMut(&mut Self) -> Ring) -> Ring {
+        let groups = self.groups.len();
+        loop {
+            let ring = make(self);
+            if !room || self.segments(&ring) >= 3 {
+                return ring;
+            }
+            self.groups.truncate(groups);
+        }
+    }
+
+    /// Of the ring that has the fewest. With fewer than three the full check refuses the file.
+    pub fn fewest_segments(&self) -> usize {
+        let rings = self.zones.iter().flatten().flatten();
+        rings.map(|ring| self.segments(ring)).min().unwrap()
+    }
+
     /// The cell of a point of the first group, in degrees.
     pub fn cell(&self) -> (i32, i32) {
         let (x, y) = self.groups[0].0[0][0];
@@ -340,6 +369,16 @@ impl Lattice {
         }
     }
 
+    /// Two to four points, each once, twice or three times in turn: few segments count.
+    fn few(self, random: &mut Random) -> Vec<Point> {
+        let mut out = Vec::new();
+        for _ in 0..2 + random.below(3) {
+            let point = self.point(random);
+            out.extend(vec![point; 1 + random.below(3)]);
+        }
+        out
+    }
+
     fn walk(self, random: &mut Random) -> Vec<Point> {
         let (mut column, mut row) = (0, 0);
         let mut out = Vec::new();
@@ -354,7 +393,17 @@ impl Lattice {
 
 impl Shape {
     /// Zones on one small lattice: level and upright edges, edges that touch and lie on each other, joints between groups, groups shared and turned round, many chunks.
+    /// A ring may also be a line or a point.
     pub fn on_lattice(random: &mut Random) -> Self {
+        Self::of_lattice(random, false)
+    }
+
+    /// The same, but each ring has room. There are more of three segments and four.
+    pub fn with_room(random: &mut Random) -> Self {
+        Self::of_lattice(random, true)
+    }
+
+    fn of_lattice(random: &mut Random, room: bool) -> Self {
         let lattice = Lattice::some(random);
         let slack = random.pick(&[0, 0, 0, 1, 7]);
         let mut shape = Self { lead: random.pick(&[0, 0, 0, 2]), slack, ..Self::default() };
@@ -362,16 +411,21 @@ impl Shape {
             let mut zone = Vec::new();
             for _ in 0..random.pick(&[1, 1, 2]) {
                 let rings = random.pick(&[1, 1, 2, 3]);
-                zone.push((0..rings).map(|_| shape.lattice_ring(random, lattice)).collect());
+                let mut make = |shape: &mut Self| {
+                    let few = room && random.below(6) == 0;
+                    let corners = if few { lattice.few(random) } else { lattice.corners(random) };
+                    shape.lattice_ring(random, corners)
+                };
+                let mut ring = |_| shape.made(room, &mut make);
+                zone.push((0..rings).map(&mut ring).collect());
             }
             shape.zones.push(zone);
         }
         shape
     }
 
-    /// Its groups meet, or a joint lies between them; now and then one is a group that stands elsewhere too.
-    fn lattice_ring(&mut self, random: &mut Random, lattice: Lattice) -> Ring {
-        let mut points = lattice.corners(random);
+    /// A ring of these corners. Its groups meet, or a joint lies between them; now and then one is a group that stands elsewhere too.
+    fn lattice_ring(&mut self, random: &mut Random, mut points: Vec<Point>) -> Ring {
         let (joined, open) = (random.below(3) > 0, random.below(6) == 0);
         if !open {
             points.push(points[0]);

@@ -53,7 +53,7 @@ pub fn named(shape: &Shape) -> Draft {
     let mut parts = shape.parts();
     let all: Vec<Vec<u8>> = (0..shape.zones.len()).map(|i| vec![b'A' + i as u8]).collect();
     parts.push(Part { typ: NAMES, bytes: names(&[], &all), gap: 0 });
-    Draft::new(shape.zones.len() as u32, parts)
+    Draft::of_shape(shape, parts)
 }
 
 fn ring(random: &mut Random, shape: &mut Shape) -> Vec<Op> {

@@ -30,7 +30,7 @@ fn of_opening() {
     }
 }
 
-/// A ring of one point, and nothing else that is not as it should be.
+/// A ring of one point, and nothing else that is not as it should be. It opens, and the full check refuses it: no segment of it counts.
 const SHORT_RING: &str = "\
     545a46420100400000000000a08601006901000008000000000000000000000000000000000000000100000001000000\
     0000000000000000000000000000000002000000c0000000180000000000000003000000d80000001800000000000000\
@@ -40,6 +40,42 @@ const SHORT_RING: &str = "\
     000000000100000001000000000000000000000000000000000000000000000000000000020000000100000000000000\
     000000000000000000000000000000000000000000000000000000000000000002000000000000000000000000000000\
     000000000000000001000000000000000100000001e1871c66";
+
+/// The smallest that the full check accepts: a triangle, open, in one group. The ring has three segments and the point count 2.
+const OPEN_TRIANGLE: &str = "\
+    545a46420100400000000000a08601006d01000008000000000000000000000000000000000000000100000001000000\
+    0000000000000000000000000000000002000000c0000000180000000000000003000000d80000001800000000000000\
+    04000000f00000001c00000000000000050000000c010000040000000000000006000000100100002c00000000000000\
+    070000003c010000180000000000000009000000540100000600000000000000010000005c0100000d00000000000000\
+    000000000100000000000000000000000100000001000000000000000100000000000000000000000100000001000000\
+    000000000200000001000000000000000000000001000000010000000000000000000000030000000100000000000000\
+    000000000000000001000000000000000000000001000000010000000000000003000000000000000000000001000000\
+    01000000000002000102000001000000000000000100000001172eb040";
+
+/// As small: a group of two points, named twice. Four segments, the point count 2.
+const LINE_TWICE: &str = "\
+    545a46420100400000000000a08601006d01000008000000000000000000000000000000000000000100000001000000\
+    0000000000000000000000000000000002000000c0000000180000000000000003000000d80000001800000000000000\
+    04000000f00000001c00000000000000050000000c010000080000000000000006000000140100002c00000000000000\
+    0700000040010000180000000000000009000000580100000400000000000000010000005c0100000d00000000000000\
+    000000000100000000000000000000000100000000000000000000000100000000000000000000000100000000000000\
+    000000000200000002000000000000000000000001000000000000000000000000000000000000000200000001000000\
+    000000000000000001000000000000000000000000000000010000000000000000000000020000000000000000000000\
+    0100000000000000000002000100000000000000010000000127e27c23";
+
+/// Three groups of one point: three segments, all of them joints, and the point count 0. The original does not open it, since a group has one point.
+const THREE_POINTS: &str = "\
+    545a46420100400000000000a0860100fd01000008000000000000000000000000000000000000000100000001000000\
+    0000000000000000000000000000000002000000c0000000180000000000000003000000d80000001800000000000000\
+    04000000f00000001c00000000000000050000000c0100000c0000000000000006000000180100008400000000000000\
+    070000009c010000480000000000000009000000e4010000060000000000000001000000ec0100000d00000000000000\
+    000000000100000000000000000000000100000001000000000000000100000000000000000000000100000001000000\
+    000000000000000003000000000000000000000001000000010000000000000001000000020000000000000001000000\
+    010000000000000000000000000000000000000000000000000000000000000000000000010000000100000001000000\
+    010000000000000001000000000000000100000000000000010000000000000002000000010000000100000000000000\
+    010000000000000001000000000000000100000000000000010000000000000001000000000000000000000000000000\
+    000000000200000001000000010000000000000001000000000000000400000001000000000000000100000000000000\
+    01000000000002000002000001000000000000000100000001fdbd9926";
 
 /// Four points of which two are stored: the first segment is a hit, and behind it the bytes run out.
 const HIT_BEFORE_THE_END: &str = "\
@@ -76,15 +112,61 @@ fn differs(
     assert_eq!(all(file, lent, q), [document.clone(), document, departed]);
 }
 
+/// What rules and port say of the full check: 0, or 47 with the lowest broken rule.
+fn checked(file: &[u8]) -> (u32, u32) {
+    let said = rules::full_check(file).err().map_or((0, 0), |broken| (broken.number, broken.rule));
+    assert_eq!(port::asking::full_check(file), said);
+    said
+}
+
+/// A ring with point count below 3, and (0, 0) on it.
+fn is_short(file: &[u8]) {
+    differs(file, file, Question::Contains(0, 0, 0), Ok(Answer::Is(true)), Err(34));
+    differs(file, file, Question::Lookup(0.0, 0.0), Ok(Answer::Zone(Some(0))), Err(34));
+    let list = Question::LookupInto(0.0, 0.0, 1);
+    differs(file, file, list, Ok(Answer::Zones(vec![0])), Err(34));
+}
+
 #[test]
 fn of_a_short_ring() {
     let file = bytes(SHORT_RING);
-    assert_eq!(file.len(), 361);
-    assert_eq!(port::asking::full_check(&file), (0, 0));
-    differs(&file, &file, Question::Contains(0, 0, 0), Ok(Answer::Is(true)), Err(34));
-    differs(&file, &file, Question::Lookup(0.0, 0.0), Ok(Answer::Zone(Some(0))), Err(34));
-    let list = Question::LookupInto(0.0, 0.0, 1);
-    differs(&file, &file, list, Ok(Answer::Zones(vec![0])), Err(34));
+    assert_eq!((file.len(), checked(&file)), (361, (47, 2)));
+    is_short(&file);
+}
+
+#[test]
+fn of_a_short_ring_that_is_accepted() {
+    for file in [OPEN_TRIANGLE, LINE_TWICE].map(bytes) {
+        assert_eq!((file.len(), checked(&file)), (365, (0, 0)));
+        is_short(&file);
+    }
+}
+
+#[test]
+fn of_three_groups_of_one_point() {
+    let file = bytes(THREE_POINTS);
+    assert_eq!((file.len(), checked(&file)), (509, (0, 0)));
+    assert_eq!(original(&file).err(), Some(34));
+    let opened = rules::open(&file, &[]).ok().unwrap();
+    let port = port::opening::open(&file).ok().unwrap();
+    for (x, y, inside) in [(0, 0, true), (1, 0, true), (0, 1, true), (1, 1, false)] {
+        let (q, said) = (Question::Contains(0, x, y), Some(Ok(Answer::Is(inside))));
+        assert_eq!((Judge::plain(opened, &[]).ask(q), port.ask(q)), (said.clone(), said));
+    }
+}
+
+/// Of each smallest input that opens: 0 where the full check accepts it, else the lowest broken rule.
+#[test]
+fn of_the_full_check() {
+    let list = include_bytes!("../../../crates/run_open/stdin");
+    let records = list.chunks(1024).rev().take(OF_OPENING.len());
+    let opening = records.filter(|record| word(record, 4) == 0);
+    let mut files: Vec<Vec<u8>> =
+        opening.map(|record| record[8..8 + word(record, 0) as usize].to_vec()).collect();
+    files.extend([SHORT_RING, HIT_BEFORE_THE_END, OPEN_TRIANGLE, LINE_TWICE].map(bytes));
+    files.extend([file::departing().pop().unwrap().1, striped::leaving(8, false)]);
+    let rules: Vec<u32> = files.iter().map(|file| checked(file).1).collect();
+    assert_eq!(rules, [2, 2, 2, 3, 0, 0, 5, 3]);
 }
 
 #[test]

@@ -18,11 +18,18 @@ pub type Counts = BTreeMap<(&'static str, u32), u64>;
 pub fn full() -> Vec<(u32, Vec<u8>)> {
     let by_hand =
         |(rule, file): (u32, Vec<u8>)| (if rule == 0 { 0 } else { 47 + 100 * rule }, file);
+    let said = |file: &[u8]| full_check(file).err().map_or(0, |b| b.number + 100 * b.rule);
     let mut out: Vec<(u32, Vec<u8>)> = file::broken::files().into_iter().map(by_hand).collect();
     out.extend(file::departing().into_iter().map(by_hand));
     out.extend(file::cases().into_iter().step_by(8).filter(|(number, _)| *number > 0));
-    let said = |file: &[u8]| full_check(file).err().map_or(0, |b| b.number + 100 * b.rule);
-    out.iter().enumerate().for_each(|(i, (number, file))| assert_eq!(said(file), *number, "{i}"));
+    for (i, (number, file)) in out.iter().enumerate() {
+        assert_eq!(said(file), *number, "{i}");
+    }
+    for case in file::small_rings::cases() {
+        let (number, file) = by_hand((case.rule, case.file));
+        assert_eq!(said(&file), number, "{}", case.what);
+        out.push((number, file));
+    }
     let others = file::chunks().into_iter().map(|(_, file)| file).chain(file::kinds());
     out.extend(others.map(|file| (said(&file), file)));
     out
@@ -60,7 +67,7 @@ const OTHERWISE: usize = 2;
 const MANY: usize = 40;
 const FEW: usize = 14;
 
-/// Those that break a rule or none, those whose chunk is broken, those at which the original departs; and accepted ones made at random.
+/// Those that break a rule or none, those whose chunk is broken, those at which the original departs; and valid ones made at random; the full check accepts those whose rings have room.
 fn files() -> Vec<Vec<u8>> {
     let mut out = vec![file::broken::whole(), file::least(true).lay()];
     out.extend(file::departing().into_iter().map(|(_, file)| file));

@@ -162,7 +162,7 @@ impl Made {
         let draft = match random.below(3) {
             0 => file::some(random),
             1 => striped::some(random),
-            _ => file::on_lattice(random),
+            _ => file::mostly_with_room(random),
         };
         let file = draft.lay();
         let opened = rules::open(&file, &[]).ok().expect("a file of the builder");

@@ -226,7 +226,7 @@ unsafe extern "C" fn map_that_writes_where_it_refuses(
     room: usize,
 ) -> i64 {
     let code = unsafe { (PORT.map)(file, length, zone, out, room) };
-    if code == -1048 && room > 0 {
+    if [-1047, -1048].contains(&code) && room > 0 {
         unsafe { *out ^= 1 };
     }
     code

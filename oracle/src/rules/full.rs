@@ -1,4 +1,4 @@
-//! What the full check demands: F1 to F6, rule by rule.
+//! What the full check demands: F1 to F6, rule by rule. F2 has two parts: the second, of request 2026-05, counts decoded points, so it is judged behind F3.
 
 use super::records::Place;
 use super::*;
@@ -18,6 +18,9 @@ pub fn full_check(file: &[u8]) -> Result<(), Broken> {
     }
 }
 
+/// So many segments that are not degenerate a ring has at the least.
+const ROOM: usize = 3;
+
 impl Opened<'_> {
     pub fn lowest_broken(&self) -> Option<u32> {
         if !self.f2() {
@@ -27,6 +30,9 @@ impl Opened<'_> {
         else {
             return Some(3);
         };
+        if !self.rings_have_room(&points) {
+            return Some(2);
+        }
         if !self.f4(&points) {
             return Some(4);
         }
@@ -36,7 +42,7 @@ impl Opened<'_> {
         if self.f6() { None } else { Some(6) }
     }
 
-    /// Every zone, polygon and ring meets the record rule, every ring op names a group, every ring's groups' point counts, less its number of groups, add to its point count.
+    /// F2's older part: every zone, polygon and ring meets the record rule, every ring op names a group, every ring's groups' point counts, less its number of groups, add to its point count.
     fn f2(&self) -> bool {
         (0..self.zones).all(|i| self.zone_at(i).is_ok())
             && (0..self.polygons()).all(|i| self.polygon_at(i).is_ok())
@@ -51,6 +57,34 @@ impl Opened<'_> {
             points += self.group_at(self.op_at(i)?.group)?.points;
         }
         Ok(points == ring.points + ring.count)
+    }
+
+    /// Every ring, also one that no polygon names, has at least three segments whose ends differ.
+    fn rings_have_room(&self, points: &[Vec<Place>]) -> bool {
+        let counted = |i| self.segments(i, points).filter(|(a, b)| a != b);
+        (0..self.rings()).all(|i| counted(i).take(ROOM).count() == ROOM)
+    }
+
+    /// A ring's segments as exact geometry has them, and those joints beside whose ends do not differ.
+    fn segments(&self, ring: u64, points: &[Vec<Place>]) -> impl Iterator<Item = (Place, Place)> {
+        let ring = self.ring_at(ring, &[]).unwrap();
+        let leg = move |i| self.leg_of(ring.first + i % ring.count, points);
+        (0..ring.count).flat_map(move |i| {
+            let mut line = leg(i);
+            line.push(leg(i + 1)[0]);
+            line.windows(2).map(|ends| (ends[0], ends[1])).collect::<Vec<_>>()
+        })
+    }
+
+    /// The decoded points of an op's group, chunk by chunk, turned round where the op says so.
+    fn leg_of(&self, op: u64, points: &[Vec<Place>]) -> Vec<Place> {
+        let step = self.op_at(op).unwrap();
+        let group = self.group_at(step.group).unwrap();
+        let mut line = points[group.first as usize..(group.first + group.count) as usize].concat();
+        if step.turned {
+            line.reverse();
+        }
+        line
     }
 
     /// Each chunk's box covers its points and, within a group, the next chunk's first.

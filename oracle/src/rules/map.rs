@@ -14,7 +14,7 @@ pub type Ring = Vec<Place>;
 /// Its outer ring, then its holes.
 pub type Polygon = Vec<Ring>;
 
-/// So many positions a ring may have at the most, and must have at the least, with the closing one.
+/// So many positions a ring may have at the most, and must have at the least, with the closing one. In an accepted file it has the least: three segments whose ends differ have four positions.
 const MOST: usize = 10_000;
 const LEAST: usize = 4;
 
@@ -119,7 +119,7 @@ mod tests {
     use super::*;
     use crate::exact::Exact;
     use crate::file::maps::{self, Drawn};
-    use crate::file::{on_lattice, some};
+    use crate::file::{mostly_with_room, some};
     use crate::random::Random;
 
     /// Document 02's own text.
@@ -167,19 +167,24 @@ mod tests {
     fn generated_zones_read_back() {
         let mut random = Random::new(6);
         let mut seen = [0; 3];
-        for i in 0..1500 {
+        for i in 0..2000 {
             let draft = match i % 3 {
                 0 => some(&mut random),
-                1 => on_lattice(&mut random),
-                _ => maps::some(&mut random),
+                1 => mostly_with_room(&mut random),
+                _ => maps::mostly_with_room(&mut random),
             };
             let file = draft.lay();
+            if !draft.has_room() {
+                assert_eq!(map(&file, 0), Err(Broken { number: 47, rule: 2 }));
+                continue;
+            }
             assert_eq!(full_check(&file), Ok(()));
             let opened = open(&file, &[]).ok().unwrap();
             let exact = Exact::of(&opened).unwrap();
             for zone in 0..opened.zones {
                 let segments = exact.rings(zone);
                 let positions = unturned(&opened, zone);
+                assert!(positions.iter().all(|ring| ring.len() >= LEAST));
                 let ends = |ring: &Ring| ring.windows(2).map(|w| (w[0], w[1])).collect();
                 assert_eq!(positions.iter().map(ends).collect::<Vec<Vec<_>>>(), segments);
                 match map(&file, zone as u32) {
@@ -190,7 +195,7 @@ mod tests {
                     }
                     Err(broken) => {
                         assert_eq!((broken.number, broken.rule), (48, 0));
-                        assert!(positions.iter().any(|r| r.len() < 4 || doubled_area(r) == 0));
+                        assert!(positions.iter().any(|r| doubled_area(r) == 0));
                         seen[2] += 1;
                     }
                 }

@@ -3,14 +3,26 @@
 use super::*;
 
 /// A valid file whose rings are made of short groups: of one point too, with equal neighbours, turned round and shared, meeting or not, closed or not.
+/// A ring may also be a line or a point.
 pub fn some(random: &mut Random) -> Draft {
+    of_groups(random, false)
+}
+
+/// The same, but three times in four each ring has room.
+pub fn mostly_with_room(random: &mut Random) -> Draft {
+    let room = random.below(4) > 0;
+    of_groups(random, room)
+}
+
+fn of_groups(random: &mut Random, room: bool) -> Draft {
     let mut shape = Shape::default();
     let reach = random.pick(&[1, 2, 3, 1_000, 100_000, 20_000_000, 0]);
     for _ in 0..1 + random.below(3) {
         let mut zone = Vec::new();
         for _ in 0..random.pick(&[1, 1, 2]) {
             let rings = random.pick(&[1, 1, 2, 3]);
-            zone.push((0..rings).map(|_| some_ring(random, &mut shape, reach)).collect());
+            let mut ring = |_| shape.made(room, |shape| some_ring(random, shape, reach));
+            zone.push((0..rings).map(&mut ring).collect());
         }
         shape.zones.push(zone);
     }

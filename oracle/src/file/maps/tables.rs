@@ -204,18 +204,22 @@ pub const DIGITS: [Point; 15] = [
     (0, 1),
 ];
 
-/// Rings of under four positions, or of area zero: 48.
-pub const REFUSED: [(&str, Ring); 13] = [
+/// Rings of fewer than three segments whose ends differ: 47, rule 2. All that have under four positions are among them.
+pub const WITHOUT_ROOM: [(&str, Ring); 5] = [
     ("one position", &[ahead(&[(0, 0)])]),
-    ("one position of four groups", &[ahead(&[(1, 1)]); 4]),
     ("two positions", &[ahead(&[(0, 0), (0, 0)])]),
     ("three positions", &[ahead(&[(0, 0), (4, 0)])]),
     ("three positions, stored closed", &[ahead(&[(0, 0), (4, 0), (0, 0)])]),
-    ("four equal positions", &[ahead(&[(7, 7); 4])]),
     ("four positions, two of them equal neighbours", &[ahead(&[(0, 0), (0, 0), (4, 1)])]),
+];
+
+/// Rings of three such segments or more, of area zero: 48.
+pub const REFUSED: [(&str, Ring); 8] = [
     ("a line", &[ahead(&[(0, 0), (1, 1), (2, 2)])]),
     ("a line there and back", &[ahead(&[(0, 1), (1, 3), (2, 5), (1, 3)])]),
     ("a line through the world", &[ahead(&[(-EAST, -NORTH), (0, 0), (EAST, NORTH)])]),
+    ("two points there and back twice", &[ahead(&[(0, 0), (4, 1), (0, 0), (4, 1)])]),
+    ("a group of two points twice", &[ahead(&[(0, 0), (4, 1)]); 2]),
     ("a figure of eight", &[ahead(&[(0, 0), (2, 2), (2, 0), (0, 2)])]),
     (
         "a figure of eight through the world",
@@ -232,7 +236,9 @@ pub const SQUARE_WRITTEN: &[Point] = &[(0, 0), (9, 0), (9, 9), (0, 9), (0, 0)];
 /// Counterclockwise, so that a hole is turned; and clockwise.
 const LEFT: Ring = &[ahead(&[(1, 1), (2, 1), (1, 2)])];
 const RIGHT: Ring = &[ahead(&[(3, 3), (3, 4), (4, 3)])];
+/// Three segments, without area; and two.
 pub const LINE: Ring = &[ahead(&[(5, 5), (6, 6), (7, 7)])];
+pub const STROKE: Ring = &[ahead(&[(5, 5), (6, 6)])];
 
 /// Zones of several rings, with their polygons as they are written.
 pub type Several<'a> = (&'a str, &'a [Polygon<'a>], &'a [&'a [&'a [Point]]]);
