@@ -136,10 +136,12 @@ int64_t tzb_ask_all_striped(const uint8_t *record, size_t record_length, const u
 
 /* Checks F1 to F6 over the whole file. 0: accepted. -1000 - n for opening's refusal n; -1047 where the file opens and
  * breaks another rule. Of an accepted file no question is refused but for a number that is too large, a place of the
- * candidate list that no cell lists, or room that is too short. */
+ * candidate list that no cell lists, or room that is too short; and every ring has three segments or more whose ends
+ * differ, so none is a point or goes to another point and back. */
 int32_t tzb_full_check(const uint8_t *file, size_t file_length);
 
-/* The lowest broken rule, 2 to 6, where tzb_full_check says -1047; else 0. */
+/* The lowest broken rule, 2 to 6, where tzb_full_check says -1047; else 0. A ring of fewer than three segments is rule 2,
+ * where every chunk can be read (else the file is rule 3). */
 uint32_t tzb_full_check_rule(const uint8_t *file, size_t file_length);
 
 /* ---- a zone drawn on a map */

@@ -3,11 +3,11 @@
 --
 -- `Demand3 file`, below, is this sentence of a file; `demand-3`, in proofs/Demand3, proves it of every file. Where each word is defined:
 --   the full check            `fullCheckOf`, tzb/specs/FullCheck; `full_check` of tzb promises to answer it
---   F1 to F6                  `Accepted`, specs/Accepted; each rule in reader_check/specs/FullCheck
+--   F1 to F6                  `Accepted`, specs/Accepted, where F2 has the part that document 02 adds (request 2026-05: "Demand 3 then reads over the smaller set of accepted files"); each rule in reader_check/specs/FullCheck
 --   a position                `Position`, specs/Words
 --   the reader with its skips `containsAt`, reader_zones/specs/Zones: the walk over the file's bytes, in floats, past what boxes rule out; `contains` of reader_zones promises to answer it
 --   exact geometry            `InZone`, specs/Words, over the zone's shape
---   the zone's shape          `zoneAt (directories o file) zone`, shapes/specs/Layout and reader_exact/specs/Directories: the points that the file's chunks decode to, by groups, rings and polygons. Of an accepted file every record of it is one that the reader answers (`accepted-sound`, proofs/Rules; `sound-named`, reader_exact/proofs/Exact)
+--   the zone's shape          `zoneAt (directories o file) zone`, shapes/specs/Layout and directories/specs/Directories: the points that the file's chunks decode to, by groups, rings and polygons. Of an accepted file every record of it is one that the reader answers (`accepted-sound`, proofs/Rules; `sound-named`, reader_exact/proofs/Exact)
 -- Assumes nothing.
 use Prim.Native.Nat.{ℕ, _<_}
 use mathlib.Core.Path.{_≡_}
