@@ -1,7 +1,7 @@
 -- EXACT ANSWERS: for every file, record and numbers, what `tzb_full_check`, `tzb_full_check_rule`, `tzb_open`, `tzb_contains`, `tzb_lookup` and `tzb_ask` answer.
 -- One record for each, of which the theorem with its name in proofs/Answers holds of every call (specs/Calls). The cases of a record leave none out. Where each word is defined:
 --   opening           `openOf file`, tzb/specs/Opening: `ok` with the record, or `no n` for refusal n. `openedIs file` is the only record that a file can open to
---   F1 to F6          `Accepted`, demands/specs/Accepted; the lowest broken rule: `lowestBroken`, reader_check/specs/FullCheck
+--   F1 to F6          `Accepted`, demands/specs/Accepted, F2 with the part that document 02 adds; the lowest broken rule: `lowestBroken`, reader_check/specs/FullCheck
 --   the record        84 bytes are read as `openedIn held`, and `bytesOf` writes them: tzb_record/specs/Layout
 --   the walk          `zoneOf`, reader_zones/specs/Zones; in the domain: `inDomain`, plane/specs/Domain
 --   the zone sought   `lookupOf`, reader_lookup/specs/Asking

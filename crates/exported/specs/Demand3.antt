@@ -3,7 +3,7 @@
 --
 -- `Demand3 file`, below, is this sentence of a file; `demand-3`, in proofs/Demand3, proves it of every list of bytes. Where each word is defined:
 --   a call and its answer     `Tzb-full-check`, .., specs/Calls: what the export's contract allows
---   F1 to F6                  `Accepted`, demands/specs/Accepted; `openedIs file` is the record that opening makes of the file
+--   F1 to F6                  `Accepted`, demands/specs/Accepted, F2 with the part that document 02 adds; `openedIs file` is the record that opening makes of the file
 --   the record in memory      the first 84 bytes of the memory that `tzb_open` was lent: `take 84 after`
 --   a zone's shape            `shapeOf`, specs/Words
 --   exact geometry            `InZone`, demands/specs/Words: on or inside the outer ring of one of the zone's polygons, and strictly inside none of that polygon's holes

@@ -32,6 +32,7 @@ use Rattle.fields.proofs.wide.Reads as wide-reads
 use Rattle.fields.proofs.half.Reads as half-reads
 use Rattle.fields.proofs.word.Reads as word-reads
 use Rattle.fields.proofs.wide16.Reads as wide16-reads
+use Rattle.fields.proofs.less_one.Reads as less-one-reads
 use Rattle.fields.proofs.bits16.Reads as bits16-reads
 use Rattle.fields.proofs.store.Reads as store-reads
 use Rattle.fields.proofs.store_row.Reads as store-row-reads
@@ -115,6 +116,9 @@ word κ a r r' e e' p q = p .0 ∙ sym (q .0)
 
 pub wide16 : Determined wide16-reads.Learnt
 wide16 κ a r r' e e' p q = p .0 ∙ sym (q .0)
+
+pub less-one : Determined less-one-reads.Learnt
+less-one κ a r r' e e' p q = p ∙ sym q
 
 pub bits16 : Determined bits16-reads.Learnt
 bits16 κ a r r' e e' p q = p ∙ sym q

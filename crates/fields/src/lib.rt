@@ -1,6 +1,6 @@
 // Little-endian numbers in a slice: total loads, and loads at a place that the caller has tested.
 ghost use mathlib.Core.Path.{_≡_};
-ghost use Prim.Native.Nat.{_+_, _≤_, _<_};
+ghost use Prim.Native.Nat.{_+_, _-_, _≤_, _<_};
 ghost use lib.ListN.{length};
 ghost use mir.Syntax.{w16, w32};
 ghost use mir.Val.{toZ, ofZ};
@@ -96,6 +96,13 @@ pub fn wide16(x: u16) -> usize
     ensures { λ r. ⌜ (r ≡ x) × (r < 0x1_0000) ⌝ }
 {
     x as usize
+}
+
+// One less, and 0 of 0.
+pub fn less_one(n: u16) -> u16
+    ensures { λ r. ⌜ r ≡ n - 1 ⌝ }
+{
+    if n == 0 { 0 } else { n - 1 }
 }
 
 pub fn half(s: &[u8], at: usize) -> usize

@@ -5,17 +5,16 @@ use native.Mathlib.Omega.{arith}
 use mathlib.Core.Path.{_≡_, refl, sym, ap, _∙_}
 use mathlib.Core.Bool.{Bool, true, false, false≢true}
 use mathlib.Core.List.{List}
-use borrow.Author.Tests.{ltb-true}
 use Rattle.plane.specs.Lines.{every}
-use Rattle.answer.specs.Answers.{ok, need, holds, answered}
+use Rattle.answer.specs.Answers.{ok, holds, answered}
 use Rattle.boxes.specs.Box.{inBox}
-use Rattle.fields.specs.Loads.{inside}
 use Rattle.shapes.specs.Words.{hasRoom}
 use Rattle.shapes.specs.Layout as Layout
 use Rattle.opened.specs.declared.Opened.{Opened}
 use Rattle.opened.specs.Widths.{ringWide}
 use Rattle.reader_records.specs.declared.RingRecord.{RingRecord}
-use Rattle.reader_records.specs.Records.{place, recordAt, ruled, ringIn, ringRule, ringAt, chunkAt}
+use Rattle.reader_records.specs.Records.{ringIn, ringRule, ringAt, chunkAt}
+use Rattle.reader_records.proofs.RecordsLaws.{ruled-inside}
 use Rattle.reader_chunks.specs.Chunks.{chunkPoints}
 use Rattle.reader_cover.specs.Cover.{chunkCovers}
 use Rattle.reader_cover.specs.All.{all}
@@ -23,7 +22,7 @@ use Rattle.reader_cover.proofs.AllLaws.{all-at, at-all}
 use Rattle.directories.specs.Directories.{directories}
 use Rattle.reader_room.specs.Steps.{roomOf}
 use Rattle.reader_room.proofs.Room.{room-is}
-use Rattle.answer.proofs.AnswersLaws.{then-inv, need-inv, held, answered-ok}
+use Rattle.answer.proofs.AnswersLaws.{held, answered-ok}
 use Rattle.reader_check.specs.declared.Demand.the-variants as D
 use Rattle.reader_check.specs.FullCheck.{asked, met, allMet, recordsHold, chunksDecode, rule}
 use Rattle.reader_check.specs.Steps.{found}
@@ -32,11 +31,8 @@ use Rattle.reader_check.proofs.Facts.{ring-legs, chunk-decodes}
 module _ (o : Opened) (s : List ℕ) where
   -- a ring that is answered is one of the directory
   ring-inside : (i : ℕ) (v : RingRecord) → ok v ≡ ringAt o s i → i < o .rings .count
-  unfolding ringAt ruled recordAt
-  ring-inside i v e =
-      let h = then-inv (recordAt s (o .rings) ringWide i) (λ p. need 34 (ringRule (o .ops .count) (ringIn s p)) (ok (ringIn s p))) v e in
-      let g = need-inv 34 _ (need 44 (inside ringWide s (place (o .rings) ringWide i)) (ok (place (o .rings) ringWide i))) (h .0) (h .1) in
-      ltb-true i (o .rings .count) (g .0)
+  unfolding ringAt
+  ring-inside i v e = ruled-inside s (o .rings) ringWide i (ringIn s) (ringRule (o .ops .count)) 34 v e
 
   module _ (records : recordsHold o s ≡ true) (decode : chunksDecode o s ≡ true) where
     pub room-read : (i : ℕ) (v : RingRecord) → ok v ≡ ringAt o s i → holds (λ b. b) (roomOf o s v) ≡ hasRoom (Layout.ringAt (directories o s) i)

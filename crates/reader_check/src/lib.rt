@@ -232,7 +232,7 @@ fn earlier(broken: u32, after: u32) -> u32
     after
 }
 
-// The lowest broken rule, 2 to 6; 0 where none is. A line for each demand, in the order in which they are judged: its rule's number, and how many records it is made of. Chunks are read once for F3 and F4: a box that covers a chunk's points says that they decode.
+// The lowest broken rule, 2 to 6; 0 where none is. A line for each demand, in the order in which they are judged: its rule's number, and how many records it is made of. But the chunks' boxes are looked at first, and their number is kept until its turn: a box that covers a chunk's points says that they decode, so chunks are read once for F3 and F4.
 pub fn broken_rule(o: Opened, s: &[u8]) -> u32
     ensures { λ r. ⌜ r ≡ lowestBroken o (now (s .entry)) ⌝ }
 {

@@ -8,14 +8,14 @@ use lib.Dec.{ltb, leb}
 use borrow.Author.Tests.{ltb-true, leb-true}
 use Rattle.answer.specs.Answers.{ok, need, fine, outcome}
 use Rattle.fields.specs.Part.{part}
-use Rattle.fields.specs.Loads.{inside}
 use Rattle.opened.specs.declared.Opened.{Opened}
 use Rattle.opened.specs.Widths.{chunkWide}
 use Rattle.reader_records.specs.declared.ChunkRecord.{ChunkRecord}
-use Rattle.reader_records.specs.Records.{place, recordAt, ruled, chunkIn, chunkRule, chunkAt}
+use Rattle.reader_records.specs.Records.{chunkIn, chunkRule, chunkAt}
 use Rattle.reader_chunks.specs.Chunks.{span, startOf, endOf}
-use Rattle.answer.proofs.AnswersLaws.{then-inv, need-inv, outcome-fine}
+use Rattle.answer.proofs.AnswersLaws.{need-inv, outcome-fine}
 use Rattle.reader_chunks.proofs.ChunksLaws.{end-is}
+use Rattle.reader_records.proofs.RecordsLaws.{ruled-inside}
 
 pub span-in : (s : List ℕ) (a e : ℕ) (b : List ℕ) → ok b ≡ span s a e → (a < e) × (e ≤ length s)
 unfolding span
@@ -29,11 +29,8 @@ span-fine s a e h = let f = outcome-fine (span s a e) h in span-in s a e (f .0) 
 
 -- a chunk that there is has its index in the directory
 pub chunk-inside : (o : Opened) (s : List ℕ) (i : ℕ) (n : ChunkRecord) → ok n ≡ chunkAt o s i → i < o .chunks .count
-unfolding chunkAt ruled recordAt
-chunk-inside o s i n e =
-    let h = then-inv (recordAt s (o .chunks) chunkWide i) (λ p. need 34 (chunkRule (chunkIn s p)) (ok (chunkIn s p))) n e in
-    let g = need-inv 34 (ltb i (o .chunks .count)) (need 44 (inside chunkWide s (place (o .chunks) chunkWide i)) (ok (place (o .chunks) chunkWide i))) (h .0) (h .1) in
-    ltb-true i (o .chunks .count) (g .0)
+unfolding chunkAt
+chunk-inside o s i n e = ruled-inside s (o .chunks) chunkWide i (chunkIn s) chunkRule 34 n e
 
 pub end-next : (o : Opened) (s : List ℕ) (i : ℕ) (n : ChunkRecord) → ok n ≡ chunkAt o s (i + 1) → ok (startOf o n) ≡ endOf o s i
 end-next o s i n e = end-is o s i (chunk-inside o s (i + 1) n e) n e

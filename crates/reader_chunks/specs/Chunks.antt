@@ -78,7 +78,7 @@ firstAt o s i = chunkAt o s i then λ v. endOf o s i then λ e. firstIn s (start
 unfoldable pub traceAt : Opened → List ℕ → ℕ → Answer (Bool × I32Point)
 traceAt o s i = chunkAt o s i then λ v. endOf o s i then λ e. traceIn s (v .count) (v .bbox) (startOf o v) e
 
--- its segments counted, after the point a and with k counted: refused as the trace is
+-- its segments counted, after the point a and with k counted: refused as the trace is, as far as it is read: the third segment ends it
 unfoldable pub countAt : Opened → List ℕ → ℕ → I32Point → ℕ → Answer (ℕ × I32Point)
 countAt o s i a k = chunkAt o s i then λ v. endOf o s i then λ e. countIn s (v .count) a k (startOf o v) e
 

@@ -1,6 +1,6 @@
 // What the full check asks of one record: a ring's point count, a group's joints and ends, a box and those below it.
 ghost use mathlib.Core.Path.{_≡_};
-ghost use Prim.Native.Nat.{_+_, _-_, _<_};
+ghost use Prim.Native.Nat.{_+_, _<_};
 ghost use Rattle.plane.specs.Lines.{lastOf};
 ghost use Rattle.boxes.specs.Box.{inBox};
 ghost use Rattle.shapes.specs.Shapes.{covers};
@@ -172,17 +172,11 @@ pub fn parts_fit(o: Opened, s: &[u8], part: Part, first: u32, count: u16) -> boo
 
 // ---- a group
 
-fn less_one(n: u16) -> u16
-    ensures { λ r. ⌜ r ≡ n - 1 ⌝ }
-{
-    if n == 0 { 0 } else { n - 1 }
-}
-
 // Within a group, each chunk's box but the last's covers the next chunk's first point.
 pub fn joints_cover(o: Opened, s: &[u8], v: GroupRecord) -> bool
     ensures { λ r. ⌜ r ≡ jointsCover o (now (s .entry)) v ⌝ }
 {
-    parts_fit(o, s, Part::Joint, v.first, less_one(v.count))
+    parts_fit(o, s, Part::Joint, v.first, fields::less_one(v.count))
 }
 
 // The point is the first of chunk `index`.
@@ -212,7 +206,7 @@ fn ends_fit(o: Opened, s: &[u8], v: GroupRecord) -> bool
     ensures { λ r. ⌜ r ≡ endsFit o (now (s .entry)) v ⌝ }
 {
     let first = fields::wide(v.first);
-    let last = first + fields::wide16(less_one(v.count));
+    let last = first + fields::wide16(fields::less_one(v.count));
     is_first(o, s, v.entry, first) & is_last(o, s, v.exit, last)
 }
 

@@ -71,6 +71,14 @@ ruled-kept at read rule n a e =
     let g = need-inv n (rule (read (h .0))) (ok (read (h .0))) a (h .2) in
     ap rule (ok-inv a (read (h .0)) (g .1)) ∙ g .0
 
+-- and its index lies in the directory
+pub ruled-inside : {A : Type 0} (s : List ℕ) (d : Directory) (w i : ℕ) (read : ℕ → A) (rule : A → Bool) (n : ℕ) (a : A) → ok a ≡ ruled (recordAt s d w i) read rule n → i < d .count
+unfolding ruled recordAt
+ruled-inside s d w i read rule n a e =
+    let h = then-inv (recordAt s d w i) (λ p. need n (rule (read p)) (ok (read p))) a e in
+    let g = need-inv 34 (ltb i (d .count)) (need 44 (inside w s (place d w i)) (ok (place d w i))) (h .0) (h .1) in
+    ltb-true i (d .count) (g .0)
+
 -- a record that is there and keeps its rule is answered
 pub ruled-there : {A : Type 0} (s : List ℕ) (d : Directory) (w i n : ℕ) (read : ℕ → A) (rule : A → Bool)
     → i < d .count → place d w i + w ≤ length s → rule (read (place d w i)) ≡ true → ok (read (place d w i)) ≡ ruled (recordAt s d w i) read rule n

@@ -1,6 +1,6 @@
 // A ring with room in it: three segments that are not degenerate, counted as its groups are read. The third ends the reading.
 ghost use mathlib.Core.Path.{_≡_};
-ghost use Prim.Native.Nat.{_-_, _<_};
+ghost use Prim.Native.Nat.{_<_};
 ghost use Rattle.answer.specs.Answers.{holds};
 ghost use Rattle.tzb_core.specs.Reading.{toldCount};
 ghost use Rattle.reader_room.specs.Steps.{toldLine, chunksCount, lineOf, groupLine, lineAt, linesRoom, roomOf};
@@ -151,12 +151,6 @@ fn lines_room(
     3 <= chunk::with_side(q, start, n)
 }
 
-fn less_one(n: u16) -> u16
-    ensures { λ r. ⌜ r ≡ n - 1 ⌝ }
-{
-    if n == 0 { 0 } else { n - 1 }
-}
-
 // The ring has three segments that are not degenerate.
 pub fn has_room(o: Opened, s: &[u8], v: RingRecord) -> bool
     ensures { λ r. ⌜ r ≡ holds (λ b. b) (roomOf o (now (s .entry)) v) ⌝ }
@@ -169,7 +163,15 @@ pub fn has_room(o: Opened, s: &[u8], v: RingRecord) -> bool
                 return true;
             }
             let first = fields::wide(v.first) + 1;
-            lines_room(o, s, u.entry, less_one(v.count), first, u.exit, u.sides)
+            lines_room(
+                o,
+                s,
+                u.entry,
+                fields::less_one(v.count),
+                first,
+                u.exit,
+                u.sides,
+            )
         }
     }
 }

@@ -6,3 +6,4 @@ pub mod Layout
 pub mod Example
 pub mod Outline
 pub mod Drawn
+pub mod Rooms

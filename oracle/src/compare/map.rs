@@ -163,7 +163,7 @@ impl Run {
         Ok(())
     }
 
-    /// A file that the full check accepts, many damaged ones, and other bytes.
+    /// A file that the full check accepts, or that it would but for a ring without room; many damaged ones, and other bytes.
     fn some(&mut self, random: &mut Random) -> Result<(), (Vec<u8>, String)> {
         let valid = match random.below(16) {
             0 => tables::valid(random),
@@ -173,7 +173,7 @@ impl Run {
         };
         let mut judge =
             |kind: &str, file: Vec<u8>| self.judge(kind, &file).map_err(|why| (file, why));
-        judge("files that are accepted", valid.clone())?;
+        judge("valid files", valid.clone())?;
         let aims = [Aim::at(&valid), Aim::at_geometry(&valid), Aim::at_geometry(&valid)];
         for i in 0..12 {
             let damaged = aims[i % 3].damage(random, &valid, 1 + i / 6);

@@ -187,6 +187,12 @@ fn beside_another_rule() -> Vec<Case> {
             }
         }
     }
+    // The joint of two chunks, where each box covers its own points.
+    let joint = (CHUNKDIR, 0, 24, 16, 0);
+    let line: Ring = &[ahead(&[&[(0, 0)], &[(4, 0)]])];
+    let triangle: Ring = &[ahead(&[&[(0, 0)], &[(4, 0), (0, 4)]])];
+    out.push(case("a line in two chunks, its joint not covered", with(&file(&[&[line]]), &[joint]), 2, 2));
+    out.push(case("a triangle in two chunks, its joint not covered", with(&file(&[&[triangle]]), &[joint]), 4, 3));
     // The same with no line: then the other rule is told.
     let triangles = file(&[&[TRIANGLE], &[TRIANGLE]]);
     for (record, byte) in [(0, 5), (1, 11)] {

@@ -30,7 +30,7 @@ const D: Point = (4, 4);
 const W: Point = (-18_000_000, -9_000_000);
 const E: Point = (18_000_000, 9_000_000);
 
-pub const RINGS: [(&str, Ring, usize); 50] = [
+pub const RINGS: [(&str, Ring, usize); 52] = [
     // One point.
     ("a point", &[ahead(&[&[A]])], 0),
     ("a point, twice", &[ahead(&[&[B, B]])], 0),
@@ -73,6 +73,11 @@ pub const RINGS: [(&str, Ring, usize); 50] = [
         &[ahead(&[&[A]]), ahead(&[&[(0, 2)]]), ahead(&[&[C]])],
         3,
     ),
+    (
+        "three points a step apart at the domain's end",
+        &[ahead(&[&[(18_000_000, 0), (17_999_999, 0), (18_000_000, 1)]])],
+        3,
+    ),
     ("three points 65,536 apart", &[ahead(&[&[A, (65_536, 0), (0, 65_536)]])], 3),
     (
         "three groups of one point, 65,536 apart",
@@ -100,6 +105,11 @@ pub const RINGS: [(&str, Ring, usize); 50] = [
     ("there and back twice", &[ahead(&[&[A, B, A, B]])], 4),
     ("there and back twice, closed", &[ahead(&[&[A, B, A, B, A]])], 4),
     ("there and back twice, the same group twice", &[ahead(&[&[A, B]]); 2], 4),
+    (
+        "there and back twice, the same group four times, turned in between",
+        &[ahead(&[&[A, B]]), turned(&[&[A, B]]), ahead(&[&[A, B]]), turned(&[&[A, B]])],
+        4,
+    ),
     (
         "there and back twice, two groups of a point twice",
         &[ahead(&[&[A]]), ahead(&[&[B]]), ahead(&[&[A]]), ahead(&[&[B]])],
