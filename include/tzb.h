@@ -137,11 +137,12 @@ int64_t tzb_ask_all_striped(const uint8_t *record, size_t record_length, const u
 /* Checks F1 to F6 over the whole file. 0: accepted. -1000 - n for opening's refusal n; -1047 where the file opens and
  * breaks another rule. Of an accepted file no question is refused but for a number that is too large, a place of the
  * candidate list that no cell lists, or room that is too short; and every ring has three segments or more whose ends
- * differ, so none is a point or goes to another point and back. */
+ * differ, so none is a point or goes to another point and back. Its time grows with the points of all rings, and rings
+ * may name the same points again and again. */
 int32_t tzb_full_check(const uint8_t *file, size_t file_length);
 
 /* The lowest broken rule, 2 to 6, where tzb_full_check says -1047; else 0. A ring of fewer than three segments is rule 2,
- * where every chunk can be read (else the file is rule 3). */
+ * where every chunk can be read. */
 uint32_t tzb_full_check_rule(const uint8_t *file, size_t file_length);
 
 /* ---- a zone drawn on a map */
@@ -151,7 +152,7 @@ uint32_t tzb_full_check_rule(const uint8_t *file, size_t file_length);
  * from the first point that the file stores, which also closes it. It is ASCII, and ends in no zero byte.
  * How many bytes it has, or -1000 - n for refusal n, the first of these: the full check's (47 with the rule that
  * tzb_full_check_rule tells), 45 for a zone number too large, 48 where a ring of the zone, a hole too, has under four
- * positions, over 10,000, or no area, 46 where there is no room. */
+ * positions (which the full check has refused before), over 10,000, or no area, 46 where there is no room. */
 int64_t tzb_map(const uint8_t *file, size_t file_length, uint32_t zone, uint8_t *out, size_t out_length);
 
 /* How many bytes that text has, without writing it. Or -1000 - n, by the same refusals but 46. */
