@@ -1,4 +1,4 @@
-// Puts the small files of standard input to the full check. Each stands in a record with the number that document 01 gives it: 0 where the
+// Puts the small files of standard input to the full check. Each stands in a record with the number that documents 01 and 02 give it: 0 where the
 // full check accepts it, opening's number where that refuses it, else 47 and a hundred times the lowest broken rule. Writes how many are
 // answered so before the first difference or the list's end.
 use harness::Tally;
@@ -27,5 +27,5 @@ fn main() {
     while 0 < t.left {
         t = t.with(next());
     }
-    harness::tell(t.right, b" files checked as document 01 says\n");
+    harness::tell(t.right, b" files checked as documents 01 and 02 say\n");
 }
