@@ -191,8 +191,18 @@ fn beside_another_rule() -> Vec<Case> {
     let joint = (CHUNKDIR, 0, 24, 16, 0);
     let line: Ring = &[ahead(&[&[(0, 0)], &[(4, 0)]])];
     let triangle: Ring = &[ahead(&[&[(0, 0)], &[(4, 0), (0, 4)]])];
-    out.push(case("a line in two chunks, its joint not covered", with(&file(&[&[line]]), &[joint]), 2, 2));
-    out.push(case("a triangle in two chunks, its joint not covered", with(&file(&[&[triangle]]), &[joint]), 4, 3));
+    out.push(case(
+        "a line in two chunks, its joint not covered",
+        with(&file(&[&[line]]), &[joint]),
+        2,
+        2,
+    ));
+    out.push(case(
+        "a triangle in two chunks, its joint not covered",
+        with(&file(&[&[triangle]]), &[joint]),
+        4,
+        3,
+    ));
     // The same with no line: then the other rule is told.
     let triangles = file(&[&[TRIANGLE], &[TRIANGLE]]);
     for (record, byte) in [(0, 5), (1, 11)] {
