@@ -30,7 +30,7 @@ const D: Point = (4, 4);
 const W: Point = (-18_000_000, -9_000_000);
 const E: Point = (18_000_000, 9_000_000);
 
-pub const RINGS: [(&str, Ring, usize); 52] = [
+pub const RINGS: [(&str, Ring, usize); 54] = [
     // One point.
     ("a point", &[ahead(&[&[A]])], 0),
     ("a point, twice", &[ahead(&[&[B, B]])], 0),
@@ -56,6 +56,11 @@ pub const RINGS: [(&str, Ring, usize); 52] = [
     ("a line, its start a group of its own", &[ahead(&[&[A]]), turned(&[&[B, A]])], 2),
     ("a line, and the same group turned round", &[ahead(&[&[A, B]]), turned(&[&[A, B]])], 2),
     ("a line, and the same in chunks, turned", &[turned(&[&[A, B]]), ahead(&[&[A], &[B]])], 2),
+    (
+        "a line, its end between it and the same group turned round",
+        &[ahead(&[&[A, B]]), ahead(&[&[B]]), turned(&[&[A, B]])],
+        2,
+    ),
     // Three.
     ("a triangle, open", &[ahead(&[&[A, B, C]])], 3),
     ("a triangle, its first point repeated at the end", &[ahead(&[&[A, B, C, A]])], 3),
@@ -78,6 +83,7 @@ pub const RINGS: [(&str, Ring, usize); 52] = [
         &[ahead(&[&[(18_000_000, 0), (17_999_999, 0), (18_000_000, 1)]])],
         3,
     ),
+    ("three points, two of them 16,777,216 apart", &[ahead(&[&[A, (16_777_216, 0), C]])], 3),
     ("three points 65,536 apart", &[ahead(&[&[A, (65_536, 0), (0, 65_536)]])], 3),
     (
         "three groups of one point, 65,536 apart",
