@@ -1,5 +1,6 @@
 -- That answers are determined.
 pub mod WalksLaws
+pub mod RefusalsLaws
 pub mod AnswersLaws
 pub mod CheckLaws
 pub mod Determined

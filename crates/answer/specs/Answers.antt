@@ -8,7 +8,7 @@ use lib.ListN.{length, drop}
 use Rattle.answer.specs.declared.Refusal.{Refusal}
 use Rattle.answer.specs.declared.Checked.{Checked}
 use Rattle.answer.specs.declared.Checked.the-variants.{Fine, Refused}
-use Rattle.answer.specs.Refusals.{refusal}
+use Rattle.answer.specs.Refusals.{refusal, placedAt, countedFrom}
 
 pub data Answer (A : Type 0) : Type 0 where
   ok : A → Answer A
@@ -27,6 +27,16 @@ refused r then k = refused r
 abbrev pub need : {A : Type 0} → ℕ → Bool → Answer A → Answer A
 need n true x = x
 need n false x = no n
+
+-- what is asked about the byte at p: a refusal has this place
+abbrev pub about : {A : Type 0} → ℕ → Answer A → Answer A
+about p (ok a) = ok a
+about p (refused r) = refused (placedAt p r)
+
+-- what is asked of bytes that stand behind a others: a refusal's place is counted from the first of all
+abbrev pub behind : {A : Type 0} → ℕ → Answer A → Answer A
+behind a (ok x) = ok x
+behind a (refused r) = refused (countedFrom a r)
 
 -- what a check answers: fine, with nothing to tell, or a refusal
 abbrev pub Check : Type 0

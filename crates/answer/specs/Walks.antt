@@ -5,7 +5,7 @@ use Prim.Native.Nat.{ℕ}
 use mathlib.Core.Bool.{Bool, true, false}
 use Rattle.answer.specs.declared.Refusal.{Refusal}
 use Rattle.basics.specs.Parity.{_⊻_}
-use Rattle.answer.specs.Refusals.{refusal}
+use Rattle.answer.specs.Refusals.{refusal, countedFrom}
 use Rattle.answer.specs.Answers.{Answer, ok, refused}
 
 pub data Walk (A : Type 0) : Type 0 where
@@ -30,6 +30,12 @@ infixl 20 _yields_
 abbrev pub _yields_ : {A B : Type 0} → Answer A → (A → Walk B) → Walk B
 ok a yields k = k a
 refused r yields k = broken r
+
+-- a walk over bytes that stand behind a others: a refusal's place is counted from the first of all
+abbrev pub walkBehind : {A : Type 0} → ℕ → Walk A → Walk A
+walkBehind a (broken r) = broken (countedFrom a r)
+walkBehind a on = on
+walkBehind a (off b x) = off b x
 
 -- nothing seen
 abbrev pub done : {A : Type 0} → A → Walk A

@@ -1,0 +1,64 @@
+-- Laws of specs/Refusals, and of what answers and walks do with a refusal's place, as proofs cite them. Nothing here need be believed.
+-- Assumes nothing.
+use Prim.Native.Nat.{ℕ, _+_, _≤_, _<_, min}
+use native.Mathlib.Omega.{arith}
+use mathlib.Core.Path.{_≡_, refl, ap}
+use Rattle.answer.specs.declared.Refusal.{Refusal}
+use Rattle.answer.specs.Refusals.{noPlace, refusal, placedAt, countedFrom}
+use Rattle.answer.specs.Answers.{Answer, ok, refused, _then_, outcome, about, behind}
+use Rattle.answer.specs.Walks.{Walk, broken, walkBehind}
+
+-- ---- a place counted from another byte
+module _ (a : ℕ) (r : Refusal) where
+  pub counted-on : a + r .place < noPlace → placedAt (a + r .place) r ≡ countedFrom a r
+  unfolding countedFrom
+  counted-on h = let e : a + r .place ≡ min (a + r .place) noPlace = omega arith in ap (λ (p : ℕ). placedAt p r) e
+
+  pub counted-none : noPlace ≤ a + r .place → refusal (r .number) ≡ countedFrom a r
+  unfolding countedFrom
+  counted-none h = let e : noPlace ≡ min (a + r .place) noPlace = omega arith in ap (λ (p : ℕ). placedAt p r) e
+
+-- a refusal without a place has none from there either
+pub counted-plain : (a n : ℕ) → refusal n ≡ countedFrom a (refusal n)
+counted-plain a n = counted-none a (refusal n) (omega arith)
+
+-- a place that 64 bits hold
+pub counted-at : (a p : ℕ) (r : Refusal) → a + p ≤ noPlace → placedAt (a + p) r ≡ countedFrom a (placedAt p r)
+unfolding countedFrom
+counted-at a p r h = let e : a + p ≡ min (a + p) noPlace = omega (arith, h) in ap (λ (q : ℕ). placedAt q r) e
+
+-- ---- the cases of the code
+module _ {A : Type 0} (p : ℕ) (x : Answer A) where
+  pub about-ok : (a : A) → ok a ≡ x → ok a ≡ about p x
+  about-ok a e = rw (← e)
+
+  pub about-no : (r : Refusal) → refused r ≡ x → refused (placedAt p r) ≡ about p x
+  about-no r e = rw (← e)
+
+  pub behind-ok : (a : A) → ok a ≡ x → ok a ≡ behind p x
+  behind-ok a e = rw (← e)
+
+  pub behind-no : (r : Refusal) → refused r ≡ x → refused (countedFrom p r) ≡ behind p x
+  behind-no r e = rw (← e)
+
+-- what an answer was made of
+module _ {A : Type 0} (p : ℕ) where
+  pub about-inv : (x : Answer A) (a : A) → ok a ≡ about p x → ok a ≡ x
+  about-inv (ok b) a e = e
+  about-inv (refused r) a e = let z : _≡_ {A = ℕ} 0 1 = cc in absurd (omega (arith, z))
+
+  pub behind-inv : (x : Answer A) (a : A) → ok a ≡ behind p x → ok a ≡ x
+  behind-inv (ok b) a e = e
+  behind-inv (refused r) a e = let z : _≡_ {A = ℕ} 0 1 = cc in absurd (omega (arith, z))
+
+-- what is done with a value, and an outcome, change no place
+pub behind-then : {A B : Type 0} (p : ℕ) (x : Answer A) (f : A → B) → (behind p x then λ a. ok (f a)) ≡ behind p (x then λ a. ok (f a))
+behind-then p (ok a) f = refl
+behind-then p (refused r) f = refl
+
+pub behind-outcome : {A : Type 0} (p : ℕ) (x : Answer A) → outcome (behind p x) ≡ behind p (outcome x)
+behind-outcome p (ok a) = refl
+behind-outcome p (refused r) = refl
+
+pub behind-walk : {A : Type 0} (p : ℕ) (w : Walk A) (r : Refusal) → broken r ≡ w → broken (countedFrom p r) ≡ walkBehind p w
+behind-walk p w r e = rw (← e)
