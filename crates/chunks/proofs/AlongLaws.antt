@@ -5,11 +5,11 @@ use mathlib.Core.Path.{_≡_, refl, ap}
 use mathlib.Core.List.{List}
 use borrow.Author.Tests.{lt-ltb}
 use Rattle.answer.specs.declared.Refusal.{Refusal}
-use Rattle.answer.specs.Refusals.{refusal}
+use Rattle.answer.specs.Refusals.{refusal, placedAt}
 use Rattle.answer.specs.Answers.{ok, refused, Answer}
 use Rattle.plane.specs.declared.I32Point.{I32Point}
 use Rattle.chunks.specs.Points.{firstOf, nextAt}
-use Rattle.chunks.specs.Along.{Walker, along, walkOf, follow, reach}
+use Rattle.chunks.specs.Along.{Walker, along, walkFrom, walkOf, follow, reach}
 use native.Mathlib.Omega.{arith}
 use mathlib.Core.Bool.{true, false}
 use Rattle.varints.specs.Varint.{atEnd}
@@ -18,16 +18,16 @@ use Rattle.chunks.specs.Steps.{alongBy}
 -- ---- the cases of the code
 module _ {R : Type 0} (w : Walker R) (s : List ℕ) (n : ℕ) where
   pub walk-none : n ≡ 0 → w .stop (refusal 32) ≡ walkOf w s n
-  unfolding walkOf
+  unfolding walkFrom
   walk-none z = rw z
 
   module _ (h : 0 < n) where
     pub walk-no : (r : Refusal) → refused r ≡ firstOf s → w .stop r ≡ walkOf w s n
-    unfolding walkOf
+    unfolding walkFrom
     walk-no r e = rw (lt-ltb 0 n h, ← e)
 
     pub walk-from : (q : I32Point) (k : ℕ) → ok (q, k) ≡ firstOf s → w .point q (along w s (n - 1) q k) ≡ walkOf w s n
-    unfolding walkOf
+    unfolding walkFrom
     walk-from q k e = rw (lt-ltb 0 n h, ← e)
 
 module _ {R : Type 0} (w : Walker R) (s : List ℕ) (q : I32Point) where
@@ -37,7 +37,7 @@ module _ {R : Type 0} (w : Walker R) (s : List ℕ) (q : I32Point) where
   along-by (suc n) k = refl
 
   module _ (n k : ℕ) (a : Answer (I32Point × ℕ)) where
-    pub by-left : n ≡ 0 → atEnd s k ≡ false → w .stop (refusal 43) ≡ alongBy w s n q k a
+    pub by-left : n ≡ 0 → atEnd s k ≡ false → w .stop (placedAt k (refusal 43)) ≡ alongBy w s n q k a
     unfolding alongBy
     by-left z h = rw (z, h)
 

@@ -7,7 +7,7 @@ use mathlib.Core.Bool.{true, false}
 use mathlib.Core.List.{List}
 use borrow.Author.Tests.{lt-leb, le-leb, lt-ltb, le-ltb}
 use Rattle.answer.specs.declared.Refusal.{Refusal}
-use Rattle.answer.specs.Refusals.{refusal}
+use Rattle.answer.specs.Refusals.{refusal, placedAt}
 use Rattle.answer.specs.Answers.{Answer, ok, refused}
 use Rattle.plane.specs.declared.I32Point.{I32Point}
 use Rattle.plane.specs.Segment.{samePoint}
@@ -48,7 +48,7 @@ pub count-by : (s : List ℕ) (q : I32Point) (n k c : ℕ) → alongBy counter s
 count-by s q n k c = ap (λ (f : ℕ → Answer (ℕ × I32Point)). f c) (along-by counter s q n k)
 
 module _ (s : List ℕ) (q : I32Point) (n k : ℕ) (a : Answer (I32Point × ℕ)) (c : ℕ) where
-  pub count-left : n ≡ 0 → atEnd s k ≡ false → refused (refusal 43) ≡ alongBy counter s n q k a c
+  pub count-left : n ≡ 0 → atEnd s k ≡ false → refused (placedAt k (refusal 43)) ≡ alongBy counter s n q k a c
   count-left z h = ap (λ (f : ℕ → Answer (ℕ × I32Point)). f c) (by-left counter s q n k a z h)
 
   pub count-end : n ≡ 0 → atEnd s k ≡ true → ok (c, q) ≡ alongBy counter s n q k a c

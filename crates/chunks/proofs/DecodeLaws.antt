@@ -9,11 +9,11 @@ use lib.Dec.{ltb}
 use lib.IntN.{ℤ}
 use borrow.Author.Tests.{lt-ltb, le-leb, lt-leb}
 use Rattle.answer.specs.declared.Refusal.{Refusal}
-use Rattle.answer.specs.Answers.{Answer, ok, refused, no, _then_, need}
+use Rattle.answer.specs.Answers.{Answer, ok, refused, no, _then_, need, about}
 use Rattle.plane.specs.declared.I32Point.{I32Point}
 use Rattle.varints.specs.Varint.{atEnd}
 use Rattle.chunks.specs.Points.{firstOf, nextAt}
-use Rattle.chunks.specs.Along.{follow, along, walkOf}
+use Rattle.chunks.specs.Along.{follow, along, walkFrom}
 use Rattle.chunks.specs.Decode.{led, decoder, pointsOf, intoRoom}
 use Rattle.chunks.proofs.AlongLaws.{walk-no, walk-from}
 use Rattle.chunks.specs.Steps.{pointsFrom}
@@ -24,11 +24,11 @@ followed (ok a) f = refl
 followed (refused r) f = refl
 
 module _ (s : List ℕ) (q : I32Point) (k : ℕ) where
-  pub points-last : pointsFrom s zero q k ≡ need 43 (atEnd s k) (ok [])
+  pub points-last : pointsFrom s zero q k ≡ about k (need 43 (atEnd s k) (ok []))
   unfolding pointsFrom along
   points-last = tested (atEnd s k)
     where
-      tested : (b : Bool) → follow decoder (need 43 b (ok q)) (λ t. ok []) ≡ need 43 b (ok [])
+      tested : (b : Bool) → follow decoder (about k (need 43 b (ok q))) (λ t. ok []) ≡ about k (need 43 b (ok []))
       tested true = refl
       tested false = refl
 
@@ -37,7 +37,7 @@ module _ (s : List ℕ) (q : I32Point) (k : ℕ) where
   points-next n = followed (nextAt s q k) (λ t. led (t .0) (along decoder s n (t .0) (t .1)))
 
 pub points-are : (s : List ℕ) (n : ℕ) → pointsOf s n ≡ need 32 (ltb 0 n) (firstOf s then λ t. led (t .0) (pointsFrom s (n - 1) (t .0) (t .1)))
-unfolding pointsOf walkOf pointsFrom
+unfolding pointsOf walkFrom pointsFrom
 points-are s n = tested (ltb 0 n)
   where
     tested : (b : Bool) → follow decoder (need 32 b (firstOf s)) (λ t. led (t .0) (along decoder s (n - 1) (t .0) (t .1))) ≡ need 32 b (firstOf s then λ t. led (t .0) (along decoder s (n - 1) (t .0) (t .1)))

@@ -14,6 +14,7 @@ use Rattle.varints.specs.Varint.{atEnd}
 use Rattle.chunks.specs.Points.{nextAt}
 use Rattle.chunks.specs.Decode.{led, flat, filled}
 use Rattle.answer.proofs.AnswersLaws.{then-inv, need-inv, ok-inv, outcome-fine, outcome-no}
+use Rattle.answer.proofs.RefusalsLaws.{about-inv}
 use Rattle.chunks.proofs.DecodeLaws.{points-last, points-next}
 use Rattle.chunks.specs.Steps.{pointsFrom, readFrom, put}
 
@@ -33,7 +34,7 @@ led-no q x r e = ap (led q) (outcome-no x r e)
 pub read-all : (s : List ℕ) (n : ℕ) (q : I32Point) (k : ℕ) (l : List I32Point) → ok l ≡ pointsFrom s n q k → (readFrom s n q k ≡ l) × (length l ≡ n)
 unfolding readFrom
 read-all s zero q k l e =
-    let z : l ≡ [] = ok-inv _ _ (need-inv 43 (atEnd s k) (ok []) l (e ∙ points-last s q k) .1) in
+    let z : l ≡ [] = ok-inv _ _ (need-inv 43 (atEnd s k) (ok []) l (about-inv k _ l (e ∙ points-last s q k)) .1) in
     (sym z, ap length z)
 read-all s (suc n) q k l e =
     let h = then-inv (nextAt s q k) (λ t. led (t .0) (pointsFrom s n (t .0) (t .1))) l (e ∙ points-next s q k n) in

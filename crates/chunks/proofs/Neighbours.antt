@@ -10,7 +10,7 @@ use lib.Dec.{ltb}
 use borrow.Author.Tests.{ltb-true}
 use Rattle.basics.specs.Truth.{and-i}
 use Rattle.answer.specs.declared.Refusal.{Refusal}
-use Rattle.answer.specs.Answers.{Answer, ok, refused, _then_, need}
+use Rattle.answer.specs.Answers.{Answer, ok, refused, _then_, need, about}
 use Rattle.answer.specs.Walks.{Walk, add, _go_}
 use Rattle.plane.specs.declared.Point.{Point}
 use Rattle.plane.specs.declared.I32Point.{I32Point}
@@ -22,35 +22,36 @@ use Rattle.boxes.specs.declared.BBox.{BBox}
 use Rattle.boxes.specs.Box.{inBox}
 use Rattle.rays.specs.Ray.{rayOf}
 use Rattle.varints.specs.Varint.{atEnd}
-use Rattle.chunks.specs.Points.{numbersAt, movedBy, firstOf, nextAt, mustLie}
-use Rattle.chunks.specs.Along.{Walker, follow, reach, along, walkOf, overFrom}
+use Rattle.chunks.specs.Points.{numbersAt, movedBy, firstOf, firstFrom, nextAt, mustLie}
+use Rattle.chunks.specs.Along.{Walker, follow, reach, along, walkFrom, overFrom}
 use Rattle.chunks.specs.Scan.{past, scanner, scanOf}
 use Rattle.chunks.specs.Decode.{led, pointsOf}
 use Rattle.chunks.specs.Trace.{also, tracer, traceOf, traced}
 use Rattle.chunks.proofs.Decoded.{read-all}
 use Rattle.answer.proofs.AnswersLaws.{then-inv, need-inv, ok-inv}
+use Rattle.answer.proofs.RefusalsLaws.{about-inv}
 use Rattle.chunks.proofs.DecodeLaws.{points-last, points-next, points-are}
 use Rattle.chunks.specs.Steps.{pointsFrom}
 
 -- ---- a point that was read lies in the domain
-inside-in : (q : I32Point) (p : ℕ) (t : I32Point × ℕ) → ok t ≡ mustLie q p → inDomain (t .0) ≡ true
+inside-in : (q : I32Point) (j p : ℕ) (t : I32Point × ℕ) → ok t ≡ mustLie q j p → inDomain (t .0) ≡ true
 unfolding mustLie
-inside-in q p t e =
-    let h = need-inv 42 (inDomain q) (ok (q, p)) t e in
+inside-in q j p t e =
+    let h = need-inv 42 (inDomain q) (ok (q, p)) t (about-inv j _ t e) in
     ap (λ (u : I32Point × ℕ). inDomain (u .0)) (ok-inv t (q, p) (h .1)) ∙ h .0
 
 pub first-in : (s : List ℕ) (t : I32Point × ℕ) → ok t ≡ firstOf s → inDomain (t .0) ≡ true
-unfolding firstOf
+unfolding firstFrom
 first-in s t e =
-    let h = then-inv (numbersAt s 0) (λ u. mustLie (u .0) (u .1)) t e in
-    inside-in (h .0 .0) (h .0 .1) t (h .2)
+    let h = then-inv (numbersAt s 0) (λ u. mustLie (u .0) (u .1) (u .2)) t e in
+    inside-in (h .0 .0) (h .0 .1) (h .0 .2) t (h .2)
 
 pub next-in : (s : List ℕ) (q : I32Point) (k : ℕ) (t : I32Point × ℕ) → ok t ≡ nextAt s q k → inDomain (t .0) ≡ true
 unfolding nextAt
 next-in s q k t e =
-    let h = then-inv (numbersAt s k) (λ d. movedBy q (d .0) then λ u. mustLie u (d .1)) t e in
-    let g = then-inv (movedBy q (h .0 .0)) (λ u. mustLie u (h .0 .1)) t (h .2) in
-    inside-in (g .0) (h .0 .1) t (g .2)
+    let h = then-inv (numbersAt s k) (λ d. movedBy q (d .0) k (d .1) then λ u. mustLie u (d .1) (d .2)) t e in
+    let g = then-inv (movedBy q (h .0 .0) k (h .0 .1)) (λ u. mustLie u (h .0 .1) (h .0 .2)) t (h .2) in
+    inside-in (g .0) (h .0 .1) (h .0 .2) t (g .2)
 
 -- ---- from a point on
 -- a segment, then what its tally is added to
@@ -75,7 +76,7 @@ one-of s n q k l e =
     record { at = h .0; rest = g .0; next = h .1; from = g .1; is = ok-inv _ _ (g .2) }
 
 none-of : (s : List ℕ) (q : I32Point) (k : ℕ) (l : List I32Point) → ok l ≡ pointsFrom s zero q k → (atEnd s k ≡ true) × (l ≡ [])
-none-of s q k l e = let h = need-inv 43 (atEnd s k) (ok []) l (e ∙ points-last s q k) in (h .0, ok-inv _ _ (h .1))
+none-of s q k l e = let h = need-inv 43 (atEnd s k) (ok []) l (about-inv k _ l (e ∙ points-last s q k)) in (h .0, ok-inv _ _ (h .1))
 
 -- the walk goes over the points, whoever walks
 pub along-list : {R : Type 0} (w : Walker R) (s : List ℕ) (n : ℕ) (q : I32Point) (k : ℕ) (l : List I32Point) → ok l ≡ pointsFrom s n q k → along w s n q k ≡ overFrom w q l
@@ -100,7 +101,7 @@ module _ {R : Type 0} (w : Walker R) (keeps : (q t : I32Point) (r : Refusal) →
   unfolding along overFrom
   along-points s zero q k = tested (atEnd s k) ∙ ap (λ (x : Answer (List I32Point)). follow w x (overFrom w q)) (sym (points-last s q k))
     where
-      tested : (b : Bool) → follow w (need 43 b (ok q)) (w .last) ≡ follow w (need 43 b (ok [])) (overFrom w q)
+      tested : (b : Bool) → follow w (about k (need 43 b (ok q))) (w .last) ≡ follow w (about k (need 43 b (ok []))) (overFrom w q)
       tested true = refl
       tested false = refl
   along-points s (suc n) q k = on-to (λ t. along-points s n (t .0) (t .1)) (nextAt s q k) ∙ ap (λ (x : Answer (List I32Point)). follow w x (overFrom w q)) (sym (points-next s q k n))
@@ -152,7 +153,7 @@ whole-of s n q l e =
 module _ (s : List ℕ) (n : ℕ) (q : I32Point) (l : List I32Point) (e : ok (q ∷ l) ≡ pointsOf s n) where
   -- the scan is the tally of the segments between neighbours, and hands on the last point
   pub scan-list : (p : Point) → scanOf s n p ≡ past (chain (λ a b. rayOf a b p) q l) (lastFrom q l)
-  unfolding scanOf walkOf
+  unfolding scanOf walkFrom
   scan-list p =
       let w = whole-of s n q l e in
       rw (w .some, ← (w .first)) (along-list (scanner p) s (n - 1) q (w .at) l (w .from) ∙ scan-over p q l)
@@ -186,7 +187,7 @@ never-empty s n e =
 
 -- the trace of a box is told by what decoding answers: its refusal; or whether the box covers every point, and the last
 pub trace-points : (s : List ℕ) (n : ℕ) (b : BBox) → traceOf s n b ≡ traced b (pointsOf s n)
-unfolding traceOf walkOf traced also
+unfolding traceOf walkFrom traced also
 trace-points s n b = tested (ltb 0 n) (firstOf s) ∙ ap (traced b) (sym (points-are s n))
   where
     from-first : (q : I32Point) (x : Answer (List I32Point)) → also (inBox b q) (follow (tracer b) x (overFrom (tracer b) q)) ≡ traced b (led q x)

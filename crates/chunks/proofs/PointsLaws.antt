@@ -6,12 +6,13 @@ use mathlib.Core.Bool.{true, false, Bool}
 use mathlib.Core.List.{List}
 use lib.IntN.{ℤ}
 use Rattle.answer.specs.declared.Refusal.{Refusal}
-use Rattle.answer.specs.Answers.{ok, refused, no, Answer, _then_, need}
+use Rattle.answer.specs.Refusals.{refusal, placedAt}
+use Rattle.answer.specs.Answers.{ok, refused, Answer, _then_, need, about}
 use Rattle.plane.specs.declared.I32Point.{I32Point}
 use Rattle.plane.specs.Domain.{inDomain}
 use Rattle.varints.specs.Varint.{numberAt}
 use Rattle.plane.specs.Places.{point}
-use Rattle.chunks.specs.Points.{numbersAt, firstOf, mustLie, movedBy, nextAt}
+use Rattle.chunks.specs.Points.{numbersAt, firstOf, firstFrom, mustLie, movedBy, nextAt}
 use Rattle.chunks.specs.Delta.{addDelta}
 use Rattle.chunks.specs.Steps.{arrive, placed}
 
@@ -25,57 +26,57 @@ module _ (s : List ℕ) (p : ℕ) where
   unfolding numbersAt
   numbers-second x n r e f = rw (← e, ← f)
 
-  pub numbers-both : (x y : ℤ) (n m : ℕ) → ok (x, n) ≡ numberAt s p → ok (y, m) ≡ numberAt s n → ok (point x y, m) ≡ numbersAt s p
+  pub numbers-both : (x y : ℤ) (n m : ℕ) → ok (x, n) ≡ numberAt s p → ok (y, m) ≡ numberAt s n → ok (point x y, n, m) ≡ numbersAt s p
   unfolding numbersAt
   numbers-both x y n m e f = rw (← e, ← f)
 
 module _ (s : List ℕ) where
   pub first-no : (r : Refusal) → refused r ≡ numbersAt s 0 → refused r ≡ firstOf s
-  unfolding firstOf
+  unfolding firstFrom
   first-no r e = rw (← e)
 
-  pub first-at : (q : I32Point) (p : ℕ) → ok (q, p) ≡ numbersAt s 0 → mustLie q p ≡ firstOf s
-  unfolding firstOf
-  first-at q p e = rw (← e)
+  pub first-at : (q : I32Point) (j p : ℕ) → ok (q, j, p) ≡ numbersAt s 0 → mustLie q j p ≡ firstOf s
+  unfolding firstFrom
+  first-at q j p e = rw (← e)
 
-module _ (q : I32Point) (p : ℕ) where
-  pub lie-out : inDomain q ≡ false → no 42 ≡ mustLie q p
+module _ (q : I32Point) (j p : ℕ) where
+  pub lie-out : inDomain q ≡ false → refused (placedAt j (refusal 42)) ≡ mustLie q j p
   unfolding mustLie
   lie-out h = rw h
 
-  pub lie-in : inDomain q ≡ true → ok (q, p) ≡ mustLie q p
+  pub lie-in : inDomain q ≡ true → ok (q, p) ≡ mustLie q j p
   unfolding mustLie
   lie-in h = rw h
 
-module _ (q : I32Point) (x y : ℤ) where
-  pub arrive-x : (r : Refusal) → refused r ≡ addDelta (q .x) x → refused r ≡ arrive q (point x y)
+module _ (q : I32Point) (x y : ℤ) (i j : ℕ) where
+  pub arrive-x : (r : Refusal) → refused r ≡ addDelta (q .x) x → refused (placedAt i r) ≡ arrive q (point x y) i j
   unfolding arrive movedBy
   arrive-x r e = rw (← e)
 
   module _ (u : ℤ) (e : ok u ≡ addDelta (q .x) x) where
-    pub arrive-y : (r : Refusal) → refused r ≡ addDelta (q .y) y → refused r ≡ arrive q (point x y)
+    pub arrive-y : (r : Refusal) → refused r ≡ addDelta (q .y) y → refused (placedAt j r) ≡ arrive q (point x y) i j
     unfolding arrive movedBy
     arrive-y r f = rw (← e, ← f)
 
     module _ (v : ℤ) (f : ok v ≡ addDelta (q .y) y) where
-      pub arrive-out : inDomain (point u v) ≡ false → no 42 ≡ arrive q (point x y)
+      pub arrive-out : inDomain (point u v) ≡ false → refused (placedAt j (refusal 42)) ≡ arrive q (point x y) i j
       unfolding arrive movedBy
       arrive-out h = rw (← e, ← f, h)
 
-      pub arrive-in : inDomain (point u v) ≡ true → ok (point u v) ≡ arrive q (point x y)
+      pub arrive-in : inDomain (point u v) ≡ true → ok (point u v) ≡ arrive q (point x y) i j
       unfolding arrive movedBy
       arrive-in h = rw (← e, ← f, h)
 
--- the point after q, the numbers of whose delta are d
-next-arrives : (s : List ℕ) (q d : I32Point) (p m : ℕ) → ok (d, m) ≡ numbersAt s p → (arrive q d then placed m) ≡ nextAt s q p
+-- the point after q, the numbers of whose delta are d, y's at j
+next-arrives : (s : List ℕ) (q d : I32Point) (p j m : ℕ) → ok (d, j, m) ≡ numbersAt s p → (arrive q d p j then placed m) ≡ nextAt s q p
 unfolding nextAt arrive mustLie
-next-arrives s q d p m e = rw (← e) (arrived (movedBy q d))
+next-arrives s q d p j m e = rw (← e) (arrived (movedBy q d p j))
   where
-    in-domain : (b : Bool) (t : I32Point) → (need 42 b (ok t) then placed m) ≡ need 42 b (placed m t)
+    in-domain : (b : Bool) (t : I32Point) → (about j (need 42 b (ok t)) then placed m) ≡ about j (need 42 b (placed m t))
     in-domain true t = refl
     in-domain false t = refl
 
-    arrived : (a : Answer I32Point) → ((a then λ t. need 42 (inDomain t) (ok t)) then placed m) ≡ (a then λ t. need 42 (inDomain t) (placed m t))
+    arrived : (a : Answer I32Point) → ((a then λ t. about j (need 42 (inDomain t) (ok t))) then placed m) ≡ (a then λ t. about j (need 42 (inDomain t) (placed m t)))
     arrived (ok t) = in-domain (inDomain t) t
     arrived (refused r) = refl
 
@@ -84,9 +85,9 @@ module _ (s : List ℕ) (q : I32Point) (p : ℕ) where
   unfolding nextAt
   next-no r e = rw (← e)
 
-  module _ (d : I32Point) (m : ℕ) (e : ok (d, m) ≡ numbersAt s p) where
-    pub next-over : (r : Refusal) → refused r ≡ arrive q d → refused r ≡ nextAt s q p
-    next-over r f = ap (λ (a : Answer I32Point). a then placed m) f ∙ next-arrives s q d p m e
+  module _ (d : I32Point) (j m : ℕ) (e : ok (d, j, m) ≡ numbersAt s p) where
+    pub next-over : (r : Refusal) → refused r ≡ arrive q d p j → refused r ≡ nextAt s q p
+    next-over r f = ap (λ (a : Answer I32Point). a then placed m) f ∙ next-arrives s q d p j m e
 
-    pub next-to : (t : I32Point) → ok t ≡ arrive q d → ok (t, m) ≡ nextAt s q p
-    next-to t f = ap (λ (a : Answer I32Point). a then placed m) f ∙ next-arrives s q d p m e
+    pub next-to : (t : I32Point) → ok t ≡ arrive q d p j → ok (t, m) ≡ nextAt s q p
+    next-to t f = ap (λ (a : Answer I32Point). a then placed m) f ∙ next-arrives s q d p j m e

@@ -7,7 +7,7 @@ use mathlib.Core.Bool.{Bool, true, false}
 use mathlib.Core.List.{List, [], _∷_}
 use Rattle.answer.specs.declared.Refusal.{Refusal}
 use Rattle.answer.specs.Checks.{claim}
-use Rattle.answer.specs.Answers.{Answer, ok, refused, need, outcome}
+use Rattle.answer.specs.Answers.{Answer, ok, refused, need, about, outcome}
 use Rattle.answer.specs.Walks.{on, add}
 use Rattle.plane.specs.declared.Point.{Point}
 use Rattle.plane.specs.declared.I32Point.{I32Point}
@@ -21,16 +21,17 @@ use Rattle.chunks.specs.Scan.{scanner}
 use Rattle.chunks.specs.Decode.{decoder}
 use Rattle.chunks.proofs.Decoded.{led-same}
 use Rattle.answer.proofs.AnswersLaws.{then-inv, need-inv, ok-inv}
+use Rattle.answer.proofs.RefusalsLaws.{about-inv}
 use Rattle.chunks.proofs.ScanLaws.{segment-on, segment-off}
 use Rattle.chunks.proofs.AlongLaws.{by-no, by-to}
 use Rattle.chunks.specs.Steps.{arrive, alongBy, readFrom}
 
 -- the point lies in the domain
-pub turn-in : (q d t : I32Point) → ok t ≡ arrive q d → inDomain t ≡ true
+pub turn-in : (q d : I32Point) (i j : ℕ) (t : I32Point) → ok t ≡ arrive q d i j → inDomain t ≡ true
 unfolding arrive
-turn-in q d t h =
-    let g = then-inv (movedBy q d) (λ u. need 42 (inDomain u) (ok u)) t h in
-    let w = need-inv 42 (inDomain (g .0)) (ok (g .0)) t (g .2) in
+turn-in q d i j t h =
+    let g = then-inv (movedBy q d i j) (λ u. about j (need 42 (inDomain u) (ok u))) t h in
+    let w = need-inv 42 (inDomain (g .0)) (ok (g .0)) t (about-inv j _ t (g .2)) in
     ap inDomain (ok-inv t (g .0) (w .1)) ∙ w .0
 
 -- none is left
@@ -68,11 +69,11 @@ module _ (s : List ℕ) (q : I32Point) (n k : ℕ) (a : Answer (I32Point × ℕ)
     pub check-on : (t : I32Point) (m : ℕ) → ok (t, m) ≡ a → outcome (along decoder s (n - 1) t m) ≡ outcome (alongBy decoder s n q k a)
     check-on t m e = led-same t (along decoder s (n - 1) t m) ∙ ap outcome (by-to decoder s q n k a h t m e)
 
-  pub check-end : n ≡ 0 → (b : Bool) → b ≡ atEnd s k → claim 43 b ≡ outcome (alongBy decoder s n q k a)
+  pub check-end : n ≡ 0 → (b : Bool) → b ≡ atEnd s k → about k (claim 43 b) ≡ outcome (alongBy decoder s n q k a)
   unfolding alongBy claim
   check-end z b e = rw (z, e) (told-end (atEnd s k))
     where
-      told-end : (b : Bool) → claim 43 b ≡ outcome (follow decoder (need 43 b (ok q)) (λ t. ok []))
+      told-end : (b : Bool) → about k (claim 43 b) ≡ outcome (follow decoder (about k (need 43 b (ok q))) (λ t. ok []))
       told-end true = refl
       told-end false = refl
 

@@ -6,4 +6,5 @@ pub mod Decode
 pub mod Scan
 pub mod Trace
 pub mod Count
+pub mod Broken
 pub mod Steps

@@ -4,7 +4,7 @@ use Prim.Native.Nat.{ℕ, zero, suc, _+_}
 use mathlib.Core.List.{List, [], _∷_}
 use lib.ListN.{set}
 use lib.IntN.{ℤ}
-use Rattle.answer.specs.Answers.{Answer, ok, refused, _then_, need}
+use Rattle.answer.specs.Answers.{Answer, ok, refused, _then_, need, about}
 use Rattle.varints.specs.Varint.{last, atEnd}
 use Rattle.plane.specs.declared.I32Point.{I32Point}
 use Rattle.plane.specs.Domain.{inDomain}
@@ -15,9 +15,9 @@ use Rattle.answer.specs.Walks.{Walk}
 use Rattle.plane.specs.declared.Point.{Point}
 use Rattle.chunks.specs.Scan.{scanner}
 
--- the point that a delta d leads to from q, in the domain
-unfoldable pub arrive : I32Point → I32Point → Answer I32Point
-arrive q d = movedBy q d then λ t. need 42 (inDomain t) (ok t)
+-- the point that a delta d, whose numbers stand at i and j, leads to from q, in the domain
+unfoldable pub arrive : I32Point → I32Point → ℕ → ℕ → Answer I32Point
+arrive q d i j = movedBy q d i j then λ t. about j (need 42 (inDomain t) (ok t))
 
 -- a point, and the place after it
 abbrev pub placed : ℕ → I32Point → Answer (I32Point × ℕ)
@@ -25,7 +25,7 @@ placed n t = ok (t, n)
 
 -- from q on, where the answer to what comes next is a
 unfoldable pub alongBy : {R : Type 0} → Walker R → List ℕ → ℕ → I32Point → ℕ → Answer (I32Point × ℕ) → R
-alongBy w s zero q k a = follow w (need 43 (atEnd s k) (ok q)) (w .last)
+alongBy w s zero q k a = follow w (about k (need 43 (atEnd s k) (ok q))) (w .last)
 alongBy w s (suc n) q k a = follow w a (λ t. reach w q (t .0) (along w s n (t .0) (t .1)))
 
 -- the n points after q, whose bytes stand at k

@@ -1,4 +1,5 @@
 -- Document 01, "Chunk bytes" and "Refusal numbers": where a chunk's bytes stand in the file, and what is read there. For any opened record and any bytes.
+-- Document 02, request 2026-06: a refusal's place is its place in the file. A chunk's own refusals count from its first byte; here, where that stands is known, and here alone they are counted from the file's first.
 -- Assumes nothing.
 use Prim.Native.Nat.{ℕ, _+_, _*_}
 use mathlib.Core.Bool.{Bool, cond}
@@ -8,8 +9,8 @@ use lib.Dec.{ltb, leb}
 use lib.IntN.{ℤ}
 use Rattle.plane.specs.declared.Point.{Point}
 use Rattle.plane.specs.declared.I32Point.{I32Point}
-use Rattle.answer.specs.Answers.{Answer, ok, refused, _then_, need, Check, outcome}
-use Rattle.answer.specs.Walks.{Walk, _yields_}
+use Rattle.answer.specs.Answers.{Answer, ok, refused, _then_, need, behind, Check, outcome}
+use Rattle.answer.specs.Walks.{Walk, _yields_, walkBehind}
 use Rattle.boxes.specs.declared.BBox.{BBox}
 use Rattle.fields.specs.Part.{part}
 use Rattle.chunks.specs.Points.{firstOf}
@@ -55,19 +56,19 @@ bytesOf o s i v = endOf o s i then λ e. span s (startOf o v) e
 
 -- the first point alone, of the bytes from a to e
 unfoldable pub firstIn : List ℕ → ℕ → ℕ → Answer I32Point
-firstIn s a e = span s a e then λ b. firstOf b then λ t. ok (t .0)
+firstIn s a e = span s a e then λ b. behind a (firstOf b) then λ t. ok (t .0)
 
 -- through all segments of the n points in the bytes from a to e
 unfoldable pub scanIn : List ℕ → ℕ → Point → ℕ → ℕ → Walk I32Point
-scanIn s n p a e = span s a e yields λ b. scanOf b n p
+scanIn s n p a e = span s a e yields λ b. walkBehind a (scanOf b n p)
 
 -- all n points in the bytes from a to e, against the box b
 unfoldable pub traceIn : List ℕ → ℕ → BBox → ℕ → ℕ → Answer (Bool × I32Point)
-traceIn s n b a e = span s a e then λ c. traceOf c n b
+traceIn s n b a e = span s a e then λ c. behind a (traceOf c n b)
 
 -- the segments of the n points in the bytes from b to e, after the point a and with k counted
 unfoldable pub countIn : List ℕ → ℕ → I32Point → ℕ → ℕ → ℕ → Answer (ℕ × I32Point)
-countIn s n a k b e = span s b e then λ c. countOf c n a k
+countIn s n a k b e = span s b e then λ c. behind b (countOf c n a k)
 
 -- ---- a chunk by its number
 -- its first point alone
@@ -84,14 +85,14 @@ countAt o s i a k = chunkAt o s i then λ v. endOf o s i then λ e. countIn s (v
 
 -- all its points: 34, 32 for a count of 0, then 37 and the rest
 unfoldable pub chunkPoints : Opened → List ℕ → ℕ → Answer (List I32Point)
-chunkPoints o s i = chunkAt o s i then λ v. need 32 (ltb 0 (v .count)) (bytesOf o s i v then λ b. pointsOf b (v .count))
+chunkPoints o s i = chunkAt o s i then λ v. need 32 (ltb 0 (v .count)) (bytesOf o s i v then λ b. behind (startOf o v) (pointsOf b (v .count)))
 
 -- the same into lent i32s, two a point: 34, 32 for a count of 0, 46 for room, then 37 and the rest
 unfoldable pub decodeBy : Opened → List ℕ → ℕ → List ℤ → ChunkRecord → Answer (List I32Point)
 decodeBy o s i out v =
     need 32 (ltb 0 (v .count))
     (need 46 (leb (2 * v .count) (length out))
-    (bytesOf o s i v then λ b. pointsOf b (v .count)))
+    (bytesOf o s i v then λ b. behind (startOf o v) (pointsOf b (v .count))))
 
 unfoldable pub decodeIn : Opened → List ℕ → ℕ → List ℤ → Answer (List I32Point)
 decodeIn o s i out = chunkAt o s i then λ v. decodeBy o s i out v

@@ -9,7 +9,7 @@ use lib.ListN.{length, getD}
 use lib.Dec.{ltb, leb}
 use lib.IntN.{ℤ}
 use borrow.Author.Tests.{ltb-true}
-use Rattle.answer.specs.Answers.{Answer, ok, refused, need}
+use Rattle.answer.specs.Answers.{Answer, ok, refused, need, about}
 use Rattle.varints.specs.Varint.{unzig, last, below, digits, signed, numberAt}
 use Rattle.varints.proofs.Shortest.{never, parts, last-inv, below-inv}
 
@@ -55,9 +55,9 @@ pub number-place : (s : List ℕ) (p : ℕ) (v : ℤ) (q : ℕ) → ok (v, q) �
 unfolding numberAt
 number-place s p v q h = go (digits 4 true s p) refl (sym h)
   where
-    go : (x : Answer (ℕ × ℕ)) → digits 4 true s p ≡ x → signed x ≡ ok (v, q) → After 4 s p q
+    go : (x : Answer (ℕ × ℕ)) → digits 4 true s p ≡ x → about p (signed x) ≡ ok (v, q) → After 4 s p q
     go (ok (n, r)) e g =
         let u = parts (unzig n) v r q g in
         let w = digits-place 4 true s p n r e in
         record { some = omega (arith, u .1, w .some); few = omega (arith, u .1, w .few); within = omega (arith, u .1, w .within) }
-    go (refused k) e g = absurd (never k (v, q) g)
+    go (refused k) e g = absurd (never _ (v, q) g)

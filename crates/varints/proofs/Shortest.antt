@@ -13,7 +13,7 @@ use mir.Syntax.{w32}
 use mir.Val.{SFits}
 use borrow.Author.Tests.{lt-ltb, le-ltb, eq-eqb, ne-eqb, ltb-true, ltb-false, leb-true, eqb-true, eqb-false}
 use Rattle.answer.specs.declared.Refusal.{Refusal}
-use Rattle.answer.specs.Answers.{Answer, ok, refused, need}
+use Rattle.answer.specs.Answers.{Answer, ok, refused, need, about}
 use Rattle.varints.specs.Varint.{zig, unzig, last, below, digits, signed, numberAt, shortestDigits, encode}
 use Rattle.varints.proofs.Digits.{digits-end, digits-more, digits-fifth, last-whole, lim, lim-pos}
 
@@ -108,7 +108,7 @@ pub round : (a z : List ℕ) (n : ℤ) → SFits w32 n
     → numberAt (a ++ (encode n ++ z)) (length a) ≡ ok (n, length a + length (encode n))
 unfolding numberAt encode
 round a z n h =
-    ap signed (reads 4 true (zig n) (a ++ (encode n ++ z)) (length a) (zig-fits n h) tt (stand a (encode n) z))
+    ap (λ (x : Answer (ℕ × ℕ)). about (length a) (signed x)) (reads 4 true (zig n) (a ++ (encode n ++ z)) (length a) (zig-fits n h) tt (stand a (encode n) z))
     ∙ ap (λ (v : ℤ). ok (v, length a + length (encode n))) (unzig-zig n)
 
 -- ---- what is read is the shortest digits of its number
@@ -205,7 +205,7 @@ module _ (s : List ℕ) (bytes : (i : ℕ) → getD s i 0 < 256) where
   unfolding numberAt encode
   shortest p v q h = go (digits 4 true s p) refl h
     where
-      go : (x : Answer (ℕ × ℕ)) → digits 4 true s p ≡ x → signed x ≡ ok (v, q) → Stand (encode v) s p × (q ≡ p + length (encode v))
+      go : (x : Answer (ℕ × ℕ)) → digits 4 true s p ≡ x → about p (signed x) ≡ ok (v, q) → Stand (encode v) s p × (q ≡ p + length (encode v))
       go (ok (n, r)) e g =
           let u = parts (unzig n) v r q g in
           let i : unzig n ≡ v = u .0 in
@@ -213,4 +213,4 @@ module _ (s : List ℕ) (bytes : (i : ℕ) → getD s i 0 < 256) where
           let z : n ≡ zig v = sym (zig-unzig n) ∙ ap zig i in
           let w = only 4 true p n r e in
           (subst (λ (m : ℕ). Stand (shortestDigits 4 m) s p) z (w .stands), sym j ∙ w .after ∙ ap (λ (m : ℕ). p + length (shortestDigits 4 m)) z)
-      go (refused r) e g = absurd (never r (v, q) g)
+      go (refused r) e g = absurd (never _ (v, q) g)

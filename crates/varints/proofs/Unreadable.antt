@@ -12,8 +12,8 @@ use lib.Dec.{T, ltb, leb, eqb}
 use lib.Bits.{bitAnd}
 use lib.IntN.{ℤ}
 use Rattle.answer.specs.declared.Refusal.{Refusal}
-use Rattle.answer.specs.Refusals.{refusal}
-use Rattle.answer.specs.Answers.{Answer, ok, refused, no, need}
+use Rattle.answer.specs.Refusals.{refusal, placedAt}
+use Rattle.answer.specs.Answers.{Answer, ok, refused, no, need, about}
 use Rattle.varints.specs.Varint.{unzig, last, below, digits, signed, numberAt}
 use Rattle.varints.proofs.Digits.{digits-out, digits-end, digits-more, digits-high, digits-fifth, last-zero}
 
@@ -55,29 +55,33 @@ zero-here zero s q h e = digits-fifth s q h false (omega (arith, e)) ∙ last-ze
 zero-here (suc m) s q h e = digits-end s q h m false (omega (arith, e)) ∙ last-zero _ (q + 1) e
 
 module _ (s : List ℕ) (p : ℕ) where
-  after : (k : ℕ) (r : Refusal) → k ≤ 4 → Goes k s p → digits (4 - k) (still true k) s (p + k) ≡ refused r → numberAt s p ≡ refused r
+  after : (k : ℕ) (r : Refusal) → k ≤ 4 → Goes k s p → digits (4 - k) (still true k) s (p + k) ≡ refused r → numberAt s p ≡ refused (placedAt p r)
   unfolding numberAt
-  after k r h g e = ap signed (ap (λ (i : ℕ). digits i true s p) (split k h) ∙ carry k (4 - k) true s p r g e)
+  after k r h g e = ap (λ (x : Answer (ℕ × ℕ)). about p (signed x)) (ap (λ (i : ℕ). digits i true s p) (split k h) ∙ carry k (4 - k) true s p r g e)
     where
       split : (k : ℕ) → k ≤ 4 → 4 ≡ k + (4 - k)
       split k h = omega arith
 
   -- at most four such bytes, and no more
-  pub cut-off : (k : ℕ) → k ≤ 4 → Goes k s p → length s ≤ p + k → numberAt s p ≡ no 38
+  pub cut-off : (k : ℕ) → k ≤ 4 → Goes k s p → length s ≤ p + k → numberAt s p ≡ refused (placedAt p (refusal 38))
   cut-off k h g e = after k _ h g (digits-out s (p + k) (4 - k) (still true k) e)
 
   -- one to four such bytes, then a zero
-  pub zero-last : (k : ℕ) → 0 < k → k ≤ 4 → Goes k s p → p + k < length s → getD s (p + k) 0 ≡ 0 → numberAt s p ≡ no 39
+  pub zero-last : (k : ℕ) → 0 < k → k ≤ 4 → Goes k s p → p + k < length s → getD s (p + k) 0 ≡ 0 → numberAt s p ≡ refused (placedAt p (refusal 39))
   zero-last zero z h g l e = absurd (not-suc-le-zero z)
   zero-last (suc k) z h g l e = after (suc k) _ h g (zero-here (4 - suc k) s (p + suc k) l e)
 
   -- four such bytes, then one with any of the bits 0xf0
-  pub too-big : Goes 4 s p → p + 4 < length s → 15 < getD s (p + 4) 0 → numberAt s p ≡ no 40
+  pub too-big : Goes 4 s p → p + 4 < length s → 15 < getD s (p + 4) 0 → numberAt s p ≡ refused (placedAt p (refusal 40))
   too-big g l e = after 4 _ (omega arith) g (digits-high s (p + 4) l false e)
 
 -- ---- and there is no other refusal
-abbrev pub OneOf : Refusal → Type 0
+abbrev OneOf : Refusal → Type 0
 OneOf r = (r ≡ refusal 38) ⊎ (r ≡ refusal 39) ⊎ (r ≡ refusal 40)
+
+-- of a number that starts at p
+abbrev pub OneAt : ℕ → Refusal → Type 0
+OneAt p r = (r ≡ placedAt p (refusal 38)) ⊎ (r ≡ placedAt p (refusal 39)) ⊎ (r ≡ placedAt p (refusal 40))
 
 same-refusal : (r r' : Refusal) → _≡_ {A = Answer (ℕ × ℕ)} (refused r) (refused r') → r' ≡ r
 same-refusal r r' e = cc
@@ -112,16 +116,21 @@ one-of (suc k) f s p r e = go (ltb p (length s)) (ltb (getD s p 0) 128) e (one-o
     go true false h ih = ih (below-no (getD s p 0 - 128) 128 (digits k false s (p + 1)) r h)
     go false u h ih = inl (same-refusal (refusal 38) r h)
 
-pub three : (s : List ℕ) (p : ℕ) (r : Refusal) → numberAt s p ≡ refused r → OneOf r
+pub three : (s : List ℕ) (p : ℕ) (r : Refusal) → numberAt s p ≡ refused r → OneAt p r
 unfolding numberAt
 three s p r e = go (digits 4 true s p) refl e
   where
-    go : (x : Answer (ℕ × ℕ)) → digits 4 true s p ≡ x → signed x ≡ refused r → OneOf r
+    placed : (k : Refusal) → placedAt p k ≡ r → OneOf k → OneAt p r
+    placed k i (inl h) = inl (sym i ∙ ap (placedAt p) h)
+    placed k i (inr (inl h)) = inr (inl (sym i ∙ ap (placedAt p) h))
+    placed k i (inr (inr h)) = inr (inr (sym i ∙ ap (placedAt p) h))
+
+    go : (x : Answer (ℕ × ℕ)) → digits 4 true s p ≡ x → about p (signed x) ≡ refused r → OneAt p r
     go (ok t) h g = absurd (other (unzig (t .0), t .1) r g)
-    go (refused k) h g = one-of 4 true s p r (h ∙ again k g)
+    go (refused k) h g = placed k (again g) (one-of 4 true s p k h)
       where
-        again : (k : Refusal) → _≡_ {A = Answer (ℤ × ℕ)} (refused k) (refused r) → _≡_ {A = Answer (ℕ × ℕ)} (refused k) (refused r)
-        again k g = let i : k ≡ r = cc in ap refused i
+        again : _≡_ {A = Answer (ℤ × ℕ)} (refused (placedAt p k)) (refused r) → placedAt p k ≡ r
+        again g = cc
 
 -- of a byte, one of the bits 0xf0 is set exactly where it is above 15
 abbrev agree : Bool → Bool → Bool

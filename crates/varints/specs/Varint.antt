@@ -6,7 +6,7 @@ use mathlib.Core.Bool.{Bool, true, false, _||_, not, cond}
 use lib.ListN.{length, getD}
 use lib.Dec.{ltb, leb, eqb}
 use lib.IntN.{ℤ, pos, negsuc}
-use Rattle.answer.specs.Answers.{Answer, ok, _then_, need}
+use Rattle.answer.specs.Answers.{Answer, ok, _then_, need, about}
 
 -- zigzag: 0, -1, 1, -2, .. are 0, 1, 2, 3, ..
 abbrev pub zig : ℤ → ℕ
@@ -40,9 +40,9 @@ digits (suc k) only s p =
 abbrev pub signed : Answer (ℕ × ℕ) → Answer (ℤ × ℕ)
 signed x = x then λ t. ok (unzig (t .0), t .1)
 
--- the number at p, and the place after it
+-- the number at p, and the place after it. Document 02, request 2026-06: a refusal has "the place [..] of the first byte of the number that was being read".
 unfoldable pub numberAt : List ℕ → ℕ → Answer (ℤ × ℕ)
-numberAt s p = signed (digits 4 true s p)
+numberAt s p = about p (signed (digits 4 true s p))
 
 -- no byte is left over: the place is the one after the last byte
 abbrev pub atEnd : List ℕ → ℕ → Bool
