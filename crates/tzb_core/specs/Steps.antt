@@ -8,6 +8,8 @@ use Rattle.tzb_core.specs.declared.varint.Digits.{Digits}
 use Rattle.tzb_core.specs.declared.varint.Digits.the-variants as D
 use mathlib.Core.Path.{_≡_}
 use Rattle.plane.specs.declared.I32Point.{I32Point}
+use Rattle.tzb_core.specs.declared.chunk.Pair.{Pair}
+use Rattle.tzb_core.specs.declared.chunk.Pair.the-variants as P
 use Rattle.tzb_core.specs.declared.chunk.Moved.{Moved}
 use Rattle.tzb_core.specs.declared.chunk.Moved.the-variants as M
 use lib.Signed.{ltZ}
@@ -21,6 +23,10 @@ digitsTold (D.Of n q) = ok (n, q .at)
 digitsTold (D.Refused r) = refused r
 
 -- ---- points
+abbrev pub pairTold : Pair → Answer (I32Point × ℕ × ℕ)
+pairTold (P.Of q j n) = ok (q, j .at, n .at)
+pairTold (P.Refused r) = refused r
+
 abbrev pub moved : Moved → Answer I32Point
 moved (M.To q) = ok q
 moved (M.Refused r) = refused r

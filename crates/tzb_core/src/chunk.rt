@@ -4,7 +4,10 @@ ghost use mathlib.Core.Bool.{true, _||_};
 ghost use Prim.Native.Nat.{_+_, _*_, _≤_, _<_};
 ghost use mathlib.Core.List.{_∷_, _++_};
 ghost use lib.ListN.{length, set, take, drop};
-ghost use Rattle.answer.specs.Answers.{checkedTold, outcome};
+ghost use Rattle.answer.specs.Refusals.{refusal, placedAt};
+ghost use Rattle.answer.specs.Answers.{about, checkedTold, outcome};
+ghost use Rattle.answer.specs.Checks.{claim};
+ghost use Rattle.varints.specs.Varint.{atEnd};
 ghost use Rattle.plane.specs.Sight.{seenTold};
 ghost use Rattle.plane.specs.Domain.{inDomain};
 ghost use Rattle.boxes.specs.Box.{inBox};
@@ -16,7 +19,7 @@ ghost use Rattle.chunks.specs.Trace.{also, tracer, traceOf};
 ghost use Rattle.chunks.specs.Count.{withSide, counter, countOf};
 ghost use Rattle.chunks.specs.Decode.{led, filled, decodeOf, decoded};
 ghost use Rattle.plane.specs.Places.{point};
-ghost use Rattle.tzb_core.specs.Steps.{moved, Around, bothBelow, bothAbove, aside};
+ghost use Rattle.tzb_core.specs.Steps.{pairTold, moved, Around, bothBelow, bothAbove, aside};
 ghost use Rattle.tzb_core.specs.Reading.{spotted, scanned, toldTrace, toldCount};
 ghost use Rattle.chunks.specs.Steps.{arrive, onward, pointsFrom, put, readFrom};
 use crate::delta;
@@ -30,6 +33,12 @@ use boxes::BBox;
 use plane::I32Point;
 use plane::Point;
 use plane::Seen;
+
+// Two numbers, where the second starts, and the place after both.
+enum Pair {
+    Of(I32Point, Place, Place),
+    Refused(Refusal),
+}
 
 // A point, and the place after it.
 pub enum Spotted {
@@ -69,45 +78,45 @@ struct Band {
 }
 
 // Two numbers, x and y.
-fn numbers(s: &[u8], at: Place) -> Spotted
-    ensures { λ r. ⌜ spotted r ≡ numbersAt (now (s .entry)) (at .at) ⌝ }
+fn numbers(s: &[u8], at: Place) -> Pair
+    ensures { λ r. ⌜ pairTold r ≡ numbersAt (now (s .entry)) (at .at) ⌝ }
 {
     let a = at.varint(s);
     match a {
         Read::Refused(k) => {
-            return Spotted::Refused(k);
+            return Pair::Refused(k);
         }
         Read::Number(x, n) => {
             let b = n.varint(s);
             match b {
                 Read::Refused(k) => {
-                    return Spotted::Refused(k);
+                    return Pair::Refused(k);
                 }
                 Read::Number(y, m) => {
-                    return Spotted::At(I32Point { x, y }, m);
+                    return Pair::Of(I32Point { x, y }, n, m);
                 }
             }
         }
     }
 }
 
-// The point that a delta of x and y leads to from q: it must lie in the domain.
-fn point_after(q: I32Point, x: i32, y: i32) -> Moved
-    ensures { λ r. ⌜ moved r ≡ arrive q (point x y) ⌝ }
+// The point that a delta of x and y, which stand at the places i and j, leads to from q: it must lie in the domain. A sum that i32 does not hold is refused at its number, a point outside the domain at y.
+fn point_after(q: I32Point, x: i32, y: i32, i: Place, j: Place) -> Moved
+    ensures { λ r. ⌜ moved r ≡ arrive q (point x y) (i .at) (j .at) ⌝ }
 {
     let a = delta::add_delta(q.x, x);
     match a {
-        Sum::Refused(k) => Moved::Refused(k),
+        Sum::Refused(k) => Moved::Refused(answer::placed_at(k, i.at)),
         Sum::Of(u) => {
             let b = delta::add_delta(q.y, y);
             match b {
-                Sum::Refused(k) => Moved::Refused(k),
+                Sum::Refused(k) => Moved::Refused(answer::placed_at(k, j.at)),
                 Sum::Of(v) => {
                     let t = I32Point { x: u, y: v };
                     if boxes::point_in_domain(t) {
                         Moved::To(t)
                     } else {
-                        Moved::Refused(answer::refuse(42))
+                        Moved::Refused(answer::placed_at(answer::refuse(42), j.at))
                     }
                 }
             }
@@ -115,14 +124,14 @@ fn point_after(q: I32Point, x: i32, y: i32) -> Moved
     }
 }
 
-// A point that must lie in the domain.
-fn inside_at(q: I32Point, n: Place) -> Spotted
-    ensures { λ r. ⌜ spotted r ≡ mustLie q (n .at) ⌝ }
+// A point that must lie in the domain, whose y stands at the place j.
+fn inside_at(q: I32Point, j: Place, n: Place) -> Spotted
+    ensures { λ r. ⌜ spotted r ≡ mustLie q (j .at) (n .at) ⌝ }
 {
     if boxes::point_in_domain(q) {
         Spotted::At(q, n)
     } else {
-        Spotted::Refused(answer::refuse(42))
+        Spotted::Refused(answer::placed_at(answer::refuse(42), j.at))
     }
 }
 
@@ -132,8 +141,8 @@ pub fn first_point(s: &[u8]) -> Spotted
 {
     let t = numbers(s, Place { at: 0 });
     match t {
-        Spotted::Refused(k) => Spotted::Refused(k),
-        Spotted::At(q, n) => inside_at(q, n),
+        Pair::Refused(k) => Spotted::Refused(k),
+        Pair::Of(q, j, n) => inside_at(q, j, n),
     }
 }
 
@@ -143,11 +152,11 @@ pub fn next_point(s: &[u8], q: I32Point, at: Place) -> Spotted
 {
     let t = numbers(s, at);
     match t {
-        Spotted::Refused(k) => {
+        Pair::Refused(k) => {
             return Spotted::Refused(k);
         }
-        Spotted::At(d, n) => {
-            let m = point_after(q, d.x, d.y);
+        Pair::Of(d, j, n) => {
+            let m = point_after(q, d.x, d.y, at, j);
             match m {
                 Moved::Refused(k) => {
                     return Spotted::Refused(k);
@@ -158,6 +167,23 @@ pub fn next_point(s: &[u8], q: I32Point, at: Place) -> Spotted
             }
         }
     }
+}
+
+// Bytes are left over from the place on.
+fn left_over(at: Place) -> Refusal
+    ensures { λ r. ⌜ r ≡ placedAt (at .at) (refusal 43) ⌝ }
+{
+    answer::placed_at(answer::refuse(43), at.at)
+}
+
+// No bytes are left over.
+fn check_end(s: &[u8], at: Place) -> Checked
+    ensures { λ r. ⌜ checkedTold r ≡ about (at .at) (claim 43 (atEnd (now (s .entry)) (at .at))) ⌝ }
+{
+    if at.at_end(s) {
+        return Checked::Fine;
+    }
+    Checked::Refused(left_over(at))
 }
 
 // The height without its fraction; where it is none of the domain's, heights that nothing in the domain is beyond.
@@ -250,7 +276,7 @@ fn scan_from(s: &[u8], p: Point, count: u16, first: I32Point, from: Place) -> Sc
                         return Scan::Refused(k);
                     }
                     Read::Number(y, next) => {
-                        let t = point_after(q, x, y);
+                        let t = point_after(q, x, y, at, m);
                         match t {
                             Moved::Refused(k) => {
                                 return Scan::Refused(k);
@@ -278,7 +304,7 @@ fn scan_from(s: &[u8], p: Point, count: u16, first: I32Point, from: Place) -> Sc
     if at.at_end(s) {
         return Scan::Off(odd, q);
     }
-    Scan::Refused(answer::refuse(43))
+    Scan::Refused(left_over(at))
 }
 
 // Every segment of a chunk, in stored order as its points are read: an on-edge hit ends the walk, leftover bytes are tested last.
@@ -316,7 +342,7 @@ fn trace_from(s: &[u8], b: BBox, count: u16, first: I32Point, from: Place) -> Tr
                         return Traced::Refused(k);
                     }
                     Read::Number(y, next) => {
-                        let t = point_after(q, x, y);
+                        let t = point_after(q, x, y, at, m);
                         match t {
                             Moved::Refused(k) => {
                                 return Traced::Refused(k);
@@ -334,7 +360,7 @@ fn trace_from(s: &[u8], b: BBox, count: u16, first: I32Point, from: Place) -> Tr
         }
     }
     if !at.at_end(s) {
-        return Traced::Refused(answer::refuse(43));
+        return Traced::Refused(left_over(at));
     }
     Traced::Points(inside, q)
 }
@@ -393,7 +419,7 @@ fn count_from(s: &[u8], count: u16, first: I32Point, from: Place, sides: u32) ->
         left -= 1;
     }
     if !at.at_end(s) {
-        return Counted::Refused(answer::refuse(43));
+        return Counted::Refused(left_over(at));
     }
     Counted::Upto(n, q)
 }
@@ -457,7 +483,7 @@ fn fill_from(s: &[u8], count: u16, first: I32Point, from: Place, out: &mut [i32]
                         return Checked::Refused(k);
                     }
                     Read::Number(y, next) => {
-                        let t = point_after(q, x, y);
+                        let t = point_after(q, x, y, at, m);
                         match t {
                             Moved::Refused(k) => {
                                 return Checked::Refused(k);
@@ -475,7 +501,7 @@ fn fill_from(s: &[u8], count: u16, first: I32Point, from: Place, out: &mut [i32]
             }
         }
     }
-    answer::claim(43, at.at_end(s))
+    check_end(s, at)
 }
 
 // The first n numbers of one slice into the first n places of another.

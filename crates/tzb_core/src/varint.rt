@@ -1,4 +1,4 @@
-// The varint: zigzag LEB128, Protocol Buffers' sint32. A place is a value; a number read there comes with the place after it.
+// The varint: zigzag LEB128, Protocol Buffers' sint32. A place is a value; a number read there comes with the place after it, and its refusal has the place of its first byte.
 ghost use mathlib.Core.Path.{_≡_};
 ghost use mathlib.Core.Bool.{true};
 ghost use Prim.Native.Nat.{_+_, _-_, _≤_, _<_};
@@ -135,7 +135,7 @@ impl Place {
     {
         let d = varint_digits(s, self.at);
         match d {
-            Digits::Refused(k) => Read::Refused(k),
+            Digits::Refused(k) => Read::Refused(answer::placed_at(k, self.at)),
             Digits::Of(n, next) => Read::Number(unzigzag(n), next),
         }
     }

@@ -61,13 +61,13 @@ loop-again c =
 at-end-requires : tie.Need-at-end-requires Inv-loop μ-loop
 at-end-requires c κs = search needs
 
-refuse-requires : tie.Need-refuse-requires Inv-loop μ-loop
-refuse-requires c κs = search needs
+left-over-requires : tie.Need-left-over-requires Inv-loop μ-loop
+left-over-requires c κs = search needs
 
 returns-3 : tie.Need-returns-3 Inv-loop μ-loop
 returns-3 c =
     let e = c .before .before in
-    ap refused (c .refuse .ensures) ∙ count-left _ _ _ _ _ _ (no-more _ (e .before .loop-test .left)) (sym (e .at-end .ensures) ∙ not-true _ (c .before .if2 .taken)) ∙ e .before .before .loop .inv
+    ap refused (c .left-over .ensures) ∙ count-left _ _ _ _ _ _ (no-more _ (e .before .loop-test .left)) (sym (e .at-end .ensures) ∙ not-true _ (c .before .if2 .taken)) ∙ e .before .before .loop .inv
 
 returns-4 : tie.Need-returns-4 Inv-loop μ-loop
 returns-4 c =
@@ -91,6 +91,6 @@ count-from-spec =
     loop-less
     loop-again
     at-end-requires
-    refuse-requires
+    left-over-requires
     returns-3
     returns-4)

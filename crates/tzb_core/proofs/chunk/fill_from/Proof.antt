@@ -99,13 +99,13 @@ point-after-requires c κs = search needs
 
 -- the two numbers that were read
 read : (c : tie.After-known-told4 Inv-loop μ-loop)
-    → ok (point (toZ w32 (ofZ w32 (c .before .before .before .before .before .a2 .given .0 .0))) (toZ w32 (ofZ w32 (c .before .b2 .given .0 .0))), c .before .b2 .given .0 .1 .0 .at)
+    → ok (point (toZ w32 (ofZ w32 (c .before .before .before .before .before .a2 .given .0 .0))) (toZ w32 (ofZ w32 (c .before .b2 .given .0 .0))), c .before .before .before .before .before .a2 .given .0 .1 .0 .at, c .before .b2 .given .0 .1 .0 .at)
     ≡ numbersAt (c .before .before .before .before .before .before .before .before .before .before .before .before .before .before .args .s .now) (c .before .before .before .before .before .before .before .before .before .loop .at .at)
 read c =
     let w = c .before .before .before in
     let k = w .before in
     let v = k .before .before .before in
-    ap₂ (λ (x y : ℤ). ok (point x y, c .before .b2 .given .0 .1 .0 .at)) (back w32 _ (k .known-told2 .given .0 .1)) (back w32 _ (c .known-told4 .given .0 .1))
+    ap₂ (λ (x y : ℤ). ok (point x y, k .before .a2 .given .0 .1 .0 .at, c .before .b2 .given .0 .1 .0 .at)) (back w32 _ (k .known-told2 .given .0 .1)) (back w32 _ (c .known-told4 .given .0 .1))
     ∙ numbers-both _ _ _ _ _ _ (sym (ap readTold (k .before .a2 .given .1)) ∙ v .varint .ensures) (sym (ap readTold (c .before .b2 .given .1)) ∙ w .varint2 .ensures)
 
 enum-known-t : tie.Need-enum-known-t Inv-loop μ-loop
@@ -120,7 +120,7 @@ returns-3 c =
     let v = t .before .before .before .before .before .before .before .before in
     let l = v .before .before in
     let h₀ = v .before .loop-test .taken in
-    let e = next-over _ (l .loop .q) _ _ _ (read (t .before)) _ (sym (ap moved (c .before .t .given .1)) ∙ t .point-after .ensures) in
+    let e = next-over _ (l .loop .q) _ _ _ _ (read (t .before)) _ (sym (ap moved (c .before .t .given .1)) ∙ t .point-after .ensures) in
     (check-no _ _ _ _ _ h₀ _ e ∙ l .loop .inv .2, kept l (read-no _ _ _ h₀ _ e))
 
 enum-known-t-2 : tie.Need-enum-known-t-2 Inv-loop μ-loop
@@ -148,27 +148,24 @@ loop-again c =
     let l = v .before .before .loop in
     let h₀ = v .before .loop-test .taken in
     let same : length (p .put-point2 .last .0) ≡ length (l .out) = c .out2 .given in
-    let e = next-to _ (l .q) _ _ _ (read (t .before)) _ (sym (ap moved (k .t2 .given .1)) ∙ t .point-after .ensures) in (
+    let e = next-to _ (l .q) _ _ _ _ (read (t .before)) _ (sym (ap moved (k .t2 .given .1)) ∙ t .point-after .ensures) in (
       same ∙ l .inv .0,
       place-on _ _ _ h₀ (l .inv .1),
       ap outcome (along-by _ _ _ _ _) ∙ check-on _ _ _ _ _ h₀ _ _ e ∙ l .inv .2,
       λ h. ap (put _ _) (read-by _ _ _ _) ∙ put-on _ _ _ _ _ _ (read-on _ _ _ h₀ _ _ e) (p .put-point2 .ensures (place-in _ _ _ h₀ (l .inv .1) _ _ (l .inv .0) h)) ∙ l .inv .3 h,
     )
 
-at-end-requires : tie.Need-at-end-requires Inv-loop μ-loop
-at-end-requires c κs = search needs
-
-claim-requires : tie.Need-claim-requires Inv-loop μ-loop
-claim-requires c κs = search needs
+check-end-requires : tie.Need-check-end-requires Inv-loop μ-loop
+check-end-requires c κs = search needs
 
 same-length-4 : tie.Need-same-length-4 Inv-loop μ-loop
 same-length-4 c = search needs
 
 returns-4 : tie.Need-returns-4 Inv-loop μ-loop
 returns-4 c =
-    let l = c .before .before .before in
-    let z = no-more (l .loop .rest) (c .before .before .loop-test .left) in
-    (c .claim .ensures ∙ check-end _ _ _ _ _ z _ (c .before .at-end .ensures) ∙ l .loop .inv .2, kept l (read-end _ _ _ z))
+    let l = c .before .before in
+    let z = no-more (l .loop .rest) (c .before .loop-test .left) in
+    (c .check-end .ensures ∙ check-end _ _ _ _ _ z _ refl ∙ l .loop .inv .2, kept l (read-end _ _ _ z))
 
 pub fill-from-spec : {M : Type 1} → statement M
 fill-from-spec =
@@ -198,7 +195,6 @@ fill-from-spec =
     sub-rest
     loop-less
     loop-again
-    at-end-requires
-    claim-requires
+    check-end-requires
     same-length-4
     returns-4)

@@ -43,7 +43,7 @@ returns-3 : tie.Need-returns-3
 returns-3 c =
     let b = c .before .before .before in
     let a = b .before .before in
-    ap₂ (λ (x y : ℤ). ok (point x y, c .before .b2 .given .0 .1 .0 .at)) (back w32 _ (b .before .known-told2 .given .0 .1)) (back w32 _ (c .known-told4 .given .0 .1))
+    ap₂ (λ (x y : ℤ). ok (point x y, b .before .before .a2 .given .0 .1 .0 .at, c .before .b2 .given .0 .1 .0 .at)) (back w32 _ (b .before .known-told2 .given .0 .1)) (back w32 _ (c .known-told4 .given .0 .1))
     ∙ numbers-both _ _ _ _ _ _ (sym (ap readTold (a .a2 .given .1)) ∙ a .before .before .varint .ensures) (sym (ap readTold (c .before .b2 .given .1)) ∙ b .varint2 .ensures)
 
 pub numbers-spec : {M : Type 1} → statement M

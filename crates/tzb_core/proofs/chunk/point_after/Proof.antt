@@ -4,6 +4,7 @@ use mathlib.Core.Path.{_≡_, sym, ap, ap₂, _∙_}
 use mir.Syntax.{w32}
 use mir.Val.{toZ, ofZ}
 use mir.ValLaws.{toZ-ofZ}
+use Rattle.answer.specs.Refusals.{placedAt}
 use Rattle.answer.specs.Answers.{ok, refused}
 use Rattle.chunks.specs.Delta.{addDelta}
 use Rattle.basics.specs.Signed.{back}
@@ -32,8 +33,11 @@ add-delta-requires c κs = search needs
 enum-known-a : tie.Need-enum-known-a
 enum-known-a c = search needs
 
+placed-at-requires : tie.Need-placed-at-requires
+placed-at-requires c κs = search needs
+
 returns : tie.Need-returns
-returns c = arrive-x _ _ _ _ (sym (ap summed (c .before .a .given .1)) ∙ x-sum (c .before .before .before))
+returns c = let k = c .before .before in ap refused (c .placed-at .ensures) ∙ arrive-x _ _ _ _ _ _ (sym (ap summed (k .a .given .1)) ∙ x-sum (k .before .before))
 
 enum-known-a-2 : tie.Need-enum-known-a-2
 enum-known-a-2 c = search needs
@@ -44,10 +48,14 @@ add-delta-requires-2 c κs = search needs
 enum-known-b : tie.Need-enum-known-b
 enum-known-b c = search needs
 
+placed-at-requires-2 : tie.Need-placed-at-requires-2
+placed-at-requires-2 c κs = search needs
+
 returns-2 : tie.Need-returns-2
 returns-2 c =
-    let b = c .before .before .before in
-    arrive-y _ _ _ _ (x-held (b .before .before)) _ (sym (ap summed (c .before .b .given .1)) ∙ y-sum b)
+    let k = c .before .before in
+    let b = k .before .before in
+    ap refused (c .placed-at2 .ensures) ∙ arrive-y _ _ _ _ _ _ (x-held (b .before .before)) _ (sym (ap summed (k .b .given .1)) ∙ y-sum b)
 
 enum-known-b-2 : tie.Need-enum-known-b-2
 enum-known-b-2 c = search needs
@@ -58,16 +66,20 @@ point-in-domain-requires c κs = search needs
 returns-3 : tie.Need-returns-3
 returns-3 c =
     let k = c .before .before in
-    arrive-in _ _ _ _ (x-held (k .before .before .before .before .before)) _ (y-held k) (sym (c .before .point-in-domain .ensures) ∙ c .if1 .taken)
+    arrive-in _ _ _ _ _ _ (x-held (k .before .before .before .before .before)) _ (y-held k) (sym (c .before .point-in-domain .ensures) ∙ c .if1 .taken)
 
 refuse-requires : tie.Need-refuse-requires
 refuse-requires c κs = search needs
 
+placed-at-requires-3 : tie.Need-placed-at-requires-3
+placed-at-requires-3 c κs = search needs
+
 returns-4 : tie.Need-returns-4
 returns-4 c =
-    let k = c .before .before .before in
-    ap refused (c .refuse .ensures)
-    ∙ arrive-out _ _ _ _ (x-held (k .before .before .before .before .before)) _ (y-held k) (sym (c .before .before .point-in-domain .ensures) ∙ c .before .if1 .left)
+    let r = c .before in
+    let k = r .before .before .before in
+    ap refused (c .placed-at3 .ensures ∙ ap (placedAt _) (r .refuse .ensures))
+    ∙ arrive-out _ _ _ _ _ _ (x-held (k .before .before .before .before .before)) _ (y-held k) (sym (r .before .before .point-in-domain .ensures) ∙ r .before .if1 .left)
 
 pub point-after-spec : {M : Type 1} → statement M
 point-after-spec =
@@ -75,12 +87,15 @@ point-after-spec =
     (tie.spec
     add-delta-requires
     enum-known-a
+    placed-at-requires
     enum-known-a-2
     add-delta-requires-2
     enum-known-b
+    placed-at-requires-2
     enum-known-b-2
     point-in-domain-requires
     refuse-requires
+    placed-at-requires-3
     returns
     returns-2
     returns-3

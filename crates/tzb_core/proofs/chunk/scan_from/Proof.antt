@@ -43,7 +43,7 @@ module _ (c : tie.After-known-told4 Inv-loop μ-loop) where
   at-x = c .before .before .before .before
 
   -- both numbers
-  read : ok (point (toZ w32 (ofZ w32 (at-x .before .a2 .given .0 .0))) (toZ w32 (ofZ w32 (c .before .d2 .given .0 .0))), c .before .d2 .given .0 .1 .0 .at) ≡ numbersAt (at-x .before .before .before .before .before .before .before .before .args .s .now) (at-x .before .before .before .before .before .loop .at .at)
+  read : ok (point (toZ w32 (ofZ w32 (at-x .before .a2 .given .0 .0))) (toZ w32 (ofZ w32 (c .before .d2 .given .0 .0))), at-x .before .a2 .given .0 .1 .0 .at, c .before .d2 .given .0 .1 .0 .at) ≡ numbersAt (at-x .before .before .before .before .before .before .before .before .args .s .now) (at-x .before .before .before .before .before .loop .at .at)
   read =
       let v = c .before .before .before in
       numbers-both _ _ _ _ _ _ (read-x at-x)
@@ -97,7 +97,7 @@ returns-3 : tie.Need-returns-3 Inv-loop μ-loop
 returns-3 c =
     let t = c .before .before .before in
     let l = at-x (t .before) .before .before .before .before in
-    breaks _ _ _ (l .before .loop .inv .1) _ (by-no _ _ _ _ _ _ (l .loop-test .taken) _ (next-over _ _ _ _ _ (read (t .before)) _ (sym (ap moved (c .before .t .given .1)) ∙ t .point-after .ensures)))
+    breaks _ _ _ (l .before .loop .inv .1) _ (by-no _ _ _ _ _ _ (l .loop-test .taken) _ (next-over _ _ _ _ _ _ (read (t .before)) _ (sym (ap moved (c .before .t .given .1)) ∙ t .point-after .ensures)))
 
 enum-known-t-2 : tie.Need-enum-known-t-2 Inv-loop μ-loop
 enum-known-t-2 c = search needs
@@ -106,7 +106,7 @@ segment-seen-requires : tie.Need-segment-seen-requires Inv-loop μ-loop
 segment-seen-requires c κs =
     let t = c .before .before .before in
     let l = at-x (t .before) .before .before .before .before .before in
-    (l .before .band-at .ensures, (l .loop .inv .0, turn-in _ _ _ (sym (ap moved (c .before .t2 .given .1)) ∙ t .point-after .ensures)))
+    (l .before .band-at .ensures, (l .loop .inv .0, turn-in _ _ _ _ _ (sym (ap moved (c .before .t2 .given .1)) ∙ t .point-after .ensures)))
 
 enum-told : tie.Need-enum-told Inv-loop μ-loop
 enum-told c = search needs
@@ -116,7 +116,7 @@ returns-4 c =
     let g = c .before .before in
     let t = g .before .before .before .before in
     let l = at-x (t .before) .before .before .before .before in
-    hits _ _ _ (l .before .loop .inv .1) (by-on _ _ _ _ _ _ (l .loop-test .taken) _ _ (next-to _ _ _ _ _ (read (t .before)) _ (sym (ap moved (g .before .before .t2 .given .1)) ∙ t .point-after .ensures)) (sym (ap seenTold (c .enum-told .given .1)) ∙ g .segment-seen .ensures))
+    hits _ _ _ (l .before .loop .inv .1) (by-on _ _ _ _ _ _ (l .loop-test .taken) _ _ (next-to _ _ _ _ _ _ (read (t .before)) _ (sym (ap moved (g .before .before .t2 .given .1)) ∙ t .point-after .ensures)) (sym (ap seenTold (c .enum-told .given .1)) ∙ g .segment-seen .ensures))
 
 enum-known-e : tie.Need-enum-known-e Inv-loop μ-loop
 enum-known-e c = search needs
@@ -137,9 +137,9 @@ loop-again c =
     let t = g .before .before .before .before in
     let l = at-x (t .before) .before .before .before .before in
     let e = sym (ap moved (g .before .before .t2 .given .1)) ∙ t .point-after .ensures in (
-      turn-in _ _ _ e,
+      turn-in _ _ _ _ _ e,
       keeps _ _ _ (l .before .loop .inv .1) _ _ _ (c .plus .ensures)
-          (ap (add _) (along-by _ _ _ _ _) ∙ by-off _ _ _ _ _ _ (l .loop-test .taken) _ _ (next-to _ _ _ _ _ (read (t .before)) _ e) _ (sym (ap seenTold (c .before .before .e .given .1)) ∙ g .segment-seen .ensures)),
+          (ap (add _) (along-by _ _ _ _ _) ∙ by-off _ _ _ _ _ _ (l .loop-test .taken) _ _ (next-to _ _ _ _ _ _ (read (t .before)) _ e) _ (sym (ap seenTold (c .before .before .e .given .1)) ∙ g .segment-seen .ensures)),
     )
 
 at-end-requires : tie.Need-at-end-requires Inv-loop μ-loop
@@ -150,13 +150,13 @@ returns-5 c =
     let l = c .before .before .before in
     ends _ _ _ (l .loop .inv .1) _ (by-end _ _ _ _ _ _ (no-more _ (c .before .before .loop-test .left)) (sym (c .before .at-end .ensures) ∙ c .if1 .taken))
 
-refuse-requires : tie.Need-refuse-requires Inv-loop μ-loop
-refuse-requires c κs = search needs
+left-over-requires : tie.Need-left-over-requires Inv-loop μ-loop
+left-over-requires c κs = search needs
 
 returns-6 : tie.Need-returns-6 Inv-loop μ-loop
 returns-6 c =
     let l = c .before .before .before .before in
-    ap broken (c .refuse .ensures)
+    ap broken (c .left-over .ensures)
     ∙ breaks _ _ _ (l .loop .inv .1) _ (by-left _ _ _ _ _ _ (no-more _ (c .before .before .before .loop-test .left)) (sym (c .before .before .at-end .ensures) ∙ c .before .if1 .left))
 
 pub scan-from-spec : {M : Type 1} → statement M
@@ -189,5 +189,5 @@ scan-from-spec =
     loop-again
     at-end-requires
     returns-5
-    refuse-requires
+    left-over-requires
     returns-6)

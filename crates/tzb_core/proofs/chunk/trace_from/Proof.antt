@@ -42,7 +42,7 @@ module _ (c : tie.After-known-told4 Inv-loop μ-loop) where
   at-x = c .before .before .before .before
 
   -- both numbers
-  read : ok (point (toZ w32 (ofZ w32 (at-x .before .a2 .given .0 .0))) (toZ w32 (ofZ w32 (c .before .d2 .given .0 .0))), c .before .d2 .given .0 .1 .0 .at) ≡ numbersAt (at-x .before .before .before .before .before .before .before .before .args .s .now) (at-x .before .before .before .before .before .loop .at .at)
+  read : ok (point (toZ w32 (ofZ w32 (at-x .before .a2 .given .0 .0))) (toZ w32 (ofZ w32 (c .before .d2 .given .0 .0))), at-x .before .a2 .given .0 .1 .0 .at, c .before .d2 .given .0 .1 .0 .at) ≡ numbersAt (at-x .before .before .before .before .before .before .before .before .args .s .now) (at-x .before .before .before .before .before .loop .at .at)
   read =
       let v = c .before .before .before in
       numbers-both _ _ _ _ _ _ (read-x at-x)
@@ -94,7 +94,7 @@ returns-3 : tie.Need-returns-3 Inv-loop μ-loop
 returns-3 c =
     let t = c .before .before .before in
     let l = at-x (t .before) .before .before .before .before in
-    also-no _ _ _ (l .before .loop .inv) _ (by-no _ _ _ _ _ _ (l .loop-test .taken) _ (next-over _ _ _ _ _ (read (t .before)) _ (sym (ap moved (c .before .t .given .1)) ∙ t .point-after .ensures)))
+    also-no _ _ _ (l .before .loop .inv) _ (by-no _ _ _ _ _ _ (l .loop-test .taken) _ (next-over _ _ _ _ _ _ (read (t .before)) _ (sym (ap moved (c .before .t .given .1)) ∙ t .point-after .ensures)))
 
 enum-known-t-2 : tie.Need-enum-known-t-2 Inv-loop μ-loop
 enum-known-t-2 c = search needs
@@ -113,18 +113,18 @@ loop-again c =
     let t = c .before .before .before .before in
     let l = at-x (t .before) .before .before .before .before in
     also-on _ _ _ (l .before .loop .inv) _ _ _ (ap (λ (u : Bool). l .before .loop .inside && u) (c .in-box2 .ensures))
-    (ap (also _) (along-by _ _ _ _ _) ∙ by-to _ _ _ _ _ _ (l .loop-test .taken) _ _ (next-to _ _ _ _ _ (read (t .before)) _ (sym (ap moved (c .before .before .t2 .given .1)) ∙ t .point-after .ensures)))
+    (ap (also _) (along-by _ _ _ _ _) ∙ by-to _ _ _ _ _ _ (l .loop-test .taken) _ _ (next-to _ _ _ _ _ _ (read (t .before)) _ (sym (ap moved (c .before .before .t2 .given .1)) ∙ t .point-after .ensures)))
 
 at-end-requires : tie.Need-at-end-requires Inv-loop μ-loop
 at-end-requires c κs = search needs
 
-refuse-requires : tie.Need-refuse-requires Inv-loop μ-loop
-refuse-requires c κs = search needs
+left-over-requires : tie.Need-left-over-requires Inv-loop μ-loop
+left-over-requires c κs = search needs
 
 returns-4 : tie.Need-returns-4 Inv-loop μ-loop
 returns-4 c =
     let e = c .before .before in
-    ap refused (c .refuse .ensures) ∙ also-no _ _ _ (e .before .before .loop .inv) _ (by-left _ _ _ _ _ _ (no-more _ (e .before .loop-test .left)) (sym (e .at-end .ensures) ∙ not-true _ (c .before .if1 .taken)))
+    ap refused (c .left-over .ensures) ∙ also-no _ _ _ (e .before .before .loop .inv) _ (by-left _ _ _ _ _ _ (no-more _ (e .before .loop-test .left)) (sym (e .at-end .ensures) ∙ not-true _ (c .before .if1 .taken)))
 
 returns-5 : tie.Need-returns-5 Inv-loop μ-loop
 returns-5 c =
@@ -156,6 +156,6 @@ trace-from-spec =
     loop-less
     loop-again
     at-end-requires
-    refuse-requires
+    left-over-requires
     returns-4
     returns-5)

@@ -1,6 +1,7 @@
 -- `Place::varint` meets its contract: the digits, then zigzag.
 -- Assumes nothing.
 use mathlib.Core.Path.{sym, ap, _∙_}
+use Rattle.answer.specs.Answers.{refused}
 use mir.Syntax.{w32}
 use borrow.Author.Needs.{needs}
 use Rattle.basics.specs.Signed.{back}
@@ -15,6 +16,9 @@ varint-digits-requires c κs = search needs
 enum-known-d : tie.Need-enum-known-d
 enum-known-d c = search needs
 
+placed-at-requires : tie.Need-placed-at-requires
+placed-at-requires c κs = search needs
+
 enum-known-d-2 : tie.Need-enum-known-d-2
 enum-known-d-2 c = search needs
 
@@ -23,8 +27,8 @@ unzigzag-requires c κs = search needs
 
 returns : tie.Need-returns
 returns c =
-    let d = c .before .before .before .varint-digits in
-    number-no _ _ _ (sym (ap digitsTold (c .before .d .given .1)) ∙ d .ensures)
+    let d = c .before .before .before .before .varint-digits in
+    ap refused (c .placed-at .ensures) ∙ number-no _ _ _ (sym (ap digitsTold (c .before .before .d .given .1)) ∙ d .ensures)
 
 returns-2 : tie.Need-returns-2
 returns-2 c =
@@ -35,4 +39,4 @@ returns-2 c =
 pub varint-spec : {M : Type 1} → statement M
 varint-spec =
     tie.close
-    (tie.spec varint-digits-requires enum-known-d enum-known-d-2 unzigzag-requires returns returns-2)
+    (tie.spec varint-digits-requires enum-known-d placed-at-requires enum-known-d-2 unzigzag-requires returns returns-2)
