@@ -3,10 +3,11 @@
 use Prim.Native.Nat.{ℕ, _+_, _≤_, _<_, min}
 use native.Mathlib.Omega.{arith}
 use mathlib.Core.Path.{_≡_, refl, ap}
+use mathlib.Core.Bool.{Bool}
 use Rattle.answer.specs.declared.Refusal.{Refusal}
 use Rattle.answer.specs.Refusals.{noPlace, refusal, placedAt, countedFrom}
 use Rattle.answer.specs.Answers.{Answer, ok, refused, _then_, outcome, about, behind}
-use Rattle.answer.specs.Walks.{Walk, broken, walkBehind}
+use Rattle.answer.specs.Walks.{Walk, broken, on, off, walkBehind}
 
 -- ---- a place counted from another byte
 module _ (a : ℕ) (r : Refusal) where
@@ -60,5 +61,12 @@ pub behind-outcome : {A : Type 0} (p : ℕ) (x : Answer A) → outcome (behind p
 behind-outcome p (ok a) = refl
 behind-outcome p (refused r) = refl
 
-pub behind-walk : {A : Type 0} (p : ℕ) (w : Walk A) (r : Refusal) → broken r ≡ w → broken (countedFrom p r) ≡ walkBehind p w
-behind-walk p w r e = rw (← e)
+module _ {A : Type 0} (p : ℕ) (w : Walk A) where
+  pub behind-broken : (r : Refusal) → broken r ≡ w → broken (countedFrom p r) ≡ walkBehind p w
+  behind-broken r e = rw (← e)
+
+  pub behind-on : on ≡ w → on ≡ walkBehind p w
+  behind-on e = rw (← e)
+
+  pub behind-off : (b : Bool) (a : A) → off b a ≡ w → off b a ≡ walkBehind p w
+  behind-off b a e = rw (← e)

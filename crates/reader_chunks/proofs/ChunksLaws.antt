@@ -9,13 +9,14 @@ use borrow.Author.Tests.{lt-leb, le-leb, lt-ltb, le-ltb}
 use Rattle.plane.specs.declared.Point.{Point}
 use Rattle.plane.specs.declared.I32Point.{I32Point}
 use Rattle.answer.specs.declared.Refusal.{Refusal}
-use Rattle.answer.specs.Answers.{ok, refused, no}
-use Rattle.answer.specs.Walks.{broken}
+use Rattle.answer.specs.Refusals.{countedFrom}
+use Rattle.answer.specs.Answers.{Answer, ok, refused, no, behind}
+use Rattle.answer.specs.Walks.{broken, walkBehind}
 use Rattle.boxes.specs.declared.BBox.{BBox}
 use Rattle.fields.specs.Part.{part}
 use Rattle.chunks.specs.Points.{firstOf}
 use Rattle.chunks.specs.Scan.{scanOf}
-use Rattle.chunks.specs.Decode.{pointsOf, intoRoom}
+use Rattle.chunks.specs.Decode.{pointsOf, intoRoom, filled}
 use Rattle.chunks.specs.Trace.{traceOf}
 use Rattle.chunks.specs.Count.{countOf}
 use Rattle.opened.specs.declared.Opened.{Opened}
@@ -59,7 +60,7 @@ module _ (s : List ℕ) (a e : ℕ) where
   first-no r h = rw (← h)
 
   module _ (b : List ℕ) (h : ok b ≡ span s a e) where
-    pub first-bad : (r : Refusal) → refused r ≡ firstOf b → refused r ≡ firstIn s a e
+    pub first-bad : (r : Refusal) → refused r ≡ firstOf b → refused (countedFrom a r) ≡ firstIn s a e
     unfolding firstIn
     first-bad r k = rw (← h, ← k)
 
@@ -73,7 +74,7 @@ module _ (s : List ℕ) (a e : ℕ) where
       unfolding scanIn
       scan-no r h = rw (← h)
 
-      pub scan-is : (b : List ℕ) → ok b ≡ span s a e → scanOf b n p ≡ scanIn s n p a e
+      pub scan-is : (b : List ℕ) → ok b ≡ span s a e → walkBehind a (scanOf b n p) ≡ scanIn s n p a e
       unfolding scanIn
       scan-is b h = rw (← h)
 
@@ -82,7 +83,7 @@ module _ (s : List ℕ) (a e : ℕ) where
       unfolding traceIn
       trace-no r h = rw (← h)
 
-      pub trace-is : (c : List ℕ) → ok c ≡ span s a e → traceOf c n b ≡ traceIn s n b a e
+      pub trace-is : (c : List ℕ) → ok c ≡ span s a e → behind a (traceOf c n b) ≡ traceIn s n b a e
       unfolding traceIn
       trace-is c h = rw (← h)
 
@@ -91,7 +92,7 @@ module _ (s : List ℕ) (a e : ℕ) where
       unfolding countIn
       count-no r h = rw (← h)
 
-      pub count-is : (c : List ℕ) → ok c ≡ span s a e → countOf c n t k ≡ countIn s n t k a e
+      pub count-is : (c : List ℕ) → ok c ≡ span s a e → behind a (countOf c n t k) ≡ countIn s n t k a e
       unfolding countIn
       count-is c h = rw (← h)
 
@@ -99,7 +100,7 @@ module _ (s : List ℕ) (a e : ℕ) where
     unfolding pointsIn
     points-no r h = rw (← h)
 
-    pub points-is : (b : List ℕ) → ok b ≡ span s a e → pointsOf b n ≡ pointsIn s n a e
+    pub points-is : (b : List ℕ) → ok b ≡ span s a e → behind a (pointsOf b n) ≡ pointsIn s n a e
     unfolding pointsIn
     points-is b h = rw (← h)
 
@@ -107,6 +108,11 @@ module _ (s : List ℕ) (a e : ℕ) where
 pub into-room : (b : List ℕ) (n : ℕ) (out : List ℤ) → 0 < n → 2 * n ≤ length out → intoRoom b n out ≡ pointsOf b n
 unfolding intoRoom
 into-room b n out h k = rw (lt-ltb 0 n h, le-leb (2 * n) (length out) k)
+
+-- what is written does not depend on where a refusal stands
+pub filled-behind : (out : List ℤ) (a : ℕ) (x : Answer (List I32Point)) → filled out x ≡ filled out (behind a x)
+filled-behind out a (ok l) = refl
+filled-behind out a (refused r) = refl
 
 module _ (o : Opened) (s : List ℕ) (i : ℕ) where
   pub at-no : (r : Refusal) → refused r ≡ chunkAt o s i → refused r ≡ firstAt o s i

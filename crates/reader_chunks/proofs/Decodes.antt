@@ -10,14 +10,15 @@ use lib.Dec.{ltb, leb}
 use lib.IntN.{ℤ}
 use borrow.Author.Tests.{le-leb, lt-leb}
 use Rattle.plane.specs.declared.I32Point.{I32Point}
-use Rattle.answer.specs.Answers.{ok, no, _then_, need, fine}
+use Rattle.answer.specs.Answers.{ok, no, _then_, need, behind, fine}
 use Rattle.chunks.specs.Decode.{pointsOf, flat, filled}
 use Rattle.chunks.proofs.Neighbours.{count-list, never-empty}
 use Rattle.opened.specs.declared.Opened.{Opened}
 use Rattle.reader_records.specs.declared.ChunkRecord.{ChunkRecord}
 use Rattle.reader_records.specs.Records.{chunkAt}
-use Rattle.reader_chunks.specs.Chunks.{bytesOf, chunkPoints, decodeBy, decodeIn, decodeAt, decodedAt}
+use Rattle.reader_chunks.specs.Chunks.{startOf, bytesOf, chunkPoints, decodeBy, decodeIn, decodeAt, decodedAt}
 use Rattle.answer.proofs.AnswersLaws.{then-inv, need-inv, outcome-fine}
+use Rattle.answer.proofs.RefusalsLaws.{behind-inv}
 
 -- a chunk that has points has as many as its record says
 count-is : (b : List ℕ) (n : ℕ) (l : List I32Point) → ok l ≡ pointsOf b n → length l ≡ n
@@ -38,10 +39,10 @@ module _ (o : Opened) (s : List ℕ) (i : ℕ) where
     pub stands : Stands o s i l
     unfolding chunkPoints
     stands =
-        let f = then-inv (chunkAt o s i) (λ v. need 32 (ltb 0 (v .count)) (bytesOf o s i v then λ b. pointsOf b (v .count))) l e in
-        let g = need-inv 32 (ltb 0 (f .0 .count)) (bytesOf o s i (f .0) then λ b. pointsOf b (f .0 .count)) l (f .2) in
-        let h = then-inv (bytesOf o s i (f .0)) (λ b. pointsOf b (f .0 .count)) l (g .1) in
-        record { entry = f .0; bytes = h .0; found = f .1; some = g .0; lies = h .1; points = h .2 }
+        let f = then-inv (chunkAt o s i) (λ v. need 32 (ltb 0 (v .count)) (bytesOf o s i v then λ b. behind (startOf o v) (pointsOf b (v .count)))) l e in
+        let g = need-inv 32 (ltb 0 (f .0 .count)) (bytesOf o s i (f .0) then λ b. behind (startOf o (f .0)) (pointsOf b (f .0 .count))) l (f .2) in
+        let h = then-inv (bytesOf o s i (f .0)) (λ b. behind (startOf o (f .0)) (pointsOf b (f .0 .count))) l (g .1) in
+        record { entry = f .0; bytes = h .0; found = f .1; some = g .0; lies = h .1; points = behind-inv _ _ l (h .2) }
 
     pub count-stands : length l ≡ stands .entry .count
     count-stands = count-is _ _ l (stands .points)
@@ -52,7 +53,7 @@ module _ (o : Opened) (s : List ℕ) (i : ℕ) where
     taken out room = go (stands .entry) (stands .bytes) (stands .found) (stands .some) (stands .lies) (stands .points) (omega (arith, count-stands))
       where
         go : (v : ChunkRecord) (b : List ℕ) → ok v ≡ chunkAt o s i → ltb 0 (v .count) ≡ true → ok b ≡ bytesOf o s i v → ok l ≡ pointsOf b (v .count) → 2 * v .count ≤ length out → ok l ≡ decodeIn o s i out
-        go v b f g h k m = rw (← f, g, le-leb (2 * v .count) (length out) m, ← h) k
+        go v b f g h k m = rw (← f, g, le-leb (2 * v .count) (length out) m, ← h) (ap (behind (startOf o v)) k)
 
     -- and where there is none it is 46
     pub roomless : (out : List ℤ) → length out < 2 * length l → no 46 ≡ decodeIn o s i out
@@ -73,8 +74,8 @@ module _ (o : Opened) (s : List ℕ) (i : ℕ) where
     unfolding decodeIn decodeBy chunkPoints
     decoded-are l e =
         let f = then-inv (chunkAt o s i) (λ v. decodeBy o s i out v) l e in
-        let g = need-inv 32 (ltb 0 (f .0 .count)) (need 46 (leb (2 * f .0 .count) (length out)) (bytesOf o s i (f .0) then λ b. pointsOf b (f .0 .count))) l (f .2) in
-        let h = need-inv 46 (leb (2 * f .0 .count) (length out)) (bytesOf o s i (f .0) then λ b. pointsOf b (f .0 .count)) l (g .1) in
+        let g = need-inv 32 (ltb 0 (f .0 .count)) (need 46 (leb (2 * f .0 .count) (length out)) (bytesOf o s i (f .0) then λ b. behind (startOf o (f .0)) (pointsOf b (f .0 .count)))) l (f .2) in
+        let h = need-inv 46 (leb (2 * f .0 .count) (length out)) (bytesOf o s i (f .0) then λ b. behind (startOf o (f .0)) (pointsOf b (f .0 .count))) l (g .1) in
         rw (← (f .1), g .0) (h .1)
 
     -- what decoding accepts has points, and these stand in the lent memory afterwards

@@ -1,4 +1,4 @@
-// A chunk's bytes in the file: its range, its first point, the scan of its segments, their count, the trace of a box, and its points decoded into lent numbers.
+// A chunk's bytes in the file: its range, and a refusal's place in the file; its first point, the scan of its segments, their count, the trace of a box, and its points decoded into lent numbers.
 ghost use mathlib.Core.Path.{_≡_};
 ghost use Prim.Native.Nat.{_+_, _*_, _≤_, _<_};
 ghost use lib.ListN.{length};
@@ -90,7 +90,7 @@ pub fn first_in(s: &[u8], a: usize, e: usize) -> PointAt
     let b = &s[a..e];
     let t = chunk::first_point(b);
     match t {
-        Spotted::Refused(k) => PointAt::Refused(k),
+        Spotted::Refused(k) => PointAt::Refused(answer::counted_from(k, a)),
         Spotted::At(q, _) => PointAt::At(q),
     }
 }
@@ -104,7 +104,12 @@ pub fn scan_in(s: &[u8], count: u16, p: Point, a: usize, e: usize) -> Scan
         return Scan::Refused(k);
     }
     let b = &s[a..e];
-    chunk::scan_chunk(b, count, p)
+    let t = chunk::scan_chunk(b, count, p);
+    match t {
+        Scan::Refused(k) => Scan::Refused(answer::counted_from(k, a)),
+        Scan::On => Scan::On,
+        Scan::Off(odd, q) => Scan::Off(odd, q),
+    }
 }
 
 // All points in the bytes from a to e, against a box.
@@ -116,7 +121,11 @@ pub fn trace_in(s: &[u8], count: u16, b: BBox, a: usize, e: usize) -> Traced
         return Traced::Refused(k);
     }
     let bytes = &s[a..e];
-    chunk::trace_chunk(bytes, count, b)
+    let t = chunk::trace_chunk(bytes, count, b);
+    match t {
+        Traced::Refused(k) => Traced::Refused(answer::counted_from(k, a)),
+        Traced::Points(inside, q) => Traced::Points(inside, q),
+    }
 }
 
 // The segments of the points in the bytes from a to e, after the point before them and with so many counted.
@@ -128,7 +137,11 @@ fn count_in(s: &[u8], count: u16, before: I32Point, sides: u32, a: usize, e: usi
         return Counted::Refused(k);
     }
     let b = &s[a..e];
-    chunk::count_chunk(b, count, before, sides)
+    let t = chunk::count_chunk(b, count, before, sides);
+    match t {
+        Counted::Refused(k) => Counted::Refused(answer::counted_from(k, a)),
+        Counted::Upto(n, q) => Counted::Upto(n, q),
+    }
 }
 
 // The first point alone, of chunk `index`.
@@ -193,7 +206,11 @@ fn decode_in(s: &[u8], count: u16, a: usize, e: usize, out: &mut [i32]) -> Check
         return Checked::Refused(k);
     }
     let b = &s[a..e];
-    chunk::decode_points(b, count, out)
+    let t = chunk::decode_points(b, count, out);
+    match t {
+        Checked::Refused(k) => Checked::Refused(answer::counted_from(k, a)),
+        Checked::Fine => Checked::Fine,
+    }
 }
 
 // All points of chunk `index`, whose record is v: 32 and 46 before the bytes are sought.

@@ -1,13 +1,17 @@
 -- `reader_chunks::count_in` meets its contract: the range, then the count.
 -- Assumes nothing.
-use mathlib.Core.Path.{sym, _∙_, ap}
-use Rattle.answer.specs.Answers.{checkedTold}
+use mathlib.Core.Path.{_≡_, sym, _∙_, ap}
+use Rattle.answer.specs.Answers.{ok, refused, checkedTold}
 use Rattle.reader_chunks.proofs.Ranges.{span-fine}
 use native.Mathlib.Omega.{arith}
 use borrow.Author.Needs.{needs}
 use Rattle.reader_chunks.proofs.count_in.Statement.{statement}
 use Rattle.reader_chunks.proofs.count_in.Tie as tie
 use Rattle.answer.proofs.AnswersLaws.{outcome-no}
+use Rattle.answer.proofs.RefusalsLaws.{behind-no, behind-ok}
+use Rattle.fields.specs.Part.{part}
+use Rattle.reader_chunks.specs.Chunks.{span}
+use Rattle.tzb_core.specs.Reading.{toldCount}
 use Rattle.reader_chunks.proofs.ChunksLaws.{span-is, count-no, count-is}
 
 check-span-requires : tie.Need-check-span-requires
@@ -34,10 +38,36 @@ part-b-end c = let h = span-fine _ _ _ (sym (ap checkedTold (c .enum-told .given
 count-chunk-requires : tie.Need-count-chunk-requires
 count-chunk-requires c κs = search needs
 
+-- what the chunk's own bytes tell
+module _ (d : tie.After-count-chunk) where
+  abbrev own : tie.After-enum-told
+  own = d .before .before
+
+  lies : ok (part (own .before .before .before .before .args .s .now) (own .before .before .before .before .args .a) (own .before .before .before .before .args .e)) ≡ span (own .before .before .before .before .args .s .now) (own .before .before .before .before .args .a) (own .before .before .before .before .args .e)
+  lies =
+      let h = span-fine _ _ _ (sym (ap checkedTold (own .enum-told .given .1)) ∙ own .before .before .check-span .ensures) in
+      span-is _ _ _ (h .0) (h .1)
+
+enum-known-t : tie.Need-enum-known-t
+enum-known-t c = search needs
+
+counted-from-requires : tie.Need-counted-from-requires
+counted-from-requires c κs = search needs
+
 returns-2 : tie.Need-returns-2
 returns-2 c =
-    let h = span-fine _ _ _ (sym (ap checkedTold (c .before .before .enum-told .given .1)) ∙ c .before .before .before .before .check-span .ensures) in
-    c .count-chunk .ensures ∙ count-is _ _ _ _ _ _ _ (span-is _ _ _ (h .0) (h .1))
+    let t = c .before .before in
+    let d = t .before .before in
+    ap refused (c .counted-from .ensures) ∙ behind-no _ _ _ (sym (ap toldCount (t .t .given .1)) ∙ d .count-chunk .ensures) ∙ count-is _ _ _ _ _ _ _ (lies d)
+
+enum-known-t-2 : tie.Need-enum-known-t-2
+enum-known-t-2 c = search needs
+
+returns-3 : tie.Need-returns-3
+returns-3 c =
+    let t = c .before in
+    let d = t .before .before in
+    behind-ok _ _ _ (sym (ap toldCount (t .t2 .given .1)) ∙ d .count-chunk .ensures) ∙ count-is _ _ _ _ _ _ _ (lies d)
 
 pub count-in-spec : {M : Type 1} → statement M
 count-in-spec =
@@ -51,4 +81,8 @@ count-in-spec =
     part-b-start
     part-b-end
     count-chunk-requires
-    returns-2)
+    enum-known-t
+    counted-from-requires
+    enum-known-t-2
+    returns-2
+    returns-3)

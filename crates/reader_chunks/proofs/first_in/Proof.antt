@@ -1,7 +1,7 @@
 -- `reader_chunks::first_in` meets its contract: the range, then the first point.
 -- Assumes nothing.
 use mathlib.Core.Path.{sym, ap, _∙_}
-use Rattle.answer.specs.Answers.{checkedTold}
+use Rattle.answer.specs.Answers.{refused, checkedTold}
 use Rattle.reader_chunks.proofs.Ranges.{span-fine}
 use native.Mathlib.Omega.{arith}
 use borrow.Author.Needs.{needs}
@@ -38,14 +38,18 @@ first-point-requires c κs = search needs
 enum-known-t : tie.Need-enum-known-t
 enum-known-t c = search needs
 
+counted-from-requires : tie.Need-counted-from-requires
+counted-from-requires c κs = search needs
+
 enum-known-t-2 : tie.Need-enum-known-t-2
 enum-known-t-2 c = search needs
 
 returns-2 : tie.Need-returns-2
 returns-2 c =
-    let f = c .before .before .before in
+    let t = c .before .before in
+    let f = t .before .before in
     let h = span-fine _ _ _ (sym (ap checkedTold (f .before .before .enum-told .given .1)) ∙ f .before .before .before .before .check-span .ensures) in
-    first-bad _ _ _ _ (span-is _ _ _ (h .0) (h .1)) _ (sym (ap spotted (c .before .t .given .1)) ∙ f .first-point .ensures)
+    ap refused (c .counted-from .ensures) ∙ first-bad _ _ _ _ (span-is _ _ _ (h .0) (h .1)) _ (sym (ap spotted (t .t .given .1)) ∙ f .first-point .ensures)
 
 returns-3 : tie.Need-returns-3
 returns-3 c =
@@ -66,6 +70,7 @@ first-in-spec =
     part-b-end
     first-point-requires
     enum-known-t
+    counted-from-requires
     enum-known-t-2
     returns-2
     returns-3)
