@@ -3,10 +3,11 @@
 use Prim.Native.Nat.{ℕ, _+_, _≤_, _<_, min}
 use native.Mathlib.Omega.{arith}
 use mathlib.Core.Path.{_≡_, refl, ap}
-use mathlib.Core.Bool.{Bool}
+use mathlib.Core.Bool.{Bool, true, false}
+use mathlib.Core.Logic.{_⊎_, inl, inr}
 use Rattle.answer.specs.declared.Refusal.{Refusal}
 use Rattle.answer.specs.Refusals.{noPlace, refusal, placedAt, countedFrom}
-use Rattle.answer.specs.Answers.{Answer, ok, refused, _then_, outcome, about, behind}
+use Rattle.answer.specs.Answers.{Answer, ok, refused, _then_, need, outcome, about, behind}
 use Rattle.answer.specs.Walks.{Walk, broken, on, off, walkBehind}
 
 -- ---- a place counted from another byte
@@ -70,3 +71,19 @@ module _ {A : Type 0} (p : ℕ) (w : Walk A) where
 
   pub behind-off : (b : Bool) (a : A) → off b a ≡ w → off b a ≡ walkBehind p w
   behind-off b a e = rw (← e)
+
+-- ---- what a refusal was made of
+pub refused-inv : {A : Type 0} (r k : Refusal) → _≡_ {A = Answer A} (refused r) (refused k) → r ≡ k
+refused-inv r k e = cc
+
+-- an answer is not both
+pub never-both : {A : Type 0} (r : Refusal) (a : A) → refused r ≡ ok a → ⊥
+never-both r a e = let z : _≡_ {A = ℕ} 0 1 = cc in omega (arith, z)
+
+pub then-split : {A B : Type 0} (x : Answer A) (k : A → Answer B) (r : Refusal) → refused r ≡ (x then k) → (refused r ≡ x) ⊎ ((a : A) × (ok a ≡ x) × (refused r ≡ k a))
+then-split (ok a) k r e = inr (a, refl, e)
+then-split {A} {B} (refused m) k r e = inl (ap refused (refused-inv {A = B} r m e))
+
+pub need-split : {A : Type 0} (n : ℕ) (b : Bool) (x : Answer A) (r : Refusal) → refused r ≡ need n b x → (r ≡ refusal n) ⊎ (refused r ≡ x)
+need-split n true x r e = inr e
+need-split {A} n false x r e = inl (refused-inv {A = A} r (refusal n) e)

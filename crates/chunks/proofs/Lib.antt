@@ -11,4 +11,5 @@ pub mod Decoded
 pub mod Turns
 pub mod Neighbours
 pub mod Counting
+pub mod Breaking
 pub mod Worked
