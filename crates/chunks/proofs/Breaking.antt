@@ -200,17 +200,25 @@ module _ (s : List ℕ) where
       let i : t .2 ≡ g .0 .1 = ap (λ (u : I32Point × ℕ × ℕ). u .2) (ok-inv _ _ (g .2)) in
       omega (arith, i, number-place s (f .0 .1) (g .0 .0) (g .0 .1) (g .1) .within)
 
+  pub y-within : (k : ℕ) (t : I32Point × ℕ × ℕ) → ok t ≡ numbersAt s k → t .1 ≤ length s
+  unfolding numbersAt
+  y-within k t h =
+      let f = then-inv (numberAt s k) _ t h in
+      let g = then-inv (numberAt s (f .0 .1)) _ t (f .2) in
+      let i : t .1 ≡ f .0 .1 = ap (λ (u : I32Point × ℕ × ℕ). u .1) (ok-inv _ _ (g .2)) in
+      omega (arith, i, number-place s k (f .0 .0) (f .0 .1) (f .1) .within)
+
   lie-within : (q : I32Point) (j m : ℕ) (t : I32Point × ℕ) → ok t ≡ mustLie q j m → t .1 ≡ m
   unfolding mustLie
   lie-within q j m t h = ap (λ (u : I32Point × ℕ). u .1) (ok-inv t (q, m) (need-inv 42 (inDomain q) (ok (q, m)) t (about-inv j _ t h) .1))
 
-  first-within : (p : ℕ) (t : I32Point × ℕ) → ok t ≡ firstFrom s p → t .1 ≤ length s
+  pub first-within : (p : ℕ) (t : I32Point × ℕ) → ok t ≡ firstFrom s p → t .1 ≤ length s
   unfolding firstFrom
   first-within p t h =
       let f = then-inv (numbersAt s p) (λ u. mustLie (u .0) (u .1) (u .2)) t h in
       omega (arith, lie-within _ _ _ t (f .2), numbers-within p (f .0) (f .1))
 
-  next-within : (q : I32Point) (k : ℕ) (t : I32Point × ℕ) → ok t ≡ nextAt s q k → t .1 ≤ length s
+  pub next-within : (q : I32Point) (k : ℕ) (t : I32Point × ℕ) → ok t ≡ nextAt s q k → t .1 ≤ length s
   unfolding nextAt
   next-within q k t h =
       let f = then-inv (numbersAt s k) (λ d. movedBy q (d .0) k (d .1) then λ u. mustLie u (d .1) (d .2)) t h in

@@ -12,4 +12,5 @@ pub mod Turns
 pub mod Neighbours
 pub mod Counting
 pub mod Breaking
+pub mod Shifted
 pub mod Worked

@@ -4,3 +4,4 @@ pub mod Digits
 pub mod Shortest
 pub mod Places
 pub mod Unreadable
+pub mod Shifted
