@@ -7,7 +7,7 @@ use mathlib.Core.Bool.{Bool, true, false}
 use mathlib.Core.Logic.{_⊎_, inl, inr}
 use Rattle.answer.specs.declared.Refusal.{Refusal}
 use Rattle.answer.specs.Refusals.{noPlace, refusal, placedAt, countedFrom}
-use Rattle.answer.specs.Answers.{Answer, ok, refused, _then_, need, outcome, about, behind}
+use Rattle.answer.specs.Answers.{Answer, ok, refused, _then_, need, outcome, about, behind, holds}
 use Rattle.answer.specs.Walks.{Walk, broken, on, off, walkBehind}
 
 -- ---- a place counted from another byte
@@ -61,6 +61,12 @@ behind-then p (refused r) f = refl
 pub behind-outcome : {A : Type 0} (p : ℕ) (x : Answer A) → outcome (behind p x) ≡ behind p (outcome x)
 behind-outcome p (ok a) = refl
 behind-outcome p (refused r) = refl
+
+-- no test asks where a refusal stands
+pub holds-behind : {A : Type 0} (P : A → Bool) (p : ℕ) (x : Answer A) → holds P x ≡ holds P (behind p x)
+unfolding holds
+holds-behind P p (ok a) = refl
+holds-behind P p (refused r) = refl
 
 module _ {A : Type 0} (p : ℕ) (w : Walk A) where
   pub behind-broken : (r : Refusal) → broken r ≡ w → broken (countedFrom p r) ≡ walkBehind p w

@@ -21,6 +21,12 @@ use Rattle.varints.proofs.Shifted.{farther, number-shifted, end-same}
 use Rattle.chunks.specs.Delta.{addDelta}
 use Rattle.chunks.specs.Points.{numbersAt, movedBy, mustLie, firstFrom, nextAt}
 use Rattle.chunks.specs.Along.{Walker, follow, reach, along, walkFrom}
+use Rattle.answer.specs.Walks.{Walk, broken, on, off, add, _go_, walkBehind}
+use Rattle.plane.specs.declared.Point.{Point}
+use Rattle.plane.specs.Sight.{Sight, On, Off}
+use Rattle.rays.specs.Ray.{rayOf}
+use Rattle.chunks.specs.Scan.{past, scanner, scanOf}
+use Rattle.chunks.specs.Decode.{led, decoder, pointsOf}
 use Rattle.chunks.proofs.Breaking.{y-within, first-within, next-within}
 
 -- two numbers, y's place, and the place after them
@@ -50,14 +56,26 @@ module _ (a : ℕ) where
 
   lie-shifted : (q : I32Point) (j m : ℕ) → a + j ≤ noPlace → mustLie q (a + j) (a + m) ≡ farther a (mustLie q j m)
   unfolding mustLie
-  lie-shifted q j m h = go (inDomain q)
+  lie-shifted q j m h = by-case (inDomain q)
     where
       there : ℕ → I32Point × ℕ
       there n = (q, n)
 
-      go : (b : Bool) → about (a + j) (need 42 b (ok (there (a + m)))) ≡ farther a (about j (need 42 b (ok (there m))))
-      go true = refl
-      go false = ap refused (counted-at a j (refusal 42) h)
+      by-case : (b : Bool) → about (a + j) (need 42 b (ok (there (a + m)))) ≡ farther a (about j (need 42 b (ok (there m))))
+      by-case true = refl
+      by-case false = ap refused (counted-at a j (refusal 42) h)
+
+-- ---- what is handed on changes no place
+past-behind : {A B : Type 0} (a : ℕ) (z : Sight) (t : A) (w : Walk B) → (past z t go λ u. walkBehind a w) ≡ walkBehind a (past z t go λ u. w)
+unfolding add
+past-behind a On t w = refl
+past-behind a (Off b) t (broken r) = refl
+past-behind a (Off b) t on = refl
+past-behind a (Off b) t (off c x) = refl
+
+led-behind : (a : ℕ) (q : I32Point) (x : Answer (List I32Point)) → led q (behind a x) ≡ behind a (led q x)
+led-behind a q (ok l) = refl
+led-behind a q (refused r) = refl
 
 -- ---- points
 module _ (front s : List ℕ) (few : length (front ++ s) ≤ noPlace) where
@@ -95,6 +113,20 @@ module _ (front s : List ℕ) (few : length (front ++ s) ≤ noPlace) where
       land (ok t) e = lie-shifted a (t .0) (t .1) (t .2) (fits (t .1) (y-within s p t e))
       land (refused r) e = refl
 
+  -- the first point alone
+  pub alone-shifted : (behind a (firstFrom s 0) then λ t. ok (t .0)) ≡ (firstFrom (front ++ s) a then λ t. ok (t .0))
+  alone-shifted =
+      point-of (firstFrom s 0)
+      ∙ ap (λ (x : Answer (I32Point × ℕ)). x then λ t. ok (t .0)) (sym (first-shifted 0 (omega arith)))
+      ∙ ap (λ (p : ℕ). firstFrom (front ++ s) p then λ t. ok (t .0)) (start a)
+    where
+      point-of : (x : Answer (I32Point × ℕ)) → (behind a x then λ t. ok (t .0)) ≡ (farther a x then λ t. ok (t .0))
+      point-of (ok t) = refl
+      point-of (refused r) = refl
+
+      start : (k : ℕ) → k + 0 ≡ k
+      start k = omega arith
+
   next-shifted : (q : I32Point) (k : ℕ) → k ≤ length s → nextAt (front ++ s) q (a + k) ≡ farther a (nextAt s q k)
   unfolding nextAt
   next-shifted q k h =
@@ -131,20 +163,20 @@ module _ (front s : List ℕ) (few : length (front ++ s) ≤ noPlace) where
           ended false = ap (w .stop) (counted-at a k (refusal 43) (fits k h)) ∙ stops (placedAt k (refusal 43))
       along-shifted (suc n) q k h =
           ap (λ (x : Answer (I32Point × ℕ)). follow w x (λ t. reach w q (t .0) (along w (front ++ s) n (t .0) (t .1)))) (next-shifted q k h)
-          ∙ go (λ t i. along-shifted n (t .0) (t .1) (next-within s q k t i)) (nextAt s q k) refl
+          ∙ by-case (λ t i. along-shifted n (t .0) (t .1) (next-within s q k t i)) (nextAt s q k) refl
         where
-          go : ((t : I32Point × ℕ) → ok t ≡ nextAt s q k → along w (front ++ s) n (t .0) (a + t .1) ≡ far (along w s n (t .0) (t .1)))
+          by-case : ((t : I32Point × ℕ) → ok t ≡ nextAt s q k → along w (front ++ s) n (t .0) (a + t .1) ≡ far (along w s n (t .0) (t .1)))
               → (x : Answer (I32Point × ℕ)) → x ≡ nextAt s q k
               → follow w (farther a x) (λ t. reach w q (t .0) (along w (front ++ s) n (t .0) (t .1))) ≡ far (follow w x (λ t. reach w q (t .0) (along w s n (t .0) (t .1))))
-          go ih (ok t) e = ap (reach w q (t .0)) (ih t e) ∙ ap (w .segment q (t .0)) (points (t .0) _) ∙ segments q (t .0) _
-          go ih (refused r) e = stops r
+          by-case ih (ok t) e = ap (reach w q (t .0)) (ih t e) ∙ ap (w .segment q (t .0)) (points (t .0) _) ∙ segments q (t .0) _
+          by-case ih (refused r) e = stops r
 
-      pub walk-shifted : (n : ℕ) → walkFrom w (front ++ s) a n ≡ far (walkFrom w s 0 n)
+      walk-shifted : (n : ℕ) → walkFrom w (front ++ s) a n ≡ far (walkFrom w s 0 n)
       unfolding walkFrom
       walk-shifted n =
           ap (λ (p : ℕ). follow w (need 32 (ltb 0 n) (firstFrom (front ++ s) p)) (onward (front ++ s))) start
           ∙ ap (λ (x : Answer (I32Point × ℕ)). follow w (need 32 (ltb 0 n) x) (onward (front ++ s))) (first-shifted 0 (omega arith))
-          ∙ go (ltb 0 n) (firstFrom s 0) refl
+          ∙ by-case (ltb 0 n) (firstFrom s 0) refl
         where
           start : a ≡ a + 0
           start = omega arith
@@ -152,7 +184,16 @@ module _ (front s : List ℕ) (few : length (front ++ s) ≤ noPlace) where
           onward : List ℕ → I32Point × ℕ → R
           onward l t = w .point (t .0) (along w l (n - 1) (t .0) (t .1))
 
-          go : (b : Bool) (x : Answer (I32Point × ℕ)) → x ≡ firstFrom s 0 → follow w (need 32 b (farther a x)) (onward (front ++ s)) ≡ far (follow w (need 32 b x) (onward s))
-          go true (ok t) e = ap (w .point (t .0)) (along-shifted (n - 1) (t .0) (t .1) (first-within s 0 t e)) ∙ points (t .0) _
-          go true (refused r) e = stops r
-          go false x e = ap (w .stop) (counted-plain a 32) ∙ stops (refusal 32)
+          by-case : (b : Bool) (x : Answer (I32Point × ℕ)) → x ≡ firstFrom s 0 → follow w (need 32 b (farther a x)) (onward (front ++ s)) ≡ far (follow w (need 32 b x) (onward s))
+          by-case true (ok t) e = ap (w .point (t .0)) (along-shifted (n - 1) (t .0) (t .1) (first-within s 0 t e)) ∙ points (t .0) _
+          by-case true (refused r) e = stops r
+          by-case false x e = ap (w .stop) (counted-plain a 32) ∙ stops (refusal 32)
+
+  -- ---- the scan and the points
+  pub scan-shifted : (p : Point) (n : ℕ) → walkBehind a (scanOf s n p) ≡ walkFrom (scanner p) (front ++ s) a n
+  unfolding scanOf
+  scan-shifted p n = sym (walk-shifted (scanner p) (walkBehind a) (λ r. refl) (λ q. refl) (λ q x. refl) (λ q t x. past-behind a (rayOf q t p) t x) n)
+
+  pub points-shifted : (n : ℕ) → behind a (pointsOf s n) ≡ walkFrom decoder (front ++ s) a n
+  unfolding pointsOf
+  points-shifted n = sym (walk-shifted decoder (behind a) (λ r. refl) (λ q. refl) (λ q x. led-behind a q x) (λ q t x. refl) n)

@@ -5,7 +5,7 @@ use mathlib.Core.Path.{_≡_, sym, ap, _∙_}
 use mathlib.Core.List.{List, [], _∷_}
 use lib.Dec.{ltb}
 use Rattle.plane.specs.declared.I32Point.{I32Point}
-use Rattle.answer.specs.Answers.{ok, _then_, need, Given}
+use Rattle.answer.specs.Answers.{ok, _then_, need, behind, Given}
 use Rattle.chunks.specs.Decode.{pointsOf}
 use Rattle.chunks.proofs.Neighbours.{first-list, never-empty}
 use Rattle.shapes.specs.Shapes.{Chunk}
@@ -15,6 +15,7 @@ use Rattle.reader_records.specs.Records.{chunkAt}
 use Rattle.reader_chunks.specs.Chunks.{startOf, endOf, span, bytesOf, firstIn, firstAt, chunkPoints}
 use Rattle.directories.specs.Directories.{chunkShape, shapeFrom}
 use Rattle.answer.proofs.AnswersLaws.{then-inv, need-inv}
+use Rattle.answer.proofs.RefusalsLaws.{behind-inv}
 use Rattle.reader_chunks.proofs.ChunksLaws.{first-is}
 
 -- chunk i of the file: its record, where it ends, and its bytes, which decode to the points of its shape
@@ -37,12 +38,12 @@ shape-is o s i l v p t = rw (← t, ← p)
 pub holds : (o : Opened) (s : List ℕ) (i : ℕ) → Given (chunkPoints o s i) → Holds o s i
 unfolding chunkPoints bytesOf
 holds o s i g =
-    let a = then-inv (chunkAt o s i) (λ v. need 32 (ltb 0 (v .count)) (bytesOf o s i v then λ b. pointsOf b (v .count))) (g .value) (g .is) in
+    let a = then-inv (chunkAt o s i) (λ v. need 32 (ltb 0 (v .count)) (bytesOf o s i v then λ b. behind (startOf o v) (pointsOf b (v .count)))) (g .value) (g .is) in
     let v = a .0 in
-    let b = need-inv 32 (ltb 0 (v .count)) (bytesOf o s i v then λ b. pointsOf b (v .count)) (g .value) (a .2) in
-    let c = then-inv (bytesOf o s i v) (λ b. pointsOf b (v .count)) (g .value) (b .1) in
+    let b = need-inv 32 (ltb 0 (v .count)) (bytesOf o s i v then λ b. behind (startOf o v) (pointsOf b (v .count))) (g .value) (a .2) in
+    let c = then-inv (bytesOf o s i v) (λ b. behind (startOf o v) (pointsOf b (v .count))) (g .value) (b .1) in
     let d = then-inv (endOf o s i) (λ e. span s (startOf o v) e) (c .0) (c .1) in
-    make (g .value) (g .is) v (a .1) (d .0) (d .1) (c .0) (d .2) (c .2)
+    make (g .value) (g .is) v (a .1) (d .0) (d .1) (c .0) (d .2) (behind-inv (startOf o v) _ (g .value) (c .2))
   where
     make : (l : List I32Point) → ok l ≡ chunkPoints o s i → (v : ChunkRecord) → ok v ≡ chunkAt o s i → (e : ℕ) → ok e ≡ endOf o s i → (b : List ℕ) → ok b ≡ span s (startOf o v) e → ok l ≡ pointsOf b (v .count) → Holds o s i
     make [] p v t e m b n d = absurd (never-empty b (v .count) d)

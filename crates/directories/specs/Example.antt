@@ -10,7 +10,7 @@ use Rattle.fields.specs.Le.{le}
 use Rattle.fields.specs.Loads as Loads
 use Rattle.boxes.specs.Box.{ordered, boxInDomain}
 use Rattle.chunks.specs.Delta.{addDelta, fits32}
-use Rattle.chunks.specs.Along.{along, walkOf}
+use Rattle.chunks.specs.Along.{along, walkFrom}
 use Rattle.varints.specs.Varint.{numberAt, digits}
 use Rattle.chunks.specs.Points as Points
 use Rattle.chunks.specs.Decode.{pointsOf}
@@ -78,5 +78,5 @@ opened =
     }
 
 pub made : zoneAt (directories opened bytes) 0 ≡ zone
-unfolding directories zoneRecord polyRecord ringRecord opWord groupRecord chunkShape zoneAt polygonAt ringAt legAt groupAt run Records.listAt Records.ringAt Records.opAt Records.groupAt Records.chunkAt Records.ruled Records.recordAt Records.listIn Records.listRule Records.ringIn Records.ringRule Records.opRule Records.groupIn Records.groupRule Records.chunkIn Records.chunkRule Records.boxIn Records.pointIn Records.fitsBelow Loads.inside le ordered boxInDomain inDomain chunkPoints bytesOf endOf span startOf pointsOf pointsFrom walkOf along Points.firstOf Points.nextAt Points.numbersAt Points.movedBy Points.mustLie addDelta fits32 numberAt digits
+unfolding directories zoneRecord polyRecord ringRecord opWord groupRecord chunkShape zoneAt polygonAt ringAt legAt groupAt run Records.listAt Records.ringAt Records.opAt Records.groupAt Records.chunkAt Records.ruled Records.recordAt Records.listIn Records.listRule Records.ringIn Records.ringRule Records.opRule Records.groupIn Records.groupRule Records.chunkIn Records.chunkRule Records.boxIn Records.pointIn Records.fitsBelow Loads.inside le ordered boxInDomain inDomain chunkPoints bytesOf endOf span startOf pointsOf pointsFrom walkFrom along Points.firstFrom Points.nextAt Points.numbersAt Points.movedBy Points.mustLie addDelta fits32 numberAt digits
 made = refl

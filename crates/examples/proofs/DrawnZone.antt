@@ -20,7 +20,7 @@ use Rattle.boxes.specs.Box as B
 use Rattle.chunks.specs.Delta as Deltas
 use Rattle.varints.specs.Varint.{numberAt, digits}
 use Rattle.chunks.specs.Points as Points
-use Rattle.chunks.specs.Along.{along, walkOf}
+use Rattle.chunks.specs.Along.{along, walkFrom}
 use Rattle.chunks.specs.Decode.{pointsOf}
 use Rattle.shapes.specs.Shapes.{Zone, ringIn, polygonIn, zoneIn, inBox, covers}
 use Rattle.shapes.specs.Words.{ringSides, proper, hasRoom}
@@ -62,7 +62,7 @@ opens = refl
 
 -- F2 to F6
 none-broken : 0 ≡ lowestBroken opened file
-unfolding file opened lowestBroken rule recordsHold chunksDecode ringsHaveRoom hasRoom proper ringSides directories ringRecord opWord groupRecord chunkShape ringAt legAt groupAt chunkBoxesCover groupsCover boxesCover allMet met all run holds answered groupOfOp sumOfOps pointsAdd chunkCovers jointCovers jointsCover chunkUnder groupUnder ringUnder polyUnder endsFit groupCovers ringCovers polyCovers zoneCovers inBox covers samePoint S.listAt S.ringAt S.opAt S.groupAt S.chunkAt S.ruled S.recordAt S.listIn S.listRule S.ringIn S.ringRule S.countRule S.opRule S.groupIn S.groupRule S.chunkIn S.chunkRule S.boxIn S.pointIn S.fitsBelow L.inside E.le B.ordered B.boxInDomain A.inDomain chunkPoints bytesOf endOf span startOf firstIn firstAt pointsOf pointsFrom walkOf along Points.firstOf Points.nextAt Points.numbersAt Points.movedBy Points.mustLie Deltas.addDelta Deltas.fits32 numberAt digits
+unfolding file opened lowestBroken rule recordsHold chunksDecode ringsHaveRoom hasRoom proper ringSides directories ringRecord opWord groupRecord chunkShape ringAt legAt groupAt chunkBoxesCover groupsCover boxesCover allMet met all run holds answered groupOfOp sumOfOps pointsAdd chunkCovers jointCovers jointsCover chunkUnder groupUnder ringUnder polyUnder endsFit groupCovers ringCovers polyCovers zoneCovers inBox covers samePoint S.listAt S.ringAt S.opAt S.groupAt S.chunkAt S.ruled S.recordAt S.listIn S.listRule S.ringIn S.ringRule S.countRule S.opRule S.groupIn S.groupRule S.chunkIn S.chunkRule S.boxIn S.pointIn S.fitsBelow L.inside E.le B.ordered B.boxInDomain A.inDomain chunkPoints bytesOf endOf span startOf firstIn firstAt pointsOf pointsFrom walkFrom along Points.firstFrom Points.nextAt Points.numbersAt Points.movedBy Points.mustLie Deltas.addDelta Deltas.fits32 numberAt digits
 none-broken = refl
 
 pub accepts : fullCheckOf file ≡ accepted
@@ -70,7 +70,7 @@ accepts = sym (full-accepted file opened opens 0 none-broken refl)
 
 -- its zone is the drawn one
 pub made : zoneAt (directories opened file) 0 ≡ zone
-unfolding file opened directories zoneRecord polyRecord ringRecord opWord groupRecord chunkShape zoneAt polygonAt ringAt legAt groupAt run S.listAt S.ringAt S.opAt S.groupAt S.chunkAt S.ruled S.recordAt S.listIn S.listRule S.ringIn S.ringRule S.opRule S.groupIn S.groupRule S.chunkIn S.chunkRule S.boxIn S.pointIn S.fitsBelow L.inside E.le B.ordered B.boxInDomain A.inDomain chunkPoints bytesOf endOf span startOf pointsOf pointsFrom walkOf along Points.firstOf Points.nextAt Points.numbersAt Points.movedBy Points.mustLie Deltas.addDelta Deltas.fits32 numberAt digits
+unfolding file opened directories zoneRecord polyRecord ringRecord opWord groupRecord chunkShape zoneAt polygonAt ringAt legAt groupAt run S.listAt S.ringAt S.opAt S.groupAt S.chunkAt S.ruled S.recordAt S.listIn S.listRule S.ringIn S.ringRule S.opRule S.groupIn S.groupRule S.chunkIn S.chunkRule S.boxIn S.pointIn S.fitsBelow L.inside E.le B.ordered B.boxInDomain A.inDomain chunkPoints bytesOf endOf span startOf pointsOf pointsFrom walkFrom along Points.firstFrom Points.nextAt Points.numbersAt Points.movedBy Points.mustLie Deltas.addDelta Deltas.fits32 numberAt digits
 made = refl
 
 -- demand 3 for it: at every whole-number point

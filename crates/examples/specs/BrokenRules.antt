@@ -15,7 +15,7 @@ use Rattle.boxes.specs.Box.{ordered, boxInDomain}
 use Rattle.chunks.specs.Delta.{addDelta, fits32}
 use Rattle.varints.specs.Varint.{numberAt, digits}
 use Rattle.chunks.specs.Points as Points
-use Rattle.chunks.specs.Along.{along, walkOf}
+use Rattle.chunks.specs.Along.{along, walkFrom}
 use Rattle.chunks.specs.Decode.{pointsOf}
 use Rattle.shapes.specs.Shapes.{inBox, covers}
 use Rattle.shapes.specs.Words.{ringSides, proper, hasRoom}
@@ -166,5 +166,5 @@ rows =
     ∷ []
 
 pub judged : T (every told rows)
-unfolding lowestBroken rule recordsHold chunksDecode ringsHaveRoom hasRoom proper ringSides directories ringRecord opWord groupRecord chunkShape Layout.ringAt Layout.legAt Layout.groupAt chunkBoxesCover groupsCover boxesCover allMet met all run holds answered groupOfOp sumOfOps pointsAdd chunkCovers jointCovers jointsCover chunkUnder groupUnder ringUnder polyUnder endsFit groupCovers ringCovers polyCovers zoneCovers inBox covers samePoint Records.listAt Records.ringAt Records.opAt Records.groupAt Records.chunkAt Records.ruled Records.recordAt Records.listIn Records.listRule Records.ringIn Records.ringRule Records.countRule Records.opRule Records.groupIn Records.groupRule Records.chunkIn Records.chunkRule Records.boxIn Records.pointIn Records.fitsBelow Loads.inside le ordered boxInDomain inDomain chunkPoints bytesOf endOf span startOf firstIn firstAt pointsOf pointsFrom walkOf along Points.firstOf Points.nextAt Points.numbersAt Points.movedBy Points.mustLie addDelta fits32 numberAt digits
+unfolding lowestBroken rule recordsHold chunksDecode ringsHaveRoom hasRoom proper ringSides directories ringRecord opWord groupRecord chunkShape Layout.ringAt Layout.legAt Layout.groupAt chunkBoxesCover groupsCover boxesCover allMet met all run holds answered groupOfOp sumOfOps pointsAdd chunkCovers jointCovers jointsCover chunkUnder groupUnder ringUnder polyUnder endsFit groupCovers ringCovers polyCovers zoneCovers inBox covers samePoint Records.listAt Records.ringAt Records.opAt Records.groupAt Records.chunkAt Records.ruled Records.recordAt Records.listIn Records.listRule Records.ringIn Records.ringRule Records.countRule Records.opRule Records.groupIn Records.groupRule Records.chunkIn Records.chunkRule Records.boxIn Records.pointIn Records.fitsBelow Loads.inside le ordered boxInDomain inDomain chunkPoints bytesOf endOf span startOf firstIn firstAt pointsOf pointsFrom walkFrom along Points.firstFrom Points.nextAt Points.numbersAt Points.movedBy Points.mustLie addDelta fits32 numberAt digits
 judged = tt

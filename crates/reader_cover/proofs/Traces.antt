@@ -8,7 +8,7 @@ use lib.Dec.{ltb}
 use Rattle.plane.specs.declared.I32Point.{I32Point}
 use Rattle.plane.specs.Lines.{every, lastOf}
 use Rattle.answer.specs.declared.Refusal.{Refusal}
-use Rattle.answer.specs.Answers.{Answer, ok, refused, _then_, need, holds, answered}
+use Rattle.answer.specs.Answers.{Answer, ok, refused, _then_, need, behind, holds, answered}
 use Rattle.boxes.specs.declared.BBox.{BBox}
 use Rattle.boxes.specs.Box.{inBox}
 use Rattle.chunks.specs.Decode.{pointsOf}
@@ -20,6 +20,7 @@ use Rattle.reader_records.specs.Records.{chunkAt}
 use Rattle.reader_chunks.specs.Chunks.{startOf, endOf, span, bytesOf, traceIn, traceAt, chunkPoints}
 use Rattle.reader_cover.specs.Cover.{chunkCovers}
 use Rattle.answer.proofs.AnswersLaws.{holds-no, holds-ok}
+use Rattle.answer.proofs.RefusalsLaws.{holds-behind}
 use Rattle.chunks.proofs.DecodeLaws.{points-are}
 use Rattle.plane.specs.Segment.{samePoint}
 
@@ -41,7 +42,7 @@ tested-once c n = points-are c n ∙ twice (ltb 0 n) _ ∙ sym (ap (need 32 (ltb
 module _ (o : Opened) (s : List ℕ) (i : ℕ) where
   -- of a chunk whose record is v
   record-holds : (v : ChunkRecord) (P : List I32Point → Bool) (Q : Bool × I32Point → Bool) → ((l : List I32Point) → Q (every (inBox (v .bbox)) l, lastOf l) ≡ P l)
-      → holds Q (endOf o s i then λ e. traceIn s (v .count) (v .bbox) (startOf o v) e) ≡ holds P (need 32 (ltb 0 (v .count)) (bytesOf o s i v then λ c. pointsOf c (v .count)))
+      → holds Q (endOf o s i then λ e. traceIn s (v .count) (v .bbox) (startOf o v) e) ≡ holds P (need 32 (ltb 0 (v .count)) (bytesOf o s i v then λ c. behind (startOf o v) (pointsOf c (v .count))))
   unfolding traceIn bytesOf holds
   record-holds v P Q f = with-end (endOf o s i)
     where
@@ -49,14 +50,20 @@ module _ (o : Opened) (s : List ℕ) (i : ℕ) where
       neither true r = refl
       neither false r = refl
 
-      with-bytes : (x : Answer (List ℕ)) → holds Q (x then λ c. traceOf c (v .count) (v .bbox)) ≡ holds P (need 32 (ltb 0 (v .count)) (x then λ c. pointsOf c (v .count)))
+      behind-tested : (b : Bool) (x : Answer (List I32Point)) → holds P (need 32 b x) ≡ holds P (need 32 b (behind (startOf o v) x))
+      behind-tested true x = holds-behind P (startOf o v) x
+      behind-tested false x = refl
+
+      with-bytes : (x : Answer (List ℕ)) → holds Q (x then λ c. behind (startOf o v) (traceOf c (v .count) (v .bbox))) ≡ holds P (need 32 (ltb 0 (v .count)) (x then λ c. behind (startOf o v) (pointsOf c (v .count))))
       with-bytes (ok c) =
-          ap (holds Q) (trace-points c (v .count) (v .bbox))
+          sym (holds-behind Q (startOf o v) (traceOf c (v .count) (v .bbox)))
+          ∙ ap (holds Q) (trace-points c (v .count) (v .bbox))
           ∙ traced-holds (v .bbox) P Q f (pointsOf c (v .count))
           ∙ ap (holds P) (tested-once c (v .count))
+          ∙ behind-tested (ltb 0 (v .count)) (pointsOf c (v .count))
       with-bytes (refused r) = neither (ltb 0 (v .count)) r
 
-      with-end : (x : Answer ℕ) → holds Q (x then λ e. span s (startOf o v) e then λ c. traceOf c (v .count) (v .bbox)) ≡ holds P (need 32 (ltb 0 (v .count)) (x then (λ e. span s (startOf o v) e) then λ c. pointsOf c (v .count)))
+      with-end : (x : Answer ℕ) → holds Q (x then λ e. span s (startOf o v) e then λ c. behind (startOf o v) (traceOf c (v .count) (v .bbox))) ≡ holds P (need 32 (ltb 0 (v .count)) (x then (λ e. span s (startOf o v) e) then λ c. behind (startOf o v) (pointsOf c (v .count))))
       with-end (ok e) = with-bytes (span s (startOf o v) e)
       with-end (refused r) = neither (ltb 0 (v .count)) r
 
@@ -66,7 +73,7 @@ module _ (o : Opened) (s : List ℕ) (i : ℕ) where
   unfolding traceAt chunkPoints holds
   trace-holds P Q f = go (chunkAt o s i)
     where
-      go : (x : Answer ChunkRecord) → holds Q (x then λ v. endOf o s i then λ e. traceIn s (v .count) (v .bbox) (startOf o v) e) ≡ holds P (x then λ v. need 32 (ltb 0 (v .count)) (bytesOf o s i v then λ b. pointsOf b (v .count)))
+      go : (x : Answer ChunkRecord) → holds Q (x then λ v. endOf o s i then λ e. traceIn s (v .count) (v .bbox) (startOf o v) e) ≡ holds P (x then λ v. need 32 (ltb 0 (v .count)) (bytesOf o s i v then λ b. behind (startOf o v) (pointsOf b (v .count))))
       go (ok v) = record-holds v P Q (f (v .bbox))
       go (refused r) = refl
 
@@ -75,7 +82,7 @@ module _ (o : Opened) (s : List ℕ) (i : ℕ) where
   unfolding traceAt chunkCovers chunkPoints holds
   trace-covers = go (chunkAt o s i)
     where
-      go : (x : Answer ChunkRecord) → holds (λ t. t .0) (x then λ v. endOf o s i then λ e. traceIn s (v .count) (v .bbox) (startOf o v) e) ≡ holds (λ v. holds (every (inBox (v .bbox))) (x then λ v. need 32 (ltb 0 (v .count)) (bytesOf o s i v then λ b. pointsOf b (v .count)))) x
+      go : (x : Answer ChunkRecord) → holds (λ t. t .0) (x then λ v. endOf o s i then λ e. traceIn s (v .count) (v .bbox) (startOf o v) e) ≡ holds (λ v. holds (every (inBox (v .bbox))) (x then λ v. need 32 (ltb 0 (v .count)) (bytesOf o s i v then λ b. behind (startOf o v) (pointsOf b (v .count))))) x
       go (ok v) = record-holds v (every (inBox (v .bbox))) (λ t. t .0) (λ l. refl)
       go (refused r) = refl
 

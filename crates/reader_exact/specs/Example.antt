@@ -14,7 +14,7 @@ use Rattle.fields.specs.Loads as Loads
 use Rattle.boxes.specs.Box.{ordered, boxInDomain, contains, relevant, right}
 use Rattle.chunks.specs.Delta.{addDelta, fits32}
 use Rattle.rays.specs.Ray.{rayOf, rayAt, touches, crosses, aboveOf, parityOf}
-use Rattle.chunks.specs.Along.{along, walkOf}
+use Rattle.chunks.specs.Along.{along, walkFrom}
 use Rattle.chunks.specs.Scan.{scanOf}
 use Rattle.varints.specs.Varint.{numberAt, digits}
 use Rattle.chunks.specs.Points as Points
@@ -35,5 +35,5 @@ said (ok b) answer = Bool·beq b answer
 said (refused r) answer = false
 
 pub walked : T (every (λ (r : Row). said (containsAt opened bytes 0 (r .p)) (r .answer)) rows)
-unfolding containsBy zoneBy firstSo polyOf ringContains ringOf ringRest ringEnd opsFrom opStep turnWalk groupWalk jointOf turnedAt turnOf groupScanBy groupScan chunksFrom lastAt lastIn passAt joinedTo scanTo skipTo nextFirst scanIn firstIn scanOf onward walkOf along add Records.countRule contains relevant right rayOf rayAt touches crosses aboveOf parityOf samePoint lt Ieee.le eq ofInt sub div Ieee.ne Ieee.toBits Ieee.ofBits nextUp Records.listAt Records.ringAt Records.opAt Records.groupAt Records.chunkAt Records.ruled Records.recordAt Records.listIn Records.listRule Records.ringIn Records.ringRule Records.opRule Records.groupIn Records.groupRule Records.chunkIn Records.chunkRule Records.boxIn Records.pointIn Records.fitsBelow Loads.inside le ordered boxInDomain inDomain endOf span startOf Points.firstOf Points.nextAt Points.numbersAt Points.movedBy Points.mustLie addDelta fits32 numberAt digits
+unfolding containsBy zoneBy firstSo polyOf ringContains ringOf ringRest ringEnd opsFrom opStep turnWalk groupWalk jointOf turnedAt turnOf groupScanBy groupScan chunksFrom lastAt lastIn passAt joinedTo scanTo skipTo nextFirst scanIn firstIn scanOf onward walkFrom along add Records.countRule contains relevant right rayOf rayAt touches crosses aboveOf parityOf samePoint lt Ieee.le eq ofInt sub div Ieee.ne Ieee.toBits Ieee.ofBits nextUp Records.listAt Records.ringAt Records.opAt Records.groupAt Records.chunkAt Records.ruled Records.recordAt Records.listIn Records.listRule Records.ringIn Records.ringRule Records.opRule Records.groupIn Records.groupRule Records.chunkIn Records.chunkRule Records.boxIn Records.pointIn Records.fitsBelow Loads.inside le ordered boxInDomain inDomain endOf span startOf Points.firstFrom Points.nextAt Points.numbersAt Points.movedBy Points.mustLie addDelta fits32 numberAt digits
 walked = tt
