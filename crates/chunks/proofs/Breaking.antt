@@ -212,20 +212,20 @@ module _ (s : List ℕ) where
   unfolding mustLie
   lie-within q j m t h = ap (λ (u : I32Point × ℕ). u .1) (ok-inv t (q, m) (need-inv 42 (inDomain q) (ok (q, m)) t (about-inv j _ t h) .1))
 
-  pub first-within : (p : ℕ) (t : I32Point × ℕ) → ok t ≡ firstFrom s p → t .1 ≤ length s
+  first-within : (p : ℕ) (t : I32Point × ℕ) → ok t ≡ firstFrom s p → t .1 ≤ length s
   unfolding firstFrom
   first-within p t h =
       let f = then-inv (numbersAt s p) (λ u. mustLie (u .0) (u .1) (u .2)) t h in
       omega (arith, lie-within _ _ _ t (f .2), numbers-within p (f .0) (f .1))
 
-  pub next-within : (q : I32Point) (k : ℕ) (t : I32Point × ℕ) → ok t ≡ nextAt s q k → t .1 ≤ length s
+  next-within : (q : I32Point) (k : ℕ) (t : I32Point × ℕ) → ok t ≡ nextAt s q k → t .1 ≤ length s
   unfolding nextAt
   next-within q k t h =
       let f = then-inv (numbersAt s k) (λ d. movedBy q (d .0) k (d .1) then λ u. mustLie u (d .1) (d .2)) t h in
       let g = then-inv (movedBy q (f .0 .0) k (f .0 .1)) (λ u. mustLie u (f .0 .1) (f .0 .2)) t (f .2) in
       omega (arith, lie-within _ _ _ t (g .2), numbers-within k (f .0) (f .1))
 
-  reached-within : (p : ℕ) → p ≤ length s → (n : ℕ) (t : I32Point × ℕ) → ok t ≡ reached s p n → t .1 ≤ length s
+  pub reached-within : (p : ℕ) → p ≤ length s → (n : ℕ) (t : I32Point × ℕ) → ok t ≡ reached s p n → t .1 ≤ length s
   unfolding reached
   reached-within p h zero t e = let i : t .1 ≡ p = ap (λ (u : I32Point × ℕ). u .1) (ok-inv t (point (pos 0) (pos 0), p) e) in omega (arith, i, h)
   reached-within p h (suc zero) t e = first-within p t e

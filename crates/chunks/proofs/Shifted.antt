@@ -1,4 +1,4 @@
--- A chunk's points read in bytes that stand behind others are its points: the walk along them, in the longer bytes and from the chunk's start on, comes to what the walk along the chunk's own bytes comes to, its refusal's place counted from the first byte of all. Whoever walks.
+-- A chunk that is broken is broken in the same way in bytes of which its own are the last: at the same number, its place counted from the first byte of all.
 -- Assumes nothing.
 use Prim.Native.Nat.{ℕ, zero, suc, _+_, _-_, _≤_}
 use native.Mathlib.Omega.{arith}
@@ -6,28 +6,21 @@ use mathlib.Core.Path.{_≡_, refl, sym, ap, _∙_}
 use mathlib.Core.Bool.{Bool, true, false}
 use mathlib.Core.List.{List, _++_}
 use lib.ListN.{length, length-append}
-use lib.Dec.{ltb}
-use lib.IntN.{ℤ}
+use lib.IntN.{ℤ, pos}
 use Rattle.answer.specs.declared.Refusal.{Refusal}
 use Rattle.answer.specs.Refusals.{noPlace, refusal, placedAt, countedFrom}
 use Rattle.answer.specs.Answers.{Answer, ok, refused, _then_, need, about, behind}
-use Rattle.answer.proofs.RefusalsLaws.{counted-at, counted-plain}
+use Rattle.answer.proofs.RefusalsLaws.{counted-at}
 use Rattle.plane.specs.declared.I32Point.{I32Point}
 use Rattle.plane.specs.Domain.{inDomain}
 use Rattle.plane.specs.Places.{point}
-use Rattle.varints.specs.Varint.{numberAt, atEnd}
+use Rattle.varints.specs.Varint.{numberAt}
 use Rattle.varints.proofs.Places.{number-place}
 use Rattle.varints.proofs.Shifted.{farther, number-shifted, end-same}
 use Rattle.chunks.specs.Delta.{addDelta}
 use Rattle.chunks.specs.Points.{numbersAt, movedBy, mustLie, firstFrom, nextAt}
-use Rattle.chunks.specs.Along.{Walker, follow, reach, along, walkFrom}
-use Rattle.answer.specs.Walks.{Walk, broken, on, off, add, _go_, walkBehind}
-use Rattle.plane.specs.declared.Point.{Point}
-use Rattle.plane.specs.Sight.{Sight, On, Off}
-use Rattle.rays.specs.Ray.{rayOf}
-use Rattle.chunks.specs.Scan.{past, scanner, scanOf}
-use Rattle.chunks.specs.Decode.{led, decoder, pointsOf}
-use Rattle.chunks.proofs.Breaking.{y-within, first-within, next-within}
+use Rattle.chunks.specs.Broken.{reached, Numbers, Broken, x-unread, y-unread, x-over, y-over, outside, left-over}
+use Rattle.chunks.proofs.Breaking.{y-within, reached-within}
 
 -- two numbers, y's place, and the place after them
 abbrev both : ℕ → Answer (I32Point × ℕ × ℕ) → Answer (I32Point × ℕ × ℕ)
@@ -65,17 +58,8 @@ module _ (a : ℕ) where
       by-case true = refl
       by-case false = ap refused (counted-at a j (refusal 42) h)
 
--- ---- what is handed on changes no place
-past-behind : {A B : Type 0} (a : ℕ) (z : Sight) (t : A) (w : Walk B) → (past z t go λ u. walkBehind a w) ≡ walkBehind a (past z t go λ u. w)
-unfolding add
-past-behind a On t w = refl
-past-behind a (Off b) t (broken r) = refl
-past-behind a (Off b) t on = refl
-past-behind a (Off b) t (off c x) = refl
-
-led-behind : (a : ℕ) (q : I32Point) (x : Answer (List I32Point)) → led q (behind a x) ≡ behind a (led q x)
-led-behind a q (ok l) = refl
-led-behind a q (refused r) = refl
+start : (k : ℕ) → k ≡ k + 0
+start k = omega arith
 
 -- ---- points
 module _ (front s : List ℕ) (few : length (front ++ s) ≤ noPlace) where
@@ -113,20 +97,6 @@ module _ (front s : List ℕ) (few : length (front ++ s) ≤ noPlace) where
       land (ok t) e = lie-shifted a (t .0) (t .1) (t .2) (fits (t .1) (y-within s p t e))
       land (refused r) e = refl
 
-  -- the first point alone
-  pub alone-shifted : (behind a (firstFrom s 0) then λ t. ok (t .0)) ≡ (firstFrom (front ++ s) a then λ t. ok (t .0))
-  alone-shifted =
-      point-of (firstFrom s 0)
-      ∙ ap (λ (x : Answer (I32Point × ℕ)). x then λ t. ok (t .0)) (sym (first-shifted 0 (omega arith)))
-      ∙ ap (λ (p : ℕ). firstFrom (front ++ s) p then λ t. ok (t .0)) (start a)
-    where
-      point-of : (x : Answer (I32Point × ℕ)) → (behind a x then λ t. ok (t .0)) ≡ (farther a x then λ t. ok (t .0))
-      point-of (ok t) = refl
-      point-of (refused r) = refl
-
-      start : (k : ℕ) → k + 0 ≡ k
-      start k = omega arith
-
   next-shifted : (q : I32Point) (k : ℕ) → k ≤ length s → nextAt (front ++ s) q (a + k) ≡ farther a (nextAt s q k)
   unfolding nextAt
   next-shifted q k h =
@@ -144,56 +114,47 @@ module _ (front s : List ℕ) (few : length (front ++ s) ≤ noPlace) where
           ap (λ (x : Answer I32Point). x then λ t. mustLie t (a + d .1) (a + d .2)) (moved-shifted a q (d .0) k (d .1) (fits k h) g) ∙ land d g (movedBy q (d .0) k (d .1))
       move (refused r) e = refl
 
-  -- ---- the walk: `far` is what comes of it where the bytes stand behind others
-  module _
-      {R : Type 0}
-      (w : Walker R)
-      (far : R → R)
-      (stops : (r : Refusal) → w .stop (countedFrom a r) ≡ far (w .stop r))
-      (lasts : (q : I32Point) → w .last q ≡ far (w .last q))
-      (points : (q : I32Point) (x : R) → w .point q (far x) ≡ far (w .point q x))
-      (segments : (q t : I32Point) (x : R) → w .segment q t (far x) ≡ far (w .segment q t x))
+  reached-shifted : (n : ℕ) → reached (front ++ s) a n ≡ farther a (reached s 0 n)
+  unfolding reached
+  reached-shifted zero = ap (λ (k : ℕ). ok (point (pos 0) (pos 0), k)) (start a)
+  reached-shifted (suc zero) = ap (firstFrom (front ++ s)) (start a) ∙ first-shifted 0 (omega arith)
+  reached-shifted (suc (suc n)) = ap (λ (x : Answer (I32Point × ℕ)). x then λ t. nextAt (front ++ s) (t .0) (t .1)) (reached-shifted (suc n)) ∙ on-to (reached s 0 (suc n)) refl
     where
-      along-shifted : (n : ℕ) (q : I32Point) (k : ℕ) → k ≤ length s → along w (front ++ s) n q (a + k) ≡ far (along w s n q k)
-      unfolding along
-      along-shifted zero q k h = ap (λ (b : Bool). follow w (about (a + k) (need 43 b (ok q))) (w .last)) (end-same front s k) ∙ ended (atEnd s k)
-        where
-          ended : (b : Bool) → follow w (about (a + k) (need 43 b (ok q))) (w .last) ≡ far (follow w (about k (need 43 b (ok q))) (w .last))
-          ended true = lasts q
-          ended false = ap (w .stop) (counted-at a k (refusal 43) (fits k h)) ∙ stops (placedAt k (refusal 43))
-      along-shifted (suc n) q k h =
-          ap (λ (x : Answer (I32Point × ℕ)). follow w x (λ t. reach w q (t .0) (along w (front ++ s) n (t .0) (t .1)))) (next-shifted q k h)
-          ∙ by-case (λ t i. along-shifted n (t .0) (t .1) (next-within s q k t i)) (nextAt s q k) refl
-        where
-          by-case : ((t : I32Point × ℕ) → ok t ≡ nextAt s q k → along w (front ++ s) n (t .0) (a + t .1) ≡ far (along w s n (t .0) (t .1)))
-              → (x : Answer (I32Point × ℕ)) → x ≡ nextAt s q k
-              → follow w (farther a x) (λ t. reach w q (t .0) (along w (front ++ s) n (t .0) (t .1))) ≡ far (follow w x (λ t. reach w q (t .0) (along w s n (t .0) (t .1))))
-          by-case ih (ok t) e = ap (reach w q (t .0)) (ih t e) ∙ ap (w .segment q (t .0)) (points (t .0) _) ∙ segments q (t .0) _
-          by-case ih (refused r) e = stops r
+      on-to : (x : Answer (I32Point × ℕ)) → x ≡ reached s 0 (suc n) → (farther a x then λ t. nextAt (front ++ s) (t .0) (t .1)) ≡ farther a (x then λ t. nextAt s (t .0) (t .1))
+      on-to (ok t) e = next-shifted (t .0) (t .1) (reached-within s 0 (omega arith) (suc n) t e)
+      on-to (refused r) e = refl
 
-      walk-shifted : (n : ℕ) → walkFrom w (front ++ s) a n ≡ far (walkFrom w s 0 n)
-      unfolding walkFrom
-      walk-shifted n =
-          ap (λ (p : ℕ). follow w (need 32 (ltb 0 n) (firstFrom (front ++ s) p)) (onward (front ++ s))) start
-          ∙ ap (λ (x : Answer (I32Point × ℕ)). follow w (need 32 (ltb 0 n) x) (onward (front ++ s))) (first-shifted 0 (omega arith))
-          ∙ by-case (ltb 0 n) (firstFrom s 0) refl
-        where
-          start : a ≡ a + 0
-          start = omega arith
+  -- ---- each row
+  there : (n : ℕ) (q : I32Point) (k : ℕ) → ok (q, k) ≡ reached s 0 n → ok (q, a + k) ≡ reached (front ++ s) a n
+  there n q k e = ap (farther a) e ∙ sym (reached-shifted n)
 
-          onward : List ℕ → I32Point × ℕ → R
-          onward l t = w .point (t .0) (along w l (n - 1) (t .0) (t .1))
+  at-most : (n : ℕ) (q : I32Point) (k : ℕ) → ok (q, k) ≡ reached s 0 n → k ≤ length s
+  at-most n q k e = reached-within s 0 (omega arith) n (q, k) e
 
-          by-case : (b : Bool) (x : Answer (I32Point × ℕ)) → x ≡ firstFrom s 0 → follow w (need 32 b (farther a x)) (onward (front ++ s)) ≡ far (follow w (need 32 b x) (onward s))
-          by-case true (ok t) e = ap (w .point (t .0)) (along-shifted (n - 1) (t .0) (t .1) (first-within s 0 t e)) ∙ points (t .0) _
-          by-case true (refused r) e = stops r
-          by-case false x e = ap (w .stop) (counted-plain a 32) ∙ stops (refusal 32)
+  read : (k : ℕ) → k ≤ length s → (z : ℤ) (j : ℕ) → ok (z, j) ≡ numberAt s k → ok (z, a + j) ≡ numberAt (front ++ s) (a + k)
+  read k h z j e = ap (farther a) e ∙ sym (number-shifted front s k (fits k h))
 
-  -- ---- the scan and the points
-  pub scan-shifted : (p : Point) (n : ℕ) → walkBehind a (scanOf s n p) ≡ walkFrom (scanner p) (front ++ s) a n
-  unfolding scanOf
-  scan-shifted p n = sym (walk-shifted (scanner p) (walkBehind a) (λ r. refl) (λ q. refl) (λ q x. refl) (λ q t x. past-behind a (rayOf q t p) t x) n)
+  unread : (k : ℕ) → k ≤ length s → (r : Refusal) → refused r ≡ numberAt s k → refused (countedFrom a r) ≡ numberAt (front ++ s) (a + k)
+  unread k h r e = ap (farther a) e ∙ sym (number-shifted front s k (fits k h))
 
-  pub points-shifted : (n : ℕ) → behind a (pointsOf s n) ≡ walkFrom decoder (front ++ s) a n
-  unfolding pointsOf
-  points-shifted n = sym (walk-shifted decoder (behind a) (λ r. refl) (λ q. refl) (λ q x. led-behind a q x) (λ q t x. refl) n)
+  after : (k : ℕ) (z : ℤ) (j : ℕ) → ok (z, j) ≡ numberAt s k → j ≤ length s
+  after k z j e = number-place s k z j e .within
+
+  named : (n k : ℕ) → k ≤ length s → (r : Refusal) → r ≡ placedAt k (refusal n) → countedFrom a r ≡ placedAt (a + k) (refusal n)
+  named n k h r e = ap (countedFrom a) e ∙ sym (counted-at a k (refusal n) (fits k h))
+
+  numbers : (n : ℕ) (q : I32Point) (k : ℕ) (x : ℤ) (j : ℕ) (y : ℤ) (m : ℕ) → Numbers s 0 n q k x j y m → Numbers (front ++ s) a n q (a + k) x (a + j) y (a + m)
+  numbers n q k x j y m b =
+      record {
+        behind = there n q k (b .behind);
+        first = read k (at-most n q k (b .behind)) x j (b .first);
+        second = read j (after k x j (b .first)) y m (b .second);
+      }
+
+  pub broken-shifted : (r : Refusal) → Broken s 0 r → Broken (front ++ s) a (countedFrom a r)
+  broken-shifted r (x-unread n q k e f) = x-unread n q (a + k) (there n q k e) (unread k (at-most n q k e) r f)
+  broken-shifted r (y-unread n q k e x j f g) = y-unread n q (a + k) (there n q k e) x (a + j) (read k (at-most n q k e) x j f) (unread j (after k x j f) r g)
+  broken-shifted r (x-over n q k x j y m b o i) = x-over n q (a + k) x (a + j) y (a + m) (numbers n q k x j y m b) o (named 41 k (at-most n q k (b .behind)) r i)
+  broken-shifted r (y-over n q k x j y m b f o i) = y-over n q (a + k) x (a + j) y (a + m) (numbers n q k x j y m b) f o (named 41 j (after k x j (b .first)) r i)
+  broken-shifted r (outside n q k x j y m b o i) = outside n q (a + k) x (a + j) y (a + m) (numbers n q k x j y m b) o (named 42 j (after k x j (b .first)) r i)
+  broken-shifted r (left-over n q k e o i) = left-over n q (a + k) (there n q k e) (end-same front s k ∙ o) (named 43 k (at-most n q k e) r i)

@@ -1,5 +1,5 @@
 -- Document 02, request 2026-06, "Say where the chunk is broken": what each of the refusals 38 to 43 is about, row by row.
--- The bytes s are read from place p on: a chunk's own bytes from 0 on, or the file's bytes up to the chunk's end from the chunk's start on (`in-file`, reader_chunks/proofs/Places). The walk along a chunk's points is refused by no other row, and by 32 for a count of 0 (`walk-so`, in proofs/Breaking).
+-- The bytes s are read from place p on: a chunk's own bytes from 0 on, or the file's bytes up to the chunk's end from the chunk's start on (`broken-file`, reader_chunks/proofs/Places, leads from the one to the other). The walk along a chunk's points is refused by no other row, and by 32 for a count of 0 (`walk-so`, in proofs/Breaking).
 -- Assumes nothing.
 use Prim.Native.Nat.{ℕ, zero, suc}
 use mathlib.Core.Path.{_≡_}
