@@ -250,7 +250,7 @@ module _ (file : List ℕ) (lng lat : Float) (r : ℤ) (c : Tzb-lookup file lng 
   once = zone-tells (lookupOnce file lng lat) (higher 46 lastNumber (omega arith) _ (once-tabled file lng lat))
 
   pub lookup-answers : LookupAnswers file lng lat r
-  lookup-answers = record { refuses = λ n e. lookup-answer c ∙ once .refusal n (once-barred file lng lat (refusal n) e); found = found }
+  lookup-answers = record { refuses = λ n e. lookup-answer c ∙ once .refusal (refusal n) (once-barred file lng lat (refusal n) e); found = found }
     where
       found : ok (openedIs file) ≡ openOf file → Tells zoneNumber (lookupOf (openedIs file) file lng lat) r
       found e =

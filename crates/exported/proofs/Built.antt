@@ -26,94 +26,74 @@ use Rattle.tzb_asked.specs.Asked.{needAsked, stripesAsked}
 use Rattle.tzb_codes.specs.Codes.{neededCode}
 use Rattle.exported.specs.Words.{lastNumber, refusing}
 use Rattle.exported.specs.Demand1.{NumberOrRefusal, NumberOrAsItWas}
-use Rattle.exported.proofs.Tabled.{Numbered, Tabled}
+use Rattle.exported.proofs.Tabled.{Numbered, Only, Tabled, given, need-o, then-t}
 use Rattle.exported.proofs.Codes.{apart, same-refusing, code-is, refuses}
-use Rattle.exported.proofs.Maps.{RefusedBy, Roomless}
+use Rattle.exported.proofs.Maps.{Roomless}
 
 -- ---- what holds of 34, 44 and 49 holds of every refusal
-pub record Barred (P : Refusal → Type 0) {A : Type 0} (x : Answer A) : Type 0 where
-  pub by : RefusedBy P x
-
-module _ {P : Refusal → Type 0} where
-  given : {A : Type 0} (a : A) → Barred P (ok a)
-  given a = record { by = tt }
-
-  need-p : {A : Type 0} (n : ℕ) (b : Bool) (x : Answer A) → P (refusal n) → Barred P x → Barred P (need n b x)
-  need-p n true x p h = h
-  need-p n false x p h = record { by = p }
-
-  then-p : {A B : Type 0} (x : Answer A) (f : A → Answer B) → Barred P x → ((a : A) → Barred P (f a)) → Barred P (x then f)
-  then-p (ok a) f h g = g a
-  then-p (refused k) f h g = record { by = h .by }
-
 module _ (P : Refusal → Type 0) (at-34 : P (refusal 34)) (at-44 : P (refusal 44)) (at-49 : P (refusal 49)) where
-  ruled-p : {A : Type 0} (s : List ℕ) (d : Directory) (w i : ℕ) (read : ℕ → A) (rule : A → Bool) → Barred P (ruled (recordAt s d w i) read rule 34)
+  ruled-p : {A : Type 0} (s : List ℕ) (d : Directory) (w i : ℕ) (read : ℕ → A) (rule : A → Bool) → Only P (ruled (recordAt s d w i) read rule 34)
   unfolding ruled recordAt
   ruled-p s d w i read rule =
-      then-p _ _
-      (need-p 34 (ltb i (d .count)) _ at-34 (need-p 44 (inside w s (place d w i)) _ at-44 (given _)))
-      (λ p. need-p 34 (rule (read p)) _ at-34 (given _))
+      then-t _ _
+      (need-o 34 (ltb i (d .count)) _ at-34 (need-o 44 (inside w s (place d w i)) _ at-44 (given _)))
+      (λ p. need-o 34 (rule (read p)) _ at-34 (given _))
 
   module _ (o : Opened) (s : List ℕ) where
-    group-p : (i : ℕ) → Barred P (groupAt o s i)
+    group-p : (i : ℕ) → Only P (groupAt o s i)
     unfolding groupAt
     group-p i = ruled-p s (o .groups) groupWide i _ _
 
-    chunk-p : (i : ℕ) → Barred P (chunkAt o s i)
+    chunk-p : (i : ℕ) → Only P (chunkAt o s i)
     unfolding chunkAt
     chunk-p i = ruled-p s (o .chunks) chunkWide i _ _
 
-    boxes-p : (g : GroupRecord) (n c : ℕ) → Barred P (boxesFrom o s g n c)
+    boxes-p : (g : GroupRecord) (n c : ℕ) → Only P (boxesFrom o s g n c)
     unfolding boxesFrom
     boxes-p g zero c = given _
     boxes-p g (suc n) c =
-        then-p _ _ (chunk-p (g .first + c)) (λ v.
-        need-p 49 (ltb (g .count) 2 || withinHeight (g .bbox) (v .bbox)) _ at-49
-        (then-p _ _ (boxes-p g n (c + 1)) (λ l. given _)))
+        then-t _ _ (chunk-p (g .first + c)) (λ v.
+        need-o 49 (ltb (g .count) 2 || withinHeight (g .bbox) (v .bbox)) _ at-49
+        (then-t _ _ (boxes-p g n (c + 1)) (λ l. given _)))
 
-    boxed-p : (i : ℕ) → Barred P (boxedAt o s i)
+    boxed-p : (i : ℕ) → Only P (boxedAt o s i)
     unfolding boxedAt
-    boxed-p i = then-p _ _ (group-p i) (λ g. then-p _ _ (boxes-p g (g .count) 0) (λ l. given _))
+    boxed-p i = then-t _ _ (group-p i) (λ g. then-t _ _ (boxes-p g (g .count) 0) (λ l. given _))
 
-    from-p : (n i : ℕ) → Barred P (boxedFrom o s n i)
+    from-p : (n i : ℕ) → Only P (boxedFrom o s n i)
     unfolding boxedFrom
     from-p zero i = given _
-    from-p (suc n) i = then-p _ _ (boxed-p i) (λ g. then-p _ _ (from-p n (i + 1)) (λ l. given _))
+    from-p (suc n) i = then-t _ _ (boxed-p i) (λ g. then-t _ _ (from-p n (i + 1)) (λ l. given _))
 
-    groups-p : Barred P (boxedGroups o s)
+    groups-p : Only P (boxedGroups o s)
     unfolding boxedGroups
     groups-p = from-p (o .groups .count) 0
 
   module _ (held file : List ℕ) where
-    record-p : Barred P (recordOf held)
+    record-p : Only P (recordOf held)
     unfolding recordOf
-    record-p = need-p 44 (same (length held) 84) _ at-44 (given _)
+    record-p = need-o 44 (same (length held) 84) _ at-44 (given _)
 
-    need-barred : Barred P (needAsked held file)
+    need-barred : Only P (needAsked held file)
     unfolding needAsked stripesNeed
-    need-barred = then-p _ _ record-p (λ o. then-p _ _ (groups-p o file) (λ l. given _))
+    need-barred = then-t _ _ record-p (λ o. then-t _ _ (groups-p o file) (λ l. given _))
 
-    stripes-barred : P (refusal 46) → (room : ℕ) → Barred P (stripesAsked held file room)
+    stripes-barred : P (refusal 46) → (room : ℕ) → Only P (stripesAsked held file room)
     unfolding stripesAsked stripesOf
-    stripes-barred at-46 room = then-p _ _ record-p (λ o. then-p _ _ (groups-p o file) (λ l. need-p 46 (leb (needOf l) room) _ at-46 (given _)))
+    stripes-barred at-46 room = then-t _ _ record-p (λ o. then-t _ _ (groups-p o file) (λ l. need-o 46 (leb (needOf l) room) _ at-46 (given _)))
 
 -- ---- so every refusal is from the table, and the need's is never 46
-tabled-by : {A : Type 0} (x : Answer A) → Barred (Numbered lastNumber) x → Tabled lastNumber x
-tabled-by (ok a) h = record { by = tt }
-tabled-by (refused k) h = record { by = h .by }
-
 pub stripes-tabled : (held file : List ℕ) (room : ℕ) → Tabled lastNumber (stripesAsked held file room)
 stripes-tabled held file room =
-    tabled-by _
-    (stripes-barred (Numbered lastNumber)
+    stripes-barred (Numbered lastNumber)
     (record { least = omega arith; greatest = omega arith })
     (record { least = omega arith; greatest = omega arith })
     (record { least = omega arith; greatest = omega arith })
     held file
     (record { least = omega arith; greatest = omega arith })
-    room)
+    room
 
-pub need-roomless : (held file : List ℕ) → Barred Roomless (needAsked held file)
+pub need-roomless : (held file : List ℕ) → Only Roomless (needAsked held file)
 need-roomless held file =
     need-barred Roomless
     (record { least = omega arith; greatest = omega arith }, λ e. omega arith)
@@ -122,7 +102,7 @@ need-roomless held file =
     held file
 
 -- as numbers
-pub need-told : (x : Answer ℕ) → Barred Roomless x → NumberOrRefusal (neededCode x) × (neededCode x ≡ refusing 46 → ⊥)
+pub need-told : (x : Answer ℕ) → Only Roomless x → NumberOrRefusal (neededCode x) × (neededCode x ≡ refusing 46 → ⊥)
 need-told (ok n) h = (inl (min n 0x7fff_ffff_ffff_ffff, refl), λ e. apart _ _ e)
 need-told (refused k) h = (inr (refuses k (h .by .0)), λ e. h .by .1 (same-refusing (k .number) 46 (sym (code-is k (h .by .0)) ∙ e)))
 

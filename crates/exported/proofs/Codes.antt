@@ -7,14 +7,13 @@ use mathlib.Core.Bool.{Bool, true, false}
 use mathlib.Core.Logic.{_⊎_, inl, inr}
 use lib.IntN.{pos, negsuc}
 use Rattle.answer.specs.declared.Refusal.{Refusal}
-use Rattle.answer.specs.Refusals.{refusal}
-use Rattle.answer.specs.Answers.{Answer, ok, refused, no}
+use Rattle.answer.specs.Answers.{Answer, ok, refused}
 use Rattle.tzb_codes.specs.Codes.{refusalCode, doneCode, kindCode, insideCode, zoneCode, numberCode, startCode, endCode}
 use Rattle.exported.specs.Words.{lastNumber, refusing, Refuses}
 use Rattle.exported.specs.Words as W
 use Rattle.exported.specs.Demand1.{NumberOrRefusal}
 use Rattle.exported.specs.Answers.{Tells, yesNo, zoneNumber}
-use Rattle.exported.proofs.Tabled.{Numbered, Tabled, number-of}
+use Rattle.exported.proofs.Tabled.{Numbered, Tabled, kind-of}
 use Rattle.replies.specs.Replies.{Sought, nowhere, inZone, Chosen, none, all, listed}
 use Rattle.tzb_codes.proofs.CodesLaws.{code-small}
 
@@ -85,8 +84,8 @@ inside-tells x t = record { value = value x; refusal = refusal-told x t }
     value x true e = ap insideCode (sym e)
     value x false e = ap insideCode (sym e)
 
-    refusal-told : (x : Answer Bool) → Tabled lastNumber x → (n : ℕ) → no n ≡ x → insideCode x ≡ refusing n
-    refusal-told x t n e = ap insideCode (sym e) ∙ code-is (refusal n) (number-of x (refusal n) e t)
+    refusal-told : (x : Answer Bool) → Tabled lastNumber x → (k : Refusal) → refused k ≡ x → insideCode x ≡ refusing (k .number)
+    refusal-told x t k e = ap insideCode (sym e) ∙ code-is k (kind-of x k e t)
 
 pub zone-tells : (x : Answer Sought) → Tabled lastNumber x → Tells zoneNumber x (zoneCode x)
 zone-tells x t = record { value = value x; refusal = refusal-told x t }
@@ -95,5 +94,5 @@ zone-tells x t = record { value = value x; refusal = refusal-told x t }
     value x nowhere e = ap zoneCode (sym e)
     value x (inZone zone) e = ap zoneCode (sym e)
 
-    refusal-told : (x : Answer Sought) → Tabled lastNumber x → (n : ℕ) → no n ≡ x → zoneCode x ≡ refusing n
-    refusal-told x t n e = ap zoneCode (sym e) ∙ code-is (refusal n) (number-of x (refusal n) e t)
+    refusal-told : (x : Answer Sought) → Tabled lastNumber x → (k : Refusal) → refused k ≡ x → zoneCode x ≡ refusing (k .number)
+    refusal-told x t k e = ap zoneCode (sym e) ∙ code-is k (kind-of x k e t)

@@ -2,6 +2,7 @@
 pub mod Meaning
 pub mod Tabled
 pub mod Opening
+pub mod Asked
 pub mod Questions
 pub mod Noted
 pub mod Room
@@ -12,6 +13,7 @@ pub mod Lengths
 pub mod Maps
 pub mod Built
 pub mod Demand1
+pub mod Places
 pub mod Answers
 pub mod Stripes
 pub mod Journal

@@ -1,476 +1,73 @@
 -- Every refusal of a question has a number from 1 to 46, by either way through a group's chunks and for any numbers.
 -- Assumes nothing.
-use Prim.Native.Nat.{ℕ, zero, suc, _+_, _-_, _*_, _%_}
-use mathlib.Core.Path.{refl}
-use mathlib.Core.Bool.{Bool, true, false, _||_, not}
-use mathlib.Core.List.{List, [], _∷_}
-use lib.IntN.{ℤ, _+ℤ_}
-use lib.Dec.{leb, ltb, eqb}
+use Prim.Native.Nat.{ℕ}
+use native.Mathlib.Omega.{arith}
+use mathlib.Core.Path.{_≡_}
+use mathlib.Core.Bool.{_&&_, _||_}
+use mathlib.Core.List.{List, []}
+use lib.Dec.{leb}
+use lib.IntN.{ℤ}
 use lib.Ieee.{Float}
-use lib.ListN.{length, getD}
-use Rattle.plane.specs.declared.Point.{Point}
+use Rattle.basics.specs.Truth.{and-l}
 use Rattle.plane.specs.declared.I32Point.{I32Point}
-use Rattle.plane.specs.Domain.{inDomain}
-use Rattle.plane.specs.Segment as S
-use Rattle.boxes.specs.Box.{contains, relevant, right}
-use Rattle.fields.specs.Loads as F
-use Rattle.fields.specs.Loads.{loadAt}
-use Rattle.answer.specs.Checks as C
-use Rattle.answer.specs.Checks.{atMost, same}
 use Rattle.answer.specs.declared.Refusal.{Refusal}
-use Rattle.answer.specs.Answers.{Answer, ok, refused}
-use Rattle.answer.specs.Walks.{Walk}
-use Rattle.chunks.specs.Delta.{fits32, addDelta}
-use Rattle.varints.specs.Varint.{digits, numberAt, atEnd}
-use Rattle.chunks.specs.Points.{numbersAt, movedBy, firstOf, nextAt, mustLie}
-use Rattle.chunks.specs.Along.{Walker, follow, along, walkOf}
-use Rattle.chunks.specs.Scan.{scanner, scanOf}
-use Rattle.chunks.specs.Decode.{decoder, pointsOf}
-use Rattle.rays.specs.Ray.{rayOf}
-use Rattle.opened.specs.declared.Directory.{Directory}
-use Rattle.opened.specs.declared.Grid.{Grid}
+use Rattle.answer.specs.Refusals.{refusal, countedFrom}
+use Rattle.answer.specs.Answers.{ok}
+use Rattle.chunks.specs.Broken.{Broken}
+use Rattle.chunks.proofs.Breaking.{told}
 use Rattle.opened.specs.declared.Opened.{Opened}
-use Rattle.opened.specs.Widths.{listWide, ringWide, opWide, groupWide, chunkWide}
-use Rattle.reader_names.specs.Names.{edge}
-use Rattle.reader_named.specs.Asked.{boundsAt, nameAt}
-use Rattle.reader_cells.specs.Asked.{onEarth, inGrid, cellCandidates, candidatesOf, zoneBelow, candidateAt}
-use Rattle.reader_records.specs.declared.ChunkRecord.{ChunkRecord}
-use Rattle.reader_records.specs.declared.GroupRecord.{GroupRecord}
-use Rattle.reader_records.specs.declared.RingRecord.{RingRecord}
-use Rattle.reader_records.specs.Records.{place, recordAt, ruled, listAt, ringAt, countRule, opAt, groupAt, chunkAt}
-use Rattle.reader_chunks.specs.Chunks.{endOf, span, bytesOf, firstIn, scanIn, decodeBy, decodeIn}
-use Rattle.reader_groups.specs.Groups.{nextFirst, skipTo, scanTo, joinedTo, passAt, lastIn, lastAt, aloneAt, chunksFrom, groupScan}
-use Rattle.reader_ways.specs.Ways.{Way, plain, striped, entryAt, stripeAt, chunkNumberAt, numbered, numberedFrom, stripeWalk, stripedScan, groupScanBy}
-use Rattle.reader_ways.specs.declared.Entry.{Entry}
-use Rattle.stripes.specs.Numbers.{groupNumbers, stripeNumbers}
-use Rattle.reader_rings.specs.declared.Turned.{Turned}
-use Rattle.reader_rings.specs.declared.Round.{Round}
-use Rattle.reader_rings.specs.Rings.{turnedAt, jointOf, groupWalk, turnWalk, opStep, opsFrom, ringEnd, ringRest, ringOf, ringContains}
-use Rattle.reader_zones.specs.Zones.{polyOf, zoneBy, containsBy, containsAt, firstSo}
-use Rattle.reader_lookup.specs.Asking.{scaled, unlooked, candidateOf, hitAt, orElse, firstHit, lookupAmong, lookupBy, lookupOf}
+use Rattle.reader_named.specs.Asked.{boundsAt}
+use Rattle.reader_cells.specs.Asked.{candidatesOf, candidateAt}
+use Rattle.reader_chunks.specs.Chunks.{span, decodeIn}
+use Rattle.reader_ways.specs.Ways.{Way}
+use Rattle.reader_zones.specs.Zones.{containsBy, containsAt}
+use Rattle.reader_lookup.specs.Asking.{lookupBy, lookupOf}
+use Rattle.reader_listing.specs.All.{listBy}
 use Rattle.tzb_record.specs.Layout.{recordOf}
-use Rattle.exported.proofs.Tabled.{Numbered, Tabled, TabledWalk, given, need-t, then-t, either-way, walked, must-t, past-t, verdict-t, go-t, yields-t, fine-t, and-t, outcome-t, before-t}
-use Rattle.plane.specs.Places.{pointOf}
-use Rattle.replies.specs.Replies.{Chosen, none, all, listed, Sought, nowhere, inZone}
-use Rattle.reader_listing.specs.All.{allHits, hitsAmong, hitsOf, namesRead, placed, listFor, listBy, listOf}
-use Rattle.reader_whole.specs.Whole.{wholeHit, wholeHits, wholeList}
-use Rattle.entries.specs.Forms.{allBelow}
-use Rattle.tzb_journal.specs.Journal.{fitting, answerOf}
+use Rattle.tzb_journal.specs.Journal.{answerOf}
+use Rattle.exported.proofs.Tabled.{Numbered, Tabled, numbered}
+use Rattle.exported.proofs.Asked as A
+use Rattle.exported.proofs.Asked.{Plain}
 
--- 1 to 46
-abbrev Q : {A : Type 0} → Answer A → Type 0
-Q x = Tabled 46 x
+by-plain : (n : ℕ) → Plain n → Numbered 46 (refusal n)
+by-plain n h = numbered 46 n (and-l (leb 1 n && leb n 46) (leb n 37 || leb 44 n) h)
 
-abbrev W : {A : Type 0} → Walk A → Type 0
-W w = TabledWalk 46 w
+by-broken : (s : List ℕ) (a e : ℕ) (b : List ℕ) → ok b ≡ span s a e → (r : Refusal) → Broken b 0 r → Numbered 46 (countedFrom a r)
+unfolding countedFrom
+by-broken s a e b h r k = let t = told b 0 (omega arith) r k in record { least = omega (arith, t .least); greatest = omega (arith, t .greatest) }
 
-pub record-q : (held : List ℕ) → Q (recordOf held)
-unfolding recordOf
-record-q held = need-t 44 (same (length held) 84) _ refl (given _)
+pub record-q : (held : List ℕ) → Tabled 46 (recordOf held)
+record-q held = A.record-q [] (Numbered 46) by-plain (by-broken []) held
 
-load : (n : ℕ) (s : List ℕ) (p : ℕ) → Q (loadAt n s p)
-unfolding loadAt
-load n s p = need-t 44 (F.inside n s p) _ refl (given _)
-
--- ---- names
-pub bounds-q : (s : List ℕ) (at n zone : ℕ) → Q (boundsAt s at n zone)
-unfolding boundsAt
-bounds-q s at n zone =
-    need-t 45 (C.below zone n) _ refl
-    (need-t 44 (atMost (at + 4 + 4 * zone + 8) (length s)) _ refl
-    (need-t 23 (atMost (edge s at n zone) (edge s at n (zone + 1))) _ refl
-    (need-t 44 (atMost (edge s at n (zone + 1)) (length s)) _ refl
-    (given _))))
-
--- ---- candidates
-module _ (o : Opened) (s : List ℕ) where
-  name-q : (zone : ℕ) → Q (nameAt o s zone)
-  unfolding nameAt
-  name-q zone = then-t _ _ (bounds-q s _ _ zone) (λ b. given _)
-
-  cell : (g : Grid) (column row : ℤ) → Q (cellCandidates s g column row)
-  unfolding cellCandidates
-  cell g column row = either-way Q (inGrid g column row) _ _ (then-t _ _ (load 4 s _) (λ w. given _)) (given _)
-
-  pub candidates-q : (lng lat : Float) → Q (candidatesOf o s lng lat)
-  unfolding candidatesOf
-  candidates-q lng lat = either-way Q (onEarth lng lat) _ _ (either-way Q (same (o .flags % 2) 0) _ _ (given _) (cell (o .grid) _ _)) (given _)
-
-  below : (zones zone : ℕ) → Q (zoneBelow zones zone)
-  unfolding zoneBelow
-  below zones zone = need-t 31 (C.below zone zones) _ refl (given _)
-
-  pub candidate-q : (place : ℕ) → Q (candidateAt o s place)
-  unfolding candidateAt
-  candidate-q place = need-t 30 (C.below place (o .grid .total)) _ refl (then-t _ _ (load 2 s _) (below (o .zones .count)))
-
--- ---- records
-record-at : (s : List ℕ) (d : Directory) (w i : ℕ) → Q (recordAt s d w i)
-unfolding recordAt
-record-at s d w i = need-t 34 (ltb i (d .count)) _ refl (need-t 44 (F.inside w s (place d w i)) _ refl (given _))
-
-ruled-34 : {A : Type 0} (at : Answer ℕ) (read : ℕ → A) (rule : A → Bool) → Q at → Q (ruled at read rule 34)
-unfolding ruled
-ruled-34 at read rule h = then-t _ _ h (λ p. need-t 34 (rule (read p)) _ refl (given _))
-
-ruled-35 : {A : Type 0} (at : Answer ℕ) (read : ℕ → A) (rule : A → Bool) → Q at → Q (ruled at read rule 35)
-unfolding ruled
-ruled-35 at read rule h = then-t _ _ h (λ p. need-t 35 (rule (read p)) _ refl (given _))
-
-list : (s : List ℕ) (d : Directory) (below i : ℕ) → Q (listAt s d below i)
-unfolding listAt
-list s d below i = ruled-34 _ _ _ (record-at s d listWide i)
-
-module _ (o : Opened) (s : List ℕ) (i : ℕ) where
-  ring : Q (ringAt o s i)
-  unfolding ringAt
-  ring = ruled-34 _ _ _ (record-at s (o .rings) ringWide i)
-
-  op : Q (opAt o s i)
-  unfolding opAt
-  op = ruled-35 _ _ _ (record-at s (o .ops) opWide i)
-
-  pub group : Q (groupAt o s i)
-  unfolding groupAt
-  group = ruled-34 _ _ _ (record-at s (o .groups) groupWide i)
-
-  pub chunk : Q (chunkAt o s i)
-  unfolding chunkAt
-  chunk = ruled-34 _ _ _ (record-at s (o .chunks) chunkWide i)
-
--- ---- numbers and points
-digit : (k : ℕ) (only : Bool) (s : List ℕ) (p : ℕ) → Q (digits k only s p)
-unfolding digits
-digit zero only s p =
-    need-t 38 (ltb p (length s)) _ refl
-    (need-t 40 (leb (getD s p 0) 15) _ refl
-    (need-t 39 (only || not (eqb (getD s p 0) 0)) _ refl (given _)))
-digit (suc k) only s p =
-    need-t 38 (ltb p (length s)) _ refl
-    (either-way Q (ltb (getD s p 0) 128) _ _
-    (need-t 39 (only || not (eqb (getD s p 0) 0)) _ refl (given _))
-    (then-t _ _ (digit k false s (p + 1)) (λ t. given _)))
-
-module _ (s : List ℕ) where
-  number : (p : ℕ) → Q (numberAt s p)
-  unfolding numberAt
-  number p = then-t _ _ (digit 4 true s p) (λ t. given _)
-
-  numbers : (p : ℕ) → Q (numbersAt s p)
-  unfolding numbersAt
-  numbers p = then-t _ _ (number p) (λ x. then-t _ _ (number (x .1)) (λ y. given _))
-
-  delta : (a d : ℤ) → Q (addDelta a d)
-  unfolding addDelta
-  delta a d = need-t 41 (fits32 (a +ℤ d)) _ refl (given _)
-
-  moved : (q d : I32Point) → Q (movedBy q d)
-  unfolding movedBy
-  moved q d = then-t _ _ (delta (q .x) (d .x)) (λ x. then-t _ _ (delta (q .y) (d .y)) (λ y. given _))
-
-  within : (q : I32Point) (p : ℕ) → Q (mustLie q p)
-  unfolding mustLie
-  within q p = need-t 42 (inDomain q) _ refl (given _)
-
-  first-point : Q (firstOf s)
-  unfolding firstOf
-  first-point = then-t _ _ (numbers 0) (λ t. within (t .0) (t .1))
-
-  next-point : (q : I32Point) (p : ℕ) → Q (nextAt s q p)
-  unfolding nextAt
-  next-point q p = then-t _ _ (numbers p) (λ d. then-t _ _ (moved q (d .0)) (λ t. within t (d .1)))
-
-  -- the walk along a chunk's points, whoever walks
-  module _
-      {R : Type 0}
-      (P : R → Type 0)
-      (w : Walker R)
-      (stops : (k : Refusal) → Numbered 46 k → P (w .stop k))
-      (lasts : (q : I32Point) → P (w .last q))
-      (points : (q : I32Point) (x : R) → P x → P (w .point q x))
-      (segments : (q t : I32Point) (x : R) → P x → P (w .segment q t x))
-    where
-      followed : {A : Type 0} (x : Answer A) (f : A → R) → Q x → ((a : A) → P (f a)) → P (follow w x f)
-      followed (ok a) f h g = g a
-      followed (refused k) f h g = stops k (h .by)
-
-      along-q : (n : ℕ) (q : I32Point) (k : ℕ) → P (along w s n q k)
-      unfolding along
-      along-q zero q k = followed _ _ (need-t 43 (atEnd s k) _ refl (given q)) lasts
-      along-q (suc n) q k = followed _ _ (next-point q k) (λ t. segments q (t .0) _ (points (t .0) _ (along-q n (t .0) (t .1))))
-
-      walk-q : (n : ℕ) → P (walkOf w s n)
-      unfolding walkOf
-      walk-q n = followed _ _ (need-t 32 (ltb 0 n) _ refl first-point) (λ t. points (t .0) _ (along-q (n - 1) (t .0) (t .1)))
-
-  points : (n : ℕ) → Q (pointsOf s n)
-  unfolding pointsOf
-  points n = walk-q (λ (x : Answer (List I32Point)). Q x) decoder (λ k h. record { by = h }) (λ q. given _) (λ q x h. then-t _ _ h (λ l. given _)) (λ q t x h. h) n
-
-  scan : (p : Point) (n : ℕ) → W (scanOf s n p)
-  unfolding scanOf
-  scan p n = walk-q (λ (x : Walk I32Point). W x) (scanner p) (λ k h. record { by = h }) (λ q. walked _ _) (λ q x h. h) (λ q t x h. go-t _ _ (past-t (rayOf q t p) t) (λ u. h)) n
-
--- ---- chunks
-module _ (s : List ℕ) where
-  span-q : (a e : ℕ) → Q (span s a e)
-  unfolding span
-  span-q a e = need-t 37 (ltb a e) _ refl (need-t 44 (leb e (length s)) _ refl (given _))
-
-  first-in : (a e : ℕ) → Q (firstIn s a e)
-  unfolding firstIn
-  first-in a e = then-t _ _ (span-q a e) (λ b. then-t _ _ (first-point b) (λ t. given _))
-
-  scan-in : (n : ℕ) (p : Point) (a e : ℕ) → W (scanIn s n p a e)
-  unfolding scanIn
-  scan-in n p a e = yields-t _ _ (span-q a e) (λ b. scan b p n)
+pub bounds-q : (s : List ℕ) (at n zone : ℕ) → Tabled 46 (boundsAt s at n zone)
+bounds-q s at n zone = A.bounds-q s (Numbered 46) by-plain (by-broken s) s at n zone
 
 module _ (o : Opened) (s : List ℕ) where
-  end-q : (i : ℕ) → Q (endOf o s i)
-  unfolding endOf
-  end-q i = either-way Q (ltb (i + 1) (o .chunks .count)) _ _ (then-t _ _ (chunk o s (i + 1)) (λ v. given _)) (given _)
+  pub candidates-q : (lng lat : Float) → Tabled 46 (candidatesOf o s lng lat)
+  candidates-q = A.candidates-q s (Numbered 46) by-plain (by-broken s) o s
 
-  bytes : (i : ℕ) (v : ChunkRecord) → Q (bytesOf o s i v)
-  unfolding bytesOf
-  bytes i v = then-t _ _ (end-q i) (λ e. span-q s _ e)
+  pub candidate-q : (place : ℕ) → Tabled 46 (candidateAt o s place)
+  candidate-q = A.candidate-q s (Numbered 46) by-plain (by-broken s) o s
 
-  pub decode-q : (i : ℕ) (out : List ℤ) → Q (decodeIn o s i out)
-  unfolding decodeIn decodeBy
-  decode-q i out = then-t _ _ (chunk o s i) (λ v. need-t 32 (ltb 0 (v .count)) _ refl (need-t 46 (leb (2 * v .count) (length out)) _ refl (then-t _ _ (bytes i v) (λ b. points b (v .count)))))
+  pub decode-q : (i : ℕ) (out : List ℤ) → Tabled 46 (decodeIn o s i out)
+  decode-q = A.decode-q s (Numbered 46) by-plain (by-broken s) o
 
-  -- ---- groups
-  next-first : (i : ℕ) (n : ChunkRecord) → Q (nextFirst o s i n)
-  unfolding nextFirst
-  next-first i n = then-t _ _ (end-q (i + 1)) (λ e. first-in s _ e)
+  pub contains-by-q : (w : Way) (zone : ℕ) (q : I32Point) → Tabled 46 (containsBy w o s zone q)
+  contains-by-q = A.contains-by-q s (Numbered 46) by-plain (by-broken s) o
 
-  module _ (p : Point) where
-    module _ (i : ℕ) (v : ChunkRecord) where
-      skip : (n : ChunkRecord) → W (skipTo o s p i v n)
-      unfolding skipTo
-      skip n = yields-t _ _ (first-in s _ _) (λ a. yields-t _ _ (next-first i n) (λ b. walked _ _))
+  pub lookup-by-q : (w : Way) (lng lat : Float) → Tabled 46 (lookupBy w o s lng lat)
+  lookup-by-q = A.lookup-by-q s (Numbered 46) by-plain (by-broken s) o
 
-      scan-to : (n : ChunkRecord) → W (scanTo o s p i v n)
-      unfolding scanTo
-      scan-to n = go-t _ _ (scan-in s _ p _ _) (λ q. yields-t _ _ (next-first i n) (λ b. past-t (rayOf q b p) tt))
-
-      joined : (n : ChunkRecord) → W (joinedTo o s p i v n)
-      unfolding joinedTo
-      joined n = either-way W (relevant (v .bbox) p) _ _ (either-way W (right (v .bbox) p) _ _ (skip n) (scan-to n)) (walked _ _)
-
-      pass : W (passAt o s p i v)
-      unfolding passAt
-      pass = yields-t _ _ (chunk o s (i + 1)) (λ n. go-t _ _ (joined n) (λ t. walked _ _))
-
-      last-in : (x : I32Point) (e : ℕ) → W (lastIn o s p i v x e)
-      unfolding lastIn
-      last-in x e = either-way W (right (v .bbox) p) _ _ (yields-t _ _ (first-in s _ e) (λ a. walked _ _)) (go-t _ _ (scan-in s _ p _ e) (λ q. walked _ _))
-
-      last : (x : I32Point) → W (lastAt o s p i v x)
-      unfolding lastAt
-      last x = either-way W (relevant (v .bbox) p) _ _ (yields-t _ _ (end-q i) (λ e. last-in x e)) (walked _ _)
-
-    chunks-from : (x : I32Point) (n i : ℕ) (v : ChunkRecord) → W (chunksFrom o s p x n i v)
-    unfolding chunksFrom
-    chunks-from x zero i v = last i v x
-    chunks-from x (suc n) i v = go-t _ _ (pass i v) (λ w. chunks-from x n (i + 1) w)
-
-    group-of : (g : GroupRecord) → W (groupScan o s p g)
-    unfolding groupScan
-    group-of g = yields-t _ _ (chunk o s (g .first)) (λ v. chunks-from (g .exit) _ (g .first) v)
-
-    -- ---- groups by stripes
-    alone : (x : I32Point) (follows : Bool) (i : ℕ) → W (aloneAt o s p x follows i)
-    unfolding aloneAt
-    alone x follows i =
-        yields-t _ _ (chunk o s i) (λ v.
-        either-way W (relevant (v .bbox) p) _ _ (either-way W follows _ _ (go-t _ _ (pass i v) (λ n. walked _ _)) (last i v x)) (walked _ _))
-
-    numbered-q : (g : GroupRecord) (c : ℕ) → W (numbered o s p g c)
-    unfolding numbered
-    numbered-q g c = must-t 34 (ltb c (g .count)) _ refl (alone (g .exit) _ _)
-
-    module _ (numbers : List ℕ) where
-      entry-q : (i : ℕ) → Q (entryAt numbers i)
-      unfolding entryAt
-      entry-q i = need-t 44 (leb (groupNumbers * i + groupNumbers) (length numbers)) _ refl (given _)
-
-      stripe-q : (first stripe : ℕ) → Q (stripeAt numbers first stripe)
-      unfolding stripeAt
-      stripe-q first stripe = need-t 44 (leb (first + stripeNumbers * stripe + stripeNumbers) (length numbers)) _ refl (given _)
-
-      chunk-number : (at : ℕ) → Q (chunkNumberAt numbers at)
-      unfolding chunkNumberAt
-      chunk-number at = need-t 44 (leb (at + 1) (length numbers)) _ refl (given _)
-
-      numbered-from : (g : GroupRecord) (n at : ℕ) → W (numberedFrom o s p g numbers n at)
-      unfolding numberedFrom
-      numbered-from g zero at = walked _ _
-      numbered-from g (suc n) at = yields-t _ _ (chunk-number at) (λ c. go-t _ _ (numbered-q g c) (λ u. numbered-from g n (at + 1)))
-
-      stripe-walk : (g : GroupRecord) (e : Entry) → W (stripeWalk o s p g numbers e)
-      unfolding stripeWalk
-      stripe-walk g e = must-t 34 (ltb 0 (e .striping .height)) _ refl (yields-t _ _ (stripe-q (e .first) _) (λ t. numbered-from g (t .count) (t .first)))
-
-      striped-scan : (i : ℕ) (g : GroupRecord) → W (stripedScan numbers o s p i g)
-      unfolding stripedScan
-      striped-scan i g = yields-t _ _ (entry-q i) (λ e. either-way W (eqb (e .striping .k) 0) _ _ (group-of g) (stripe-walk g e))
-
-    scans : (w : Way) (i : ℕ) (g : GroupRecord) → W (groupScanBy w o s p i g)
-    unfolding groupScanBy
-    scans plain i g = group-of g
-    scans (striped numbers) i g = striped-scan numbers i g
-
-    -- ---- rings: what no way changes
-    joint : (a b : I32Point) → W (jointOf p a b)
-    unfolding jointOf
-    joint a b = either-way W (S.samePoint a b) _ _ (walked _ _) (past-t (rayOf a b p) tt)
-
-    ring-end : (r : RingRecord) (start : I32Point) (z : Round) → W (ringEnd p r start z)
-    unfolding ringEnd
-    ring-end r start z = must-t 36 (countRule r (z .sum)) _ refl (joint (z .exit) start)
-
-  turned : (i : ℕ) → Q (turnedAt o s i)
-  unfolding turnedAt
-  turned i = then-t _ _ (op o s i) (λ w. then-t _ _ (group o s _) (λ g. given _))
-
-  -- ---- zones and lookups: the same
-  sought : (f : ℕ → Answer Bool) (found other : Bool) → ((i : ℕ) → Q (f i)) → (n i : ℕ) → Q (firstSo f found other n i)
-  unfolding firstSo
-  sought f found other h zero i = given _
-  sought f found other h (suc n) i = then-t _ _ (h i) (λ b. either-way Q b _ _ (given _) (sought f found other h n (i + 1)))
-
-  candidate-of : (grid : Bool) (place : ℕ) → Q (candidateOf o s grid place)
-  unfolding candidateOf
-  candidate-of grid place = either-way Q grid _ _ (candidate-q o s place) (given _)
-
-  or-else : (z : Sought) (x : Answer Sought) → Q x → Q (orElse z x)
-  or-else nowhere x h = h
-  or-else (inZone zone) x h = given _
-
-  first-hit : (f : ℕ → Answer Sought) → ((i : ℕ) → Q (f i)) → (n i : ℕ) → Q (firstHit f n i)
-  unfolding firstHit
-  first-hit f h zero i = given _
-  first-hit f h (suc n) i = then-t _ _ (h i) (λ z. or-else z _ (first-hit f h n (i + 1)))
-
-  all-hits : (f : ℕ → Answer Sought) → ((i : ℕ) → Q (f i)) → (n i : ℕ) → Q (allHits f n i)
-  unfolding allHits
-  all-hits f h zero i = given _
-  all-hits f h (suc n) i = then-t _ _ (h i) (λ z. then-t _ _ (all-hits f h n (i + 1)) (λ l. given _))
-
-  names-read : (l : List ℕ) → Tabled 46 (namesRead o s l)
-  unfolding namesRead
-  names-read [] = fine-t
-  names-read (zone ∷ l) = and-t _ _ (outcome-t _ (name-q o s zone)) (names-read l)
-
-  list-for : (places : ℕ) (l : List ℕ) → Q (listFor o s places l)
-  unfolding listFor placed
-  list-for places l = before-t _ _ (names-read l) (need-t 46 (atMost (length l) places) _ refl (given _))
-
-  -- ---- by either way
-  module _ (w : Way) where
-    module _ (p : Point) where
-      group-walk : (i : ℕ) (g : GroupRecord) → W (groupWalk w o s p i g)
-      unfolding groupWalk
-      group-walk i g = either-way W (relevant (g .bbox) p) _ _ (either-way W (right (g .bbox) p) _ _ (walked _ _) (scans p w i g)) (walked _ _)
-
-      turn : (a : I32Point) (t : Turned) → W (turnWalk w o s p a t)
-      unfolding turnWalk
-      turn a t = go-t _ _ (joint p a (t .entry)) (λ u. group-walk (t .index) (t .group))
-
-      op-step : (i : ℕ) (z : Round) → W (opStep w o s p i z)
-      unfolding opStep
-      op-step i z = yields-t _ _ (turned i) (λ t. go-t _ _ (turn (z .exit) t) (λ u. walked _ _))
-
-      ops : (n i : ℕ) (z : Round) → W (opsFrom w o s p n i z)
-      unfolding opsFrom
-      ops zero i z = walked _ _
-      ops (suc n) i z = go-t _ _ (op-step i z) (λ y. ops n (i + 1) y)
-
-      ring-rest : (r : RingRecord) (t : Turned) → W (ringRest w o s p r t)
-      unfolding ringRest
-      ring-rest r t = go-t _ _ (ops _ _ _) (λ z. ring-end p r (t .entry) z)
-
-      ring-of : (r : RingRecord) → W (ringOf w o s p r)
-      unfolding ringOf
-      ring-of r = yields-t _ _ (turned (r .first)) (λ t. go-t _ _ (group-walk (t .index) (t .group)) (λ u. ring-rest r t))
-
-      ring-contains : (edge : Bool) (i : ℕ) → Q (ringContains w o s p edge i)
-      unfolding ringContains
-      ring-contains edge i = then-t _ _ (ring o s i) (λ r. either-way Q (contains (r .bbox) p) _ _ (verdict-t edge _ (ring-of r)) (given _))
-
-      -- ---- zones
-      poly : (i : ℕ) → Q (polyOf w o s p i)
-      unfolding polyOf
-      poly i =
-          then-t _ _ (list s (o .polys) _ i) (λ q.
-          either-way Q (contains (q .bbox) p) _ _
-          (then-t _ _ (ring-contains true (q .first)) (λ b. either-way Q b _ _ (sought (ringContains w o s p false) false true (ring-contains false) (q .count - 1) (q .first + 1)) (given _)))
-          (given _))
-
-      zone-q : (i : ℕ) → Q (zoneBy w o s p i)
-      unfolding zoneBy
-      zone-q i = then-t _ _ (list s (o .zones) _ i) (λ z. either-way Q (contains (z .bbox) p) _ _ (sought (polyOf w o s p) true false poly (z .count) (z .first)) (given _))
-
-    pub contains-by-q : (zone : ℕ) (q : I32Point) → Q (containsBy w o s zone q)
-    unfolding containsBy
-    contains-by-q zone q = need-t 45 (ltb zone (o .zones .count)) _ refl (either-way Q (inDomain q) _ _ (zone-q (pointOf q) zone) (given _))
-
-    -- ---- lookups
-    hit : (p : Point) (grid : Bool) (place : ℕ) → Q (hitAt w o s p grid place)
-    unfolding hitAt
-    hit p grid place = then-t _ _ (candidate-of grid place) (λ zone. then-t _ _ (zone-q p zone) (λ b. given _))
-
-    among : (lng lat : Float) (c : Chosen) → Q (lookupAmong w o s lng lat c)
-    unfolding lookupAmong
-    among lng lat none = given _
-    among lng lat (all n) = first-hit _ (hit (scaled lng lat) false) n 0
-    among lng lat (listed n place) = either-way Q (unlooked o n lng lat) _ _ (then-t _ _ (candidate-q o s place) (λ zone. given _)) (first-hit _ (hit (scaled lng lat) true) n place)
-
-    pub lookup-by-q : (lng lat : Float) → Q (lookupBy w o s lng lat)
-    unfolding lookupBy
-    lookup-by-q lng lat = then-t _ _ (candidates-q o s lng lat) (among lng lat)
-
-    hits-among : (p : Point) (c : Chosen) → Q (hitsAmong w o s p c)
-    unfolding hitsAmong
-    hits-among p none = given _
-    hits-among p (all n) = all-hits _ (hit p false) n 0
-    hits-among p (listed n place) = all-hits _ (hit p true) n place
-
-    hits : (lng lat : Float) → Q (hitsOf w o s lng lat)
-    unfolding hitsOf
-    hits lng lat = then-t _ _ (candidates-q o s lng lat) (hits-among _)
-
-    pub list-by-q : (lng lat : Float) (places : ℕ) → Q (listBy w o s lng lat places)
-    unfolding listBy
-    list-by-q lng lat places = then-t _ _ (hits lng lat) (list-for places)
+  pub list-by-q : (w : Way) (lng lat : Float) (places : ℕ) → Tabled 46 (listBy w o s lng lat places)
+  list-by-q = A.list-by-q s (Numbered 46) by-plain (by-broken s) o
 
   -- ---- by the plain one
-  pub contains-q : (zone : ℕ) (q : I32Point) → Q (containsAt o s zone q)
-  contains-q = contains-by-q plain
+  pub contains-q : (zone : ℕ) (q : I32Point) → Tabled 46 (containsAt o s zone q)
+  contains-q = A.contains-q s (Numbered 46) by-plain (by-broken s) o
 
-  pub lookup-q : (lng lat : Float) → Q (lookupOf o s lng lat)
-  lookup-q = lookup-by-q plain
+  pub lookup-q : (lng lat : Float) → Tabled 46 (lookupOf o s lng lat)
+  lookup-q = A.lookup-q s (Numbered 46) by-plain (by-broken s) o
 
-  pub list-q : (lng lat : Float) (places : ℕ) → Q (listOf o s lng lat places)
-  list-q = list-by-q plain
-
-  -- ---- the whole-number list, and what an entry is made of
-  whole-hit : (q : I32Point) (zone : ℕ) → Q (wholeHit o s q zone)
-  unfolding wholeHit
-  whole-hit q zone = then-t _ _ (contains-q zone q) (λ b. given _)
-
-  whole-hits : (q : I32Point) → Q (wholeHits o s q)
-  unfolding wholeHits
-  whole-hits q = all-hits _ (whole-hit q) (o .zones .count) 0
-
-  pub whole-q : (q : I32Point) (places : ℕ) → Q (wholeList o s q places)
-  unfolding wholeList
-  whole-q q places = then-t _ _ (whole-hits q) (list-for places)
-
-  fitting-q : (l : List ℕ) → Q (fitting l)
-  unfolding fitting
-  fitting-q l = need-t 45 (allBelow l) _ refl (given _)
-
-  pub answer-q : (places : ℕ) (q : I32Point) → Q (answerOf places o s q)
-  unfolding answerOf
-  answer-q places q = then-t _ _ (whole-q q places) fitting-q
+  -- ---- what an entry is made of
+  pub answer-q : (places : ℕ) (q : I32Point) → Tabled 46 (answerOf places o s q)
+  answer-q = A.answer-q s (Numbered 46) by-plain (by-broken s) o

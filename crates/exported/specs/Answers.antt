@@ -15,7 +15,8 @@ use lib.IntN.{ℤ, pos}
 use lib.Ieee.{Float}
 use lib.ListN.{length, drop}
 use Rattle.plane.specs.Domain.{inDomain}
-use Rattle.answer.specs.Answers.{Answer, ok, no}
+use Rattle.answer.specs.declared.Refusal.{Refusal}
+use Rattle.answer.specs.Answers.{Answer, ok, refused, no}
 use Rattle.reader_zones.specs.Zones.{zoneOf}
 use Rattle.reader_lookup.specs.Asking.{lookupOf}
 use Rattle.reader_check.specs.FullCheck.{lowestBroken}
@@ -29,7 +30,7 @@ use Rattle.replies.specs.Replies.{Sought, nowhere, inZone}
 -- r is an answer as a number: its value's own, or -1000 - n for refusal n
 pub record Tells {A : Type 0} (number : A → ℤ) (x : Answer A) (r : ℤ) : Type 0 where
   pub value : (a : A) → ok a ≡ x → r ≡ number a
-  pub refusal : (n : ℕ) → no n ≡ x → r ≡ refusing n
+  pub refusal : (k : Refusal) → refused k ≡ x → r ≡ refusing (k .number)
 
 -- 1 yes, 0 no
 abbrev pub yesNo : Bool → ℤ
