@@ -156,24 +156,14 @@ module _ (o : Opened) (s : List ℕ) (i : ℕ) where
       count-at-is e k a g = rw (← h, ← k, g)
 
   module _ (out : List ℤ) where
-    module _ (v : ChunkRecord) where
-      pub by-none : v .count ≡ 0 → no 32 ≡ decodeBy o s i out v
-      unfolding decodeBy
-      by-none z = rw z
+    module _ (v : ChunkRecord) (h : 0 < v .count) (room : 2 * v .count ≤ length out) where
+      pub by-far : (r : Refusal) → refused r ≡ endOf o s i → refused r ≡ decodeBy o s i out v
+      unfolding decodeBy bytesOf
+      by-far r k = rw (lt-ltb 0 (v .count) h, le-leb (2 * v .count) (length out) room, ← k)
 
-      module _ (h : 0 < v .count) where
-        pub by-short : length out < 2 * v .count → no 46 ≡ decodeBy o s i out v
-        unfolding decodeBy
-        by-short l = rw (lt-ltb 0 (v .count) h, lt-leb (2 * v .count) (length out) l)
-
-        module _ (room : 2 * v .count ≤ length out) where
-          pub by-far : (r : Refusal) → refused r ≡ endOf o s i → refused r ≡ decodeBy o s i out v
-          unfolding decodeBy bytesOf
-          by-far r k = rw (lt-ltb 0 (v .count) h, le-leb (2 * v .count) (length out) room, ← k)
-
-          pub by-is : (e : ℕ) → ok e ≡ endOf o s i → (a : ℕ) → a ≡ startOf o v → pointsIn s (v .count) a e ≡ decodeBy o s i out v
-          unfolding decodeBy bytesOf pointsIn
-          by-is e k a g = rw (lt-ltb 0 (v .count) h, le-leb (2 * v .count) (length out) room, ← k, g)
+      pub by-is : (e : ℕ) → ok e ≡ endOf o s i → (a : ℕ) → a ≡ startOf o v → pointsIn s (v .count) a e ≡ decodeBy o s i out v
+      unfolding decodeBy bytesOf pointsIn
+      by-is e k a g = rw (lt-ltb 0 (v .count) h, le-leb (2 * v .count) (length out) room, ← k, g)
 
     pub in-no : (r : Refusal) → refused r ≡ chunkAt o s i → refused r ≡ decodeIn o s i out
     unfolding decodeIn

@@ -20,6 +20,7 @@ use Rattle.reader_chunks.proofs.first_at.Reads as first-at-reads
 use Rattle.reader_chunks.proofs.trace_at.Reads as trace-at-reads
 use Rattle.reader_chunks.proofs.count_at.Reads as count-at-reads
 use Rattle.reader_chunks.proofs.decode_chunk_points.Reads as decode-chunk-points-reads
+use Rattle.reader_chunks.proofs.check_chunk_points.Reads as check-chunk-points-reads
 use Rattle.answer.proofs.AnswersLaws.{readBack, one-answer, checked-one}
 
 one-offset : (a b : Offset) (x : Answer ℕ) → toldOffset a ≡ x → toldOffset b ≡ x → a ≡ b
@@ -66,3 +67,6 @@ decode-chunk-points κ a r r' e e' p q = checked-one r r' (p .0 ∙ sym (q .0))
 -- the lent numbers at exit
 pub decode-chunk-points-memory : DeterminedMemory decode-chunk-points-reads.Learnt (λ κ e. e .1 .1 .1 .0 .now)
 decode-chunk-points-memory κ a r r' e e' p q = p .1 ∙ sym (q .1)
+
+pub check-chunk-points : Determined check-chunk-points-reads.Learnt
+check-chunk-points κ a r r' e e' p q = checked-one r r' (p ∙ sym q)

@@ -1,5 +1,6 @@
 -- What follows from the promises: answers are determined; what decoding accepts.
 pub mod ChunksLaws
+pub mod CheckedLaws
 pub mod Ranges
 pub mod Places
 pub mod Determined

@@ -5,7 +5,7 @@ ghost use lib.ListN.{length};
 ghost use Rattle.answer.specs.Answers.{checkedTold, outcome};
 ghost use Rattle.chunks.specs.Decode.{filled};
 ghost use Rattle.reader_chunks.specs.Chunks.{toldOffset, toldPoint, startOf, endOf, span, firstIn, scanIn, traceIn, countIn, firstAt, traceAt, countAt, decodeBy, decodeAt, decodedAt};
-ghost use Rattle.reader_chunks.specs.Steps.{pointsIn};
+ghost use Rattle.reader_chunks.specs.Steps.{pointsIn, roomFor};
 ghost use Rattle.tzb_core.specs.Reading.{scanned, toldTrace, toldCount};
 use answer::Checked;
 use answer::Refusal;
@@ -213,15 +213,26 @@ fn decode_in(s: &[u8], count: u16, a: usize, e: usize, out: &mut [i32]) -> Check
     }
 }
 
-// All points of chunk `index`, whose record is v: 32 and 46 before the bytes are sought.
+// 32 and 46 of a chunk of so many points and of room for so many numbers, before its bytes are sought.
+fn check_room(count: u16, room: usize) -> Checked
+    ensures { λ r. ⌜ checkedTold r ≡ roomFor count room ⌝ }
+{
+    if count == 0 {
+        return answer::fail(32);
+    }
+    if room < 2 * fields::wide16(count) {
+        return answer::fail(46);
+    }
+    Checked::Fine
+}
+
+// All points of chunk `index`, whose record is v.
 fn decode_record(o: Opened, s: &[u8], index: usize, v: ChunkRecord, out: &mut [i32]) -> Checked
     ensures { λ r. ⌜ (checkedTold r ≡ outcome (decodeBy o (now (s .entry)) index (now (out .entry)) v)) × (now (out .exit) ≡ filled (now (out .entry)) (decodeBy o (now (s .entry)) index (now (out .entry)) v)) ⌝ }
 {
-    if v.count == 0 {
-        return answer::fail(32);
-    }
-    if out.len() < 2 * fields::wide16(v.count) {
-        return answer::fail(46);
+    let c = check_room(v.count, out.len());
+    if let Checked::Refused(k) = c {
+        return Checked::Refused(k);
     }
     let t = end_of(o, s, index);
     match t {
@@ -239,5 +250,26 @@ pub fn decode_chunk_points(o: Opened, s: &[u8], index: usize, out: &mut [i32]) -
     match t {
         ChunkAt::Refused(k) => Checked::Refused(k),
         ChunkAt::At(v) => decode_record(o, s, index, v, out),
+    }
+}
+
+// What `decode_chunk_points` answers with that room. Nothing is written: the trace of a chunk is refused as its points are.
+pub fn check_chunk_points(o: Opened, s: &[u8], index: usize, out: &[i32]) -> Checked
+    ensures { λ r. ⌜ checkedTold r ≡ decodeAt o (now (s .entry)) index (now (out .entry)) ⌝ }
+{
+    let t = reader_records::chunk_at(o, s, index);
+    match t {
+        ChunkAt::Refused(k) => Checked::Refused(k),
+        ChunkAt::At(v) => {
+            let c = check_room(v.count, out.len());
+            if let Checked::Refused(k) = c {
+                return Checked::Refused(k);
+            }
+            let w = trace_at(o, s, index);
+            match w {
+                Traced::Refused(k) => Checked::Refused(k),
+                Traced::Points(_, _) => Checked::Fine,
+            }
+        }
     }
 }

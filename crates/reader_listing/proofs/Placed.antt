@@ -48,29 +48,29 @@ module _ (zones held : List ℕ) (k : ℕ) (h : Kept zones held k) (out next : L
       let n : 0 + length zones ≡ k = omega (arith, h .count) in
       e ∙ sets-eq zones out 0 (omega (arith, h .count)) ∙ ap (λ (j : ℕ). zones ++ drop j out) n
 
--- in the order of the names
-module _ (zones held : List ℕ) (k : ℕ) (h : Kept zones held k) (out : List ℕ) where
-  module _ (o : Opened) (s : List ℕ) (m : ℕ) (e : m ≡ k) where
-    pub place-short : length out < m → no 46 ≡ placed o s (length out) zones
+-- 46, or as many as there are, into that many places
+module _ (zones : List ℕ) (k : ℕ) (h : k ≡ length zones) (o : Opened) (s : List ℕ) (places m : ℕ) (e : m ≡ k) where
+  pub place-short : places < m → no 46 ≡ placed o s places zones
+  unfolding placed
+  place-short g = need-not 46 _ _ (gt-at (length zones) places (omega arith))
+
+  module _ (g : m ≤ places) where
+    pub place-done : ok (ordered (nameOr o s) zones) ≡ placed o s places zones
     unfolding placed
-    place-short g = need-not 46 _ _ (gt-at (length zones) (length out) (omega (arith, h .count)))
+    place-done = need-met 46 _ _ (le-at (length zones) places (omega arith))
 
-    module _ (g : m ≤ length out) where
-      place-done : ok (ordered (nameOr o s) zones) ≡ placed o s (length out) zones
-      unfolding placed
-      place-done = need-met 46 _ _ (le-at (length zones) (length out) (omega (arith, h .count)))
+    pub place-count : ok k ≡ howMany (placed o s places zones)
+    place-count = ap ok (h ∙ sym (same-length (nameOr o s) zones)) ∙ ap howMany place-done
 
-      pub place-count : ok k ≡ howMany (placed o s (length out) zones)
-      place-count = ap ok (h .count ∙ sym (same-length (nameOr o s) zones)) ∙ ap howMany place-done
-
-      -- the zones in candidate order in front of what was there; then the first m in order
-      pub place-memory : (next : List ℕ) → next ≡ zones ++ drop m out → (front : List ℕ) → front ≡ ordered (nameOr o s) (take m next) → front ++ drop m next ≡ left out (placed o s (length out) zones)
-      place-memory next w front f =
-          let c : length zones ≡ m = sym (h .count) ∙ sym e in
-          let name = nameOr o s in
-          ap₂ (λ (a b : List ℕ). a ++ b) (f ∙ ap (ordered name) (ap (take m) w ∙ take-at zones (drop m out) m c)) (ap (drop m) w ∙ drop-at zones (drop m out) m c)
-          ∙ ap (λ (j : ℕ). ordered name zones ++ drop j out) (sym c ∙ sym (same-length name zones))
-          ∙ ap (left out) place-done
+-- in the order of the names: the zones in candidate order in front of what was there; then the first m in order
+pub place-memory : (zones : List ℕ) (k : ℕ) → k ≡ length zones → (o : Opened) (s out : List ℕ) (m : ℕ) → m ≡ k → m ≤ length out
+    → (next : List ℕ) → next ≡ zones ++ drop m out → (front : List ℕ) → front ≡ ordered (nameOr o s) (take m next) → front ++ drop m next ≡ left out (placed o s (length out) zones)
+place-memory zones k h o s out m e g next w front f =
+    let c : length zones ≡ m = sym h ∙ sym e in
+    let name = nameOr o s in
+    ap₂ (λ (a b : List ℕ). a ++ b) (f ∙ ap (ordered name) (ap (take m) w ∙ take-at zones (drop m out) m c)) (ap (drop m) w ∙ drop-at zones (drop m out) m c)
+    ∙ ap (λ (j : ℕ). ordered name zones ++ drop j out) (sym c ∙ sym (same-length name zones))
+    ∙ ap (left out) (place-done zones k h o s (length out) m e g)
 
 -- ---- the list
 module _ (o : Opened) (s : List ℕ) (hit : ℕ → Answer Sought) (n from : ℕ) where
@@ -110,6 +110,14 @@ module _ (o : Opened) (s : List ℕ) (hit : ℕ → Answer Sought) (n from : ℕ
     pub list-is : (places : ℕ) → placed o s places (seen hit n from) ≡ (allHits hit n from then listFor o s places)
     unfolding listFor
     list-is places = rw (← (zones-are .0), zones-are .1)
+
+    -- how many they are, in that many places
+    module _ (places m : ℕ) (e : m ≡ k) where
+      pub list-short : places < m → no 46 ≡ howMany (allHits hit n from then listFor o s places)
+      list-short g = ap howMany (place-short (seen hit n from) k (zones-are .2) o s places m e g ∙ list-is places)
+
+      pub list-count : m ≤ places → ok k ≡ howMany (allHits hit n from then listFor o s places)
+      list-count g = place-count (seen hit n from) k (zones-are .2) o s places m e g ∙ ap howMany (list-is places)
 
     pub list-kept : (held₀ held : List ℕ) → held ≡ sets held₀ 0 (seen hit n from) → Kept (seen hit n from) held k
     list-kept held₀ held e = record { count = zones-are .2; kept = kept }

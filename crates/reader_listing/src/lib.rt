@@ -202,6 +202,34 @@ pub fn list_in(
     list_with(striped, numbers, o, s, p, grid, n, from, &mut held, out)
 }
 
+// How many zones of n candidates from a place on contain the point, if that many places hold all. None is kept.
+fn count_in(
+    striped: bool,
+    numbers: &[u32],
+    o: Opened,
+    s: &[u8],
+    p: Point,
+    grid: bool,
+    n: u32,
+    from: u32,
+    places: usize,
+) -> Listing
+    requires { ⌜ from + n < 0x1_0000_0000 ⌝ }
+    ensures { λ r. ⌜ listingTold r ≡ howMany (allHits (hitAt (wayOf striped (now (numbers .entry))) o (now (s .entry)) p grid) n from then listFor o (now (s .entry)) places) ⌝ }
+{
+    let mut none = [0u32; 0];
+    let t = gather(striped, numbers, o, s, p, grid, n, from, &mut none);
+    match t {
+        Listing::Zones(k) => {
+            if places < fields::wide(k) {
+                return Listing::Refused(answer::refuse(46));
+            }
+            Listing::Zones(k)
+        }
+        Listing::Refused(r) => Listing::Refused(r),
+    }
+}
+
 // All zones that a position lies in, in the order of their names, into the first places of `out`: how many there are. A refusal leaves the lent memory as it was, and places behind the zones are never touched.
 pub fn lookup_into_by(
     striped: bool,
@@ -251,4 +279,45 @@ pub fn lookup_into(o: Opened, s: &[u8], lng: f64, lat: f64, out: &mut [u32]) -> 
 {
     let none = [0u32; 0];
     lookup_into_by(false, &none, o, s, lng, lat, out)
+}
+
+// What `lookup_into_by` answers with that many places. Nothing is written.
+pub fn count_into_by(
+    striped: bool,
+    numbers: &[u32],
+    o: Opened,
+    s: &[u8],
+    lng: f64,
+    lat: f64,
+    places: usize,
+) -> Listing
+    ensures { λ r. ⌜ listingTold r ≡ howMany (listBy (wayOf striped (now (numbers .entry))) o (now (s .entry)) lng lat places) ⌝ }
+{
+    let c = reader_cells::candidates(o, s, lng, lat);
+    match c {
+        Choice::None => Listing::Zones(0),
+        Choice::All(n) => count_in(
+            striped,
+            numbers,
+            o,
+            s,
+            reader_lookup::scaled_at(lng, lat),
+            false,
+            n,
+            0,
+            places,
+        ),
+        Choice::Listed(n, place) => count_in(
+            striped,
+            numbers,
+            o,
+            s,
+            reader_lookup::scaled_at(lng, lat),
+            true,
+            n,
+            place,
+            places,
+        ),
+        Choice::Refused(k) => Listing::Refused(k),
+    }
 }

@@ -13,12 +13,12 @@ use Rattle.plane.specs.Segment.{samePoint}
 use Rattle.plane.specs.Lines.{lastFrom, firstOf, lastOf, first-reverse, last-reverse}
 use Rattle.plane.specs.Runs.{run}
 use Rattle.answer.specs.declared.Refusal.{Refusal}
-use Rattle.answer.specs.Answers.{Answer, ok, refused, _then_, Given, holds}
+use Rattle.answer.specs.Answers.{Answer, ok, refused, _then_, Given, holds, behind}
 use Rattle.answer.proofs.AnswersLaws.{holds-ok}
 use Rattle.boxes.specs.Box.{boxInDomain}
 use Rattle.chunks.specs.Along.{overFrom}
 use Rattle.chunks.specs.Count.{withSide, counter}
-use Rattle.chunks.proofs.Counting.{counted-list}
+use Rattle.chunks.proofs.Counting.{counted-list, counted-behind}
 use Rattle.shapes.specs.Shapes.{points, groupPoints, legPoints}
 use Rattle.shapes.specs.Layout as Layout
 use Rattle.shapes.specs.Words.{sidesFrom, neighbours, joining, roundTo, sidesOf, ringSides, proper, hasRoom}
@@ -185,7 +185,7 @@ module _ (o : Opened) (s : List ℕ) where
   unfolding countAt countIn
   count-given i h a k =
       let c = chunkShape o s i in
-      rw (← h .there, ← h .ends, ← h .spans) (sym (counted-list (h .bytes) (h .found .count) (c .first) (c .rest) (h .decodes) a k))
+      rw (← h .there, ← h .ends, ← h .spans) (counted-behind _ a (c .first ∷ c .rest) k ∙ ap (behind _) (sym (counted-list (h .bytes) (h .found .count) (c .first) (c .rest) (h .decodes) a k)))
 
   -- ---- chunks in a row
   abbrev row : ℕ → ℕ → List P

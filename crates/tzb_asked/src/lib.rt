@@ -129,6 +129,17 @@ pub fn decode(record: &[u8], file: &[u8], chunk: u32, out: &mut [i32]) -> Count
     }
 }
 
+// What it answers with that room: whether the points could be decoded. Nothing is written.
+pub fn check_decode(record: &[u8], file: &[u8], chunk: u32, out: &[i32]) -> Checked
+    ensures { λ r. ⌜ checkedTold r ≡ outcome (decodeAsked (now («record» .entry)) (now (file .entry)) chunk (now (out .entry))) ⌝ }
+{
+    let a = tzb_record::read_record(record);
+    match a {
+        RecordRead::Refused(k) => Checked::Refused(k),
+        RecordRead::Is(o) => reader_chunks::check_chunk_points(o, file, fields::wide(chunk), out),
+    }
+}
+
 // The zone that a position lies in.
 pub fn lookup_by(
     striped: bool,
@@ -171,6 +182,33 @@ pub fn lookup_into_by(
             lng,
             lat,
             zones,
+        ),
+    }
+}
+
+// What it answers with that many places. Nothing is written.
+pub fn count_into_by(
+    striped: bool,
+    numbers: &[u32],
+    record: &[u8],
+    file: &[u8],
+    lng: f64,
+    lat: f64,
+    places: usize,
+) -> Listing
+    ensures { λ r. ⌜ listingTold r ≡ howMany (listAskedBy (wayOf striped (now (numbers .entry))) (now («record» .entry)) (now (file .entry)) lng lat places) ⌝ }
+{
+    let a = tzb_record::read_record(record);
+    match a {
+        RecordRead::Refused(k) => Listing::Refused(k),
+        RecordRead::Is(o) => reader_listing::count_into_by(
+            striped,
+            numbers,
+            o,
+            file,
+            lng,
+            lat,
+            places,
         ),
     }
 }

@@ -3,10 +3,13 @@
 use Prim.Native.Nat.{ℕ, _+_, _≤_, _<_}
 use native.Mathlib.Omega.{arith}
 use mathlib.Core.Path.{_≡_, refl, ap}
+use mathlib.Core.List.{List}
 use lib.IntN.{pos, negsuc}
+use borrow.Author.Tests.{lt-ltb, le-ltb}
 use Rattle.answer.specs.declared.Refusal.{Refusal}
-use Rattle.answer.specs.Answers.{Answer, ok, refused, outcome}
-use Rattle.tzb_codes.specs.Codes.{refusalCode, doneCode, numberCode, startCode, endCode, wholeCode}
+use Rattle.answer.specs.Refusals.{refusal}
+use Rattle.answer.specs.Answers.{Answer, ok, refused, outcome, howMany}
+use Rattle.tzb_codes.specs.Codes.{refusalCode, doneCode, numberCode, startCode, endCode, wholeCode, placeCode, placeOf}
 
 module _ (r : Refusal) where
   pub code-small : r .number < 1000 → negsuc (999 + r .number) ≡ refusalCode r
@@ -39,3 +42,26 @@ module _ (n : ℕ) where
 
   pub whole-long : 0x8000_0000_0000_0000 ≤ n → pos 0x7fff_ffff_ffff_ffff ≡ wholeCode n
   whole-long h = ap pos (omega arith)
+
+-- ---- places
+module _ (r : Refusal) where
+  pub place-told : r .place < 0x8000_0000_0000_0000 → pos (r .place) ≡ placeCode r
+  unfolding placeCode
+  place-told h = rw (lt-ltb (r .place) 0x8000_0000_0000_0000 h)
+
+  pub place-none : 0x8000_0000_0000_0000 ≤ r .place → negsuc 0 ≡ placeCode r
+  unfolding placeCode
+  place-none h = rw (le-ltb (r .place) 0x8000_0000_0000_0000 h)
+
+-- a refusal that is made without a place has none
+pub place-less : (n : ℕ) → negsuc 0 ≡ placeCode (refusal n)
+place-less n = place-none (refusal n) (omega arith)
+
+-- a refusal's place does not depend on what else is told of the answer
+pub place-outcome : {A : Type 0} (x : Answer A) → placeOf (outcome x) ≡ placeOf x
+place-outcome (ok a) = refl
+place-outcome (refused k) = refl
+
+pub place-many : {A : Type 0} (x : Answer (List A)) → placeOf (howMany x) ≡ placeOf x
+place-many (ok l) = refl
+place-many (refused k) = refl

@@ -15,6 +15,11 @@ use Rattle.tzb_codes.proofs.rule_of.Reads as rule-of-reads
 use Rattle.tzb_codes.proofs.needed_code.Reads as needed-code-reads
 use Rattle.tzb_codes.proofs.drawing_code.Reads as drawing-code-reads
 use Rattle.tzb_codes.proofs.seen_code.Reads as seen-code-reads
+use Rattle.tzb_codes.proofs.place_code.Reads as place-code-reads
+use Rattle.tzb_codes.proofs.found_place.Reads as found-place-reads
+use Rattle.tzb_codes.proofs.verdict_place.Reads as verdict-place-reads
+use Rattle.tzb_codes.proofs.listing_place.Reads as listing-place-reads
+use Rattle.tzb_codes.proofs.checked_place.Reads as checked-place-reads
 
 pub bit : Determined bit-reads.Learnt
 bit κ a r r' e e' p q = p ∙ sym q
@@ -54,3 +59,18 @@ drawing-code κ a r r' e e' p q = p ∙ sym q
 
 pub seen-code : Determined seen-code-reads.Learnt
 seen-code κ a r r' e e' p q = p ∙ sym q
+
+pub place-code : Determined place-code-reads.Learnt
+place-code κ a r r' e e' p q = p ∙ sym q
+
+pub found-place : Determined found-place-reads.Learnt
+found-place κ a r r' e e' p q = p ∙ sym q
+
+pub verdict-place : Determined verdict-place-reads.Learnt
+verdict-place κ a r r' e e' p q = p ∙ sym q
+
+pub listing-place : Determined listing-place-reads.Learnt
+listing-place κ a r r' e e' p q = p ∙ sym q
+
+pub checked-place : Determined checked-place-reads.Learnt
+checked-place κ a r r' e e' p q = p ∙ sym q

@@ -1,7 +1,8 @@
 -- Answers as single numbers, for the exports. Document 01, "Port order": -1000 - n for refusal n.
 -- Assumes nothing.
 use Prim.Native.Nat.{ℕ, _+_, _*_, min}
-use mathlib.Core.Bool.{Bool, true, false}
+use mathlib.Core.Bool.{Bool, true, false, cond}
+use lib.Dec.{ltb}
 use lib.IntN.{ℤ, pos, negsuc}
 use Rattle.answer.specs.declared.Refusal.{Refusal}
 use Rattle.answer.specs.Answers.{Answer, ok, refused}
@@ -95,3 +96,13 @@ abbrev pub seenCode : Sight → ℤ
 seenCode On = pos 2
 seenCode (Off true) = pos 1
 seenCode (Off false) = pos 0
+
+-- ---- places
+-- Document 02, request 2026-06: "a second one returns the place in 64 bits, or -1 where there is none"
+unfoldable pub placeCode : Refusal → ℤ
+placeCode r = cond (ltb (r .place) 0x8000_0000_0000_0000) (pos (r .place)) (negsuc 0)
+
+-- of an answer; -1 also where it is no refusal
+abbrev pub placeOf : {A : Type 0} → Answer A → ℤ
+placeOf (ok a) = negsuc 0
+placeOf (refused r) = placeCode r

@@ -2,8 +2,8 @@
 ghost use mathlib.Core.Path.{_≡_};
 ghost use Rattle.answer.specs.Answers.{checkedTold};
 ghost use Rattle.plane.specs.Sight.{seenTold};
-ghost use Rattle.tzb_codes.specs.Codes.{bitOf, refusalCode, doneCode, kindCode, listedOf, insideCode, zoneCode, checkCode, ruleOf, wholeCode, neededCode, drawnCode, seenCode};
-ghost use Rattle.replies.specs.Replies.{checkTold, choiceTold, verdictTold, foundTold, neededTold, drawingTold};
+ghost use Rattle.tzb_codes.specs.Codes.{bitOf, refusalCode, doneCode, kindCode, listedOf, insideCode, zoneCode, checkCode, ruleOf, wholeCode, neededCode, drawnCode, seenCode, placeCode, placeOf};
+ghost use Rattle.replies.specs.Replies.{checkTold, choiceTold, verdictTold, foundTold, neededTold, drawingTold, listingTold};
 use answer::Checked;
 use answer::Refusal;
 use plane::Seen;
@@ -11,6 +11,7 @@ use replies::Choice;
 use replies::Drawing;
 use replies::Found;
 use replies::FullCheck;
+use replies::Listing;
 use replies::Needed;
 use replies::Verdict;
 
@@ -158,5 +159,57 @@ pub fn seen_code(s: Seen) -> i32
     match s {
         Seen::On => 2,
         Seen::Off(counts) => { if counts { 1 } else { 0 } }
+    }
+}
+
+// ---- places
+
+// The place of the byte that a refusal is about, -1 where there is none.
+pub fn place_code(r: Refusal) -> i64
+    ensures { λ z. ⌜ z ≡ placeCode r ⌝ }
+{
+    let p = r.place;
+    if p < 0x8000_0000_0000_0000 {
+        p as i64
+    } else {
+        -1
+    }
+}
+
+// The same of an answer, -1 also where it is no refusal.
+pub fn found_place(f: Found) -> i64
+    ensures { λ r. ⌜ r ≡ placeOf (foundTold f) ⌝ }
+{
+    match f {
+        Found::None => -1,
+        Found::Zone(_) => -1,
+        Found::Refused(k) => place_code(k),
+    }
+}
+
+pub fn verdict_place(v: Verdict) -> i64
+    ensures { λ r. ⌜ r ≡ placeOf (verdictTold v) ⌝ }
+{
+    match v {
+        Verdict::Is(_) => -1,
+        Verdict::Refused(k) => place_code(k),
+    }
+}
+
+pub fn listing_place(l: Listing) -> i64
+    ensures { λ r. ⌜ r ≡ placeOf (listingTold l) ⌝ }
+{
+    match l {
+        Listing::Zones(_) => -1,
+        Listing::Refused(k) => place_code(k),
+    }
+}
+
+pub fn checked_place(c: Checked) -> i64
+    ensures { λ r. ⌜ r ≡ placeOf (checkedTold c) ⌝ }
+{
+    match c {
+        Checked::Fine => -1,
+        Checked::Refused(k) => place_code(k),
     }
 }

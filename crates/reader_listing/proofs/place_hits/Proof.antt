@@ -1,6 +1,7 @@
 -- `place_hits` meets its contract: 46, or the zones written and then put in order.
 -- Assumes nothing.
 use mathlib.Core.Path.{sym, ap, _∙_}
+use lib.ListN.{length}
 use lib.Seq.{length-take-le}
 use Rattle.answer.specs.Answers.{refused, howMany, left}
 use Rattle.reader_listing.proofs.Placed.{kept-by, place-short, place-count, place-memory}
@@ -18,7 +19,7 @@ refuse-requires c κs = search needs
 returns : tie.Need-returns
 returns c =
     let start = c .before .before .before .before .before .before .before in
-    let e = place-short _ _ _ (start .pre .1) (start .args .out .now) _ _ _ (c .before .before .wide .ensures .0) (c .before .if1 .taken) in
+    let e = place-short _ _ (start .pre .1 .count) _ _ (length (start .args .out .now)) _ (c .before .before .wide .ensures .0) (c .before .if1 .taken) in
     (ap refused (c .refuse .ensures) ∙ ap howMany e, ap (left (start .args .out .now)) e)
 
 write-hits-requires : tie.Need-write-hits-requires
@@ -45,8 +46,8 @@ returns-2 c =
     let w = c .before .before .before .before .before .before in
     let t = w .before .before in
     let start = t .before .before .before .before .before .before in (
-      place-count _ _ _ (start .pre .1) (start .args .out .now) _ _ _ (t .before .wide .ensures .0) (t .if1 .left),
-      place-memory _ _ _ (start .pre .1) (start .args .out .now) _ _ _ (t .before .wide .ensures .0) (t .if1 .left) _ (w .write-hits .ensures) _ (c .before .before .sort-zones .ensures),
+      place-count _ _ (start .pre .1 .count) _ _ (length (start .args .out .now)) _ (t .before .wide .ensures .0) (t .if1 .left),
+      place-memory _ _ (start .pre .1 .count) _ _ (start .args .out .now) _ (t .before .wide .ensures .0) (t .if1 .left) _ (w .write-hits .ensures) _ (c .before .before .sort-zones .ensures),
     )
 
 pub place-hits-spec : {M : Type 1} → statement M
