@@ -28,7 +28,7 @@ refusal-below n k e = apart n _ e
 pub same-number : (n m : ℕ) → pos n ≡ pos m → n ≡ m
 same-number n m e = cc
 
-same-below : (n m : ℕ) → negsuc n ≡ negsuc m → n ≡ m
+pub same-below : (n m : ℕ) → negsuc n ≡ negsuc m → n ≡ m
 same-below n m e = cc
 
 pub same-refusing : (n m : ℕ) → refusing n ≡ refusing m → n ≡ m

@@ -10,10 +10,10 @@ use Rattle.tzb.specs.FullCheck.{fullCheckOf}
 use Rattle.chunks.specs.Decode.{filled}
 use Rattle.tzb_asked.specs.Asked.{zonesAsked, nameAsked, endsAsked, endsAfter, choiceAsked, candidateAsked, containsAsked, decodeAsked, lookupAsked, listAsked, containsAskedBy, lookupAskedBy, listAskedBy, needAsked, stripesAsked}
 use Rattle.reader_ways.specs.Ways.{striped}
-use Rattle.tzb_codes.specs.Codes.{doneCode, kindCode, insideCode, zoneCode, checkCode, ruleOf, neededCode, drawnCode, numberCode, startCode, endCode}
+use Rattle.tzb_codes.specs.Codes.{doneCode, kindCode, insideCode, zoneCode, checkCode, ruleOf, neededCode, drawnCode, numberCode, startCode, endCode, placeOf}
 use Rattle.tzb_map.specs.Map.{mapOf, mapIn, howLong, asAnswer}
 use Rattle.tzb_c.specs.Opens.{openInto, lookupOnce}
-use Rattle.exported.specs.Calls.{Call, Tzb-open, Tzb-full-check, Tzb-full-check-rule, Tzb-zone-count, Tzb-contains, Tzb-lookup, Tzb-ask, Tzb-ask-all, Tzb-decode, Tzb-name, Tzb-name-start, Tzb-name-end, Tzb-choice, Tzb-candidate, Tzb-map, Tzb-map-length, Tzb-stripes-need, Tzb-stripes, Tzb-contains-striped, Tzb-ask-striped, Tzb-ask-all-striped, Tzb-journal-ask, Tzb-journal-write, Tzb-journal-read}
+use Rattle.exported.specs.Calls.{Call, Tzb-open, Tzb-full-check, Tzb-full-check-rule, Tzb-zone-count, Tzb-contains, Tzb-lookup, Tzb-ask, Tzb-ask-all, Tzb-decode, Tzb-name, Tzb-name-start, Tzb-name-end, Tzb-choice, Tzb-candidate, Tzb-map, Tzb-map-length, Tzb-stripes-need, Tzb-stripes, Tzb-contains-striped, Tzb-ask-striped, Tzb-ask-all-striped, Tzb-journal-ask, Tzb-journal-write, Tzb-journal-read, Tzb-contains-place, Tzb-lookup-place, Tzb-ask-place, Tzb-ask-all-place, Tzb-decode-place, Tzb-contains-striped-place, Tzb-ask-striped-place, Tzb-ask-all-striped-place}
 use Rattle.plane.specs.Places.{point}
 use Rattle.answer.specs.Answers.{ok, _then_, left, howMany}
 use Rattle.entries.specs.Entry.{entry}
@@ -159,3 +159,35 @@ module _ {places : ℕ} {bytes : List ℕ} {position position' : List ℤ} {zone
 
   pub journal-read-zones : Tzb-journal-read places bytes position zones r position' zones' → zones' ≡ left zones (journalRead places bytes (length position) (length zones) then λ e. ok (e .zones))
   journal-read-zones c = by-contract (λ (v : ℕ × List ℕ × List ℤ × List ℕ × ℤ × List ℤ × List ℕ). v .6 ≡ left (v .3) (journalRead (v .0) (v .1) (length (v .2)) (length (v .3)) then λ e. ok (e .zones))) (λ κ a r e p. p .1 .1) c
+
+-- ---- the place
+module _ {file : List ℕ} where
+  pub lookup-place-answer : {lng lat : Float} {r : ℤ} → Tzb-lookup-place file lng lat r → r ≡ placeOf (lookupOnce file lng lat)
+  lookup-place-answer c = by-contract (λ (v : List ℕ × Float × Float × ℤ). v .3 ≡ placeOf (lookupOnce (v .0) (v .1) (v .2))) (λ κ a r e p. p) c
+
+  module _ {held : List ℕ} where
+    pub contains-place-answer : {zone : ℕ} {x y r : ℤ} → Tzb-contains-place held file zone x y r → r ≡ placeOf (containsAsked held file zone (point x y))
+    contains-place-answer c = by-contract (λ (v : List ℕ × List ℕ × ℕ × ℤ × ℤ × ℤ). v .5 ≡ placeOf (containsAsked (v .0) (v .1) (v .2) (point (v .3) (v .4)))) (λ κ a r e p. p) c
+
+    pub decode-place-answer : {chunk : ℕ} {numbers : List ℤ} {r : ℤ} → Tzb-decode-place held file chunk numbers r → r ≡ placeOf (decodeAsked held file chunk numbers)
+    decode-place-answer c = by-contract (λ (v : List ℕ × List ℕ × ℕ × List ℤ × ℤ). v .4 ≡ placeOf (decodeAsked (v .0) (v .1) (v .2) (v .3))) (λ κ a r e p. p) c
+
+    module _ {lng lat : Float} {r : ℤ} where
+      pub ask-place-answer : Tzb-ask-place held file lng lat r → r ≡ placeOf (lookupAsked held file lng lat)
+      ask-place-answer c = by-contract (λ (v : List ℕ × List ℕ × Float × Float × ℤ). v .4 ≡ placeOf (lookupAsked (v .0) (v .1) (v .2) (v .3))) (λ κ a r e p. p) c
+
+      pub all-place-answer : {places : List ℕ} → Tzb-ask-all-place held file lng lat places r → r ≡ placeOf (listAsked held file lng lat (length places))
+      all-place-answer c = by-contract (λ (v : List ℕ × List ℕ × Float × Float × List ℕ × ℤ). v .5 ≡ placeOf (listAsked (v .0) (v .1) (v .2) (v .3) (length (v .4)))) (λ κ a r e p. p) c
+
+    module _ {numbers : List ℕ} where
+      pub contains-striped-place-answer : {zone : ℕ} {x y r : ℤ} → Tzb-contains-striped-place held numbers file zone x y r → r ≡ placeOf (containsAskedBy (striped numbers) held file zone (point x y))
+      contains-striped-place-answer c =
+          by-contract (λ (v : List ℕ × List ℕ × List ℕ × ℕ × ℤ × ℤ × ℤ). v .6 ≡ placeOf (containsAskedBy (striped (v .1)) (v .0) (v .2) (v .3) (point (v .4) (v .5)))) (λ κ a r e p. p) c
+
+      module _ {lng lat : Float} {r : ℤ} where
+        pub ask-striped-place-answer : Tzb-ask-striped-place held numbers file lng lat r → r ≡ placeOf (lookupAskedBy (striped numbers) held file lng lat)
+        ask-striped-place-answer c = by-contract (λ (v : List ℕ × List ℕ × List ℕ × Float × Float × ℤ). v .5 ≡ placeOf (lookupAskedBy (striped (v .1)) (v .0) (v .2) (v .3) (v .4))) (λ κ a r e p. p) c
+
+        pub all-striped-place-answer : {places : List ℕ} → Tzb-ask-all-striped-place held numbers file lng lat places r → r ≡ placeOf (listAskedBy (striped numbers) held file lng lat (length places))
+        all-striped-place-answer c =
+            by-contract (λ (v : List ℕ × List ℕ × List ℕ × Float × Float × List ℕ × ℤ). v .6 ≡ placeOf (listAskedBy (striped (v .1)) (v .0) (v .2) (v .3) (v .4) (length (v .5)))) (λ κ a r e p. p) c

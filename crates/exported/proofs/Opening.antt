@@ -20,11 +20,11 @@ use Rattle.reader_records.specs.declared.ChunkRecord.{ChunkRecord}
 use Rattle.reader_records.specs.declared.GroupRecord.{GroupRecord}
 use Rattle.reader_dirs.specs.Dirs.{chunkCheck, chunkCheckAt, chunksCheck, groupCheck, groupCheckAt, groupsCheck}
 use Rattle.tzb.specs.Opening.{tableCheck, sizesCheck, namesIn, gridIn, contentsCheck, gridIs, openedIs, openOf}
-use Rattle.exported.proofs.Tabled.{Tabled, given, fine-t, claim-t, deny-t, next-t, end-t, each-t, before-t, either-way}
+use Rattle.exported.proofs.Tabled.{Unplaced, Only, Tabled, wider, given, fine-t, claim-t, deny-t, next-t, end-t, each-t, before-t, either-way}
 
 -- 1 to 34
 abbrev C : Check → Type 0
-C c = Tabled 34 c
+C c = Only (Unplaced 34) c
 
 module _ (s : List ℕ) where
   -- ---- 1 to 11
@@ -168,6 +168,9 @@ module _ (s : List ℕ) (o : Opened) where
       (next-t _ _ (either-way C (same (p .flags % 2) 0) fine (gridCheck s (p .gridpart) g (p .zones)) fine-t (grid s (p .gridpart) g (p .zones)))
       (next-t _ _ chunks (next-t _ _ groups end-t))))
 
-pub open-tabled : (s : List ℕ) → Tabled 34 (openOf s)
+pub open-unplaced : (s : List ℕ) → Only (Unplaced 34) (openOf s)
 unfolding openOf
-open-tabled s = before-t _ _ (table s) (before-t _ _ (contents s (openedIs s) (sectionsOf s) (gridIs s)) (given _))
+open-unplaced s = before-t _ _ (table s) (before-t _ _ (contents s (openedIs s) (sectionsOf s) (gridIs s)) (given _))
+
+pub open-tabled : (s : List ℕ) → Tabled 34 (openOf s)
+open-tabled s = wider (λ k h. h .numbered) (openOf s) (open-unplaced s)

@@ -10,7 +10,7 @@ use borrow.Author.Tests.{leb-true}
 use Rattle.basics.specs.Truth.{and-l, and-r}
 use Rattle.plane.specs.Sight.{Sight, On, Off}
 use Rattle.answer.specs.declared.Refusal.{Refusal}
-use Rattle.answer.specs.Refusals.{refusal}
+use Rattle.answer.specs.Refusals.{noPlace, refusal}
 use Rattle.answer.specs.Answers.{Answer, ok, refused, need, Check, fine, _then_, _before_, outcome}
 use Rattle.answer.specs.Walks.{Walk, broken, on, off, add, _go_, _yields_, must, verdict}
 use Rattle.answer.specs.Checks.{claim, deny, andThen, first, each}
@@ -31,6 +31,11 @@ numbered top n h =
       least = leb-true 1 n (and-l (leb 1 n) (leb n top) h);
       greatest = leb-true n top (and-r (leb 1 n) (leb n top) h);
     }
+
+-- such a refusal that has no place
+pub record Unplaced (top : ℕ) (k : Refusal) : Type 0 where
+  pub numbered : Numbered top k
+  pub nowhere : k .place ≡ noPlace
 
 -- of one of two
 pub either-way : {A : Type 0} (P : A → Type 0) (b : Bool) (x y : A) → P x → P y → P (cond b x y)
@@ -72,13 +77,17 @@ pub then-e : {P : Refusal → Type 0} {A B : Type 0} (x : Answer A) (f : A → A
 then-e (ok a) f h g = g a refl
 then-e (refused k) f h g = record { by = h .by }
 
+-- of a wider kind
+pub wider : {P Q : Refusal → Type 0} → ((k : Refusal) → P k → Q k) → {A : Type 0} (x : Answer A) → Only P x → Only Q x
+wider f (ok a) h = record { by = tt }
+wider f (refused k) h = record { by = f k (h .by) }
+
 -- a higher top
 pub raised : (top more : ℕ) → top ≤ more → (k : Refusal) → Numbered top k → Numbered more k
 raised top more l k h = record { least = h .least; greatest = omega (arith, h .greatest) }
 
 pub higher : (top more : ℕ) → top ≤ more → {A : Type 0} (x : Answer A) → Tabled top x → Tabled more x
-higher top more l (ok a) h = record { by = tt }
-higher top more l (refused k) h = record { by = raised top more l k (h .by) }
+higher top more l x h = wider (raised top more l) x h
 
 -- ---- walks
 abbrev pub WalkBy : (Refusal → Type 0) → {A : Type 0} → Walk A → Type 0
@@ -157,12 +166,13 @@ module _ {P : Refusal → Type 0} where
   before-t (ok u) x f h = h
   before-t (refused k) x f h = record { by = f .by }
 
+-- of the table, without a place
 module _ {top : ℕ} where
-  pub claim-t : (n : ℕ) (b : Bool) → Fit top n → Tabled top (claim n b)
+  pub claim-t : (n : ℕ) (b : Bool) → Fit top n → Only (Unplaced top) (claim n b)
   unfolding claim
   claim-t n true f = record { by = tt }
-  claim-t n false f = record { by = numbered top n f }
+  claim-t n false f = record { by = record { numbered = numbered top n f; nowhere = refl } }
 
-  pub deny-t : (n : ℕ) (b : Bool) → Fit top n → Tabled top (deny n b)
+  pub deny-t : (n : ℕ) (b : Bool) → Fit top n → Only (Unplaced top) (deny n b)
   unfolding deny
   deny-t n b f = claim-t n (not b) f

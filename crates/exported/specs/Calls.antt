@@ -22,6 +22,14 @@ use Rattle.tzb_c.proofs.tzb_contains_striped.Reads as contains-striped
 use Rattle.tzb_c.proofs.tzb_ask_striped.Reads as ask-striped
 use Rattle.tzb_c.proofs.tzb_ask_all_striped.Reads as ask-all-striped
 use Rattle.tzb_c.proofs.tzb_decode.Reads as decode
+use Rattle.tzb_c.proofs.tzb_contains_place.Reads as contains-place
+use Rattle.tzb_c.proofs.tzb_lookup_place.Reads as lookup-place
+use Rattle.tzb_c.proofs.tzb_ask_place.Reads as ask-place
+use Rattle.tzb_c.proofs.tzb_ask_all_place.Reads as ask-all-place
+use Rattle.tzb_c.proofs.tzb_decode_place.Reads as decode-place
+use Rattle.tzb_c.proofs.tzb_contains_striped_place.Reads as contains-striped-place
+use Rattle.tzb_c.proofs.tzb_ask_striped_place.Reads as ask-striped-place
+use Rattle.tzb_c.proofs.tzb_ask_all_striped_place.Reads as ask-all-striped-place
 use Rattle.tzb_c.proofs.tzb_name.Reads as name
 use Rattle.tzb_c.proofs.tzb_name_start.Reads as name-start
 use Rattle.tzb_c.proofs.tzb_name_end.Reads as name-end
@@ -170,3 +178,43 @@ Tzb-journal-read places bytes position zones r position' zones' =
     Call (ℕ × List ℕ × List ℤ × List ℕ × ℤ × List ℤ × List ℕ) journal-read.Learnt
     (λ κ a r e. (a .0, a .1 .0 .now, a .1 .1 .0 .now, a .1 .1 .1 .0 .now, r, e .1 .1 .0 .now, e .1 .1 .1 .0 .now))
     (places, bytes, position, zones, r, position', zones')
+
+-- ---- the second exports, with the arguments of the first, which return the place
+abbrev pub Tzb-lookup-place : (file : List ℕ) (lng lat : Float) (place : ℤ) → Type 0
+Tzb-lookup-place file lng lat place = Call (List ℕ × Float × Float × ℤ) lookup-place.Learnt (λ κ a r e. (a .0 .now, a .1 .0, a .1 .1 .0, r)) (file, lng, lat, place)
+
+abbrev pub Tzb-ask-place : (held file : List ℕ) (lng lat : Float) (place : ℤ) → Type 0
+Tzb-ask-place held file lng lat place =
+    Call (List ℕ × List ℕ × Float × Float × ℤ) ask-place.Learnt (λ κ a r e. (a .0 .now, a .1 .0 .now, a .1 .1 .0, a .1 .1 .1 .0, r)) (held, file, lng, lat, place)
+
+abbrev pub Tzb-ask-all-place : (held file : List ℕ) (lng lat : Float) (places : List ℕ) (place : ℤ) → Type 0
+Tzb-ask-all-place held file lng lat places place =
+    Call (List ℕ × List ℕ × Float × Float × List ℕ × ℤ) ask-all-place.Learnt
+    (λ κ a r e. (a .0 .now, a .1 .0 .now, a .1 .1 .0, a .1 .1 .1 .0, a .1 .1 .1 .1 .0 .now, r))
+    (held, file, lng, lat, places, place)
+
+abbrev pub Tzb-contains-place : (held file : List ℕ) (zone : ℕ) (x y : ℤ) (place : ℤ) → Type 0
+Tzb-contains-place held file zone x y place =
+    Call (List ℕ × List ℕ × ℕ × ℤ × ℤ × ℤ) contains-place.Learnt (λ κ a r e. (a .0 .now, a .1 .0 .now, a .1 .1 .0, a .1 .1 .1 .0, a .1 .1 .1 .1 .0, r)) (held, file, zone, x, y, place)
+
+abbrev pub Tzb-decode-place : (held file : List ℕ) (chunk : ℕ) (numbers : List ℤ) (place : ℤ) → Type 0
+Tzb-decode-place held file chunk numbers place =
+    Call (List ℕ × List ℕ × ℕ × List ℤ × ℤ) decode-place.Learnt (λ κ a r e. (a .0 .now, a .1 .0 .now, a .1 .1 .0, a .1 .1 .1 .0 .now, r)) (held, file, chunk, numbers, place)
+
+abbrev pub Tzb-contains-striped-place : (held numbers file : List ℕ) (zone : ℕ) (x y : ℤ) (place : ℤ) → Type 0
+Tzb-contains-striped-place held numbers file zone x y place =
+    Call (List ℕ × List ℕ × List ℕ × ℕ × ℤ × ℤ × ℤ) contains-striped-place.Learnt
+    (λ κ a r e. (a .0 .now, a .1 .0 .now, a .1 .1 .0 .now, a .1 .1 .1 .0, a .1 .1 .1 .1 .0, a .1 .1 .1 .1 .1 .0, r))
+    (held, numbers, file, zone, x, y, place)
+
+abbrev pub Tzb-ask-striped-place : (held numbers file : List ℕ) (lng lat : Float) (place : ℤ) → Type 0
+Tzb-ask-striped-place held numbers file lng lat place =
+    Call (List ℕ × List ℕ × List ℕ × Float × Float × ℤ) ask-striped-place.Learnt
+    (λ κ a r e. (a .0 .now, a .1 .0 .now, a .1 .1 .0 .now, a .1 .1 .1 .0, a .1 .1 .1 .1 .0, r))
+    (held, numbers, file, lng, lat, place)
+
+abbrev pub Tzb-ask-all-striped-place : (held numbers file : List ℕ) (lng lat : Float) (places : List ℕ) (place : ℤ) → Type 0
+Tzb-ask-all-striped-place held numbers file lng lat places place =
+    Call (List ℕ × List ℕ × List ℕ × Float × Float × List ℕ × ℤ) ask-all-striped-place.Learnt
+    (λ κ a r e. (a .0 .now, a .1 .0 .now, a .1 .1 .0 .now, a .1 .1 .1 .0, a .1 .1 .1 .1 .0, a .1 .1 .1 .1 .1 .0 .now, r))
+    (held, numbers, file, lng, lat, places, place)

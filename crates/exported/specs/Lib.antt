@@ -2,6 +2,7 @@
 pub mod Calls
 pub mod Words
 pub mod Demand1
+pub mod Places
 pub mod Demand3
 pub mod Answers
 pub mod Maps
