@@ -8,6 +8,11 @@
  * document 01, or for 48 to 50 of document 02. A refusal is told as -1000 - n, and leaves lent memory as it was. No function
  * keeps anything between calls, and each may be called from any thread.
  *
+ * A refusal by 38 to 43 is about a number in a chunk's bytes, and has a place: that of the number's first byte in the
+ * file, for 43 of the first byte that is left over. A function that can meet one has a second beside it, whose name ends
+ * in _place and which has the same arguments. It asks the same again, writes nothing, and answers with the place, or
+ * with -1 where there is none.
+ *
  * Open once, ask often:
  *
  *     uint8_t record[TZB_RECORD];
@@ -24,10 +29,12 @@
  * Stack: a call wants so much of it, in KB of 1,024 bytes, from the caller's stack pointer on. Measured, bounded by the
  * machine code, and rounded up; no theorem speaks of it (docs/PROMISES.md). Signal handlers on the same stack come on top.
  *
- *     96 KB  tzb_open tzb_lookup tzb_full_check tzb_full_check_rule tzb_map tzb_map_length
+ *     96 KB  tzb_open tzb_lookup tzb_lookup_place tzb_full_check tzb_full_check_rule tzb_map tzb_map_length
  *     24 KB  tzb_crc32
- *     8 KB  tzb_contains tzb_decode tzb_ask tzb_ask_all tzb_journal_ask
- *     8 KB  tzb_stripes_need tzb_stripes tzb_contains_striped tzb_ask_striped tzb_ask_all_striped
+ *     8 KB  tzb_contains tzb_contains_place tzb_decode tzb_decode_place tzb_ask tzb_ask_place
+ *     8 KB  tzb_ask_all tzb_ask_all_place tzb_journal_ask
+ *     8 KB  tzb_stripes_need tzb_stripes tzb_contains_striped tzb_contains_striped_place
+ *     8 KB  tzb_ask_striped tzb_ask_striped_place tzb_ask_all_striped tzb_ask_all_striped_place
  *     4 KB  tzb_zone_count tzb_name_start tzb_name_end tzb_name tzb_choice tzb_listed tzb_candidate
  *     4 KB  tzb_journal_write tzb_journal_read
  *     4 KB  tzb_number tzb_number_length tzb_box_contains tzb_box_relevant tzb_utf8 tzb_ray tzb_parity tzb_next_up
@@ -79,9 +86,17 @@ int64_t tzb_candidate(const uint8_t *record, size_t record_length, const uint8_t
  * 45 for a zone number too large. A point beyond +-18,000,000 or +-9,000,000 is in no zone. */
 int32_t tzb_contains(const uint8_t *record, size_t record_length, const uint8_t *file, size_t file_length, uint32_t zone, int32_t x, int32_t y);
 
+/* The place in the file, counted from its first byte, of the number that tzb_contains's refusal 38 to 43 is about, or
+ * -1 where it is no such refusal. */
+int64_t tzb_contains_place(const uint8_t *record, size_t record_length, const uint8_t *file, size_t file_length, uint32_t zone, int32_t x, int32_t y);
+
 /* Writes the points of a chunk into lent numbers, two a point: x, y, x, y. What lies behind stays.
  * How many points, or -1000 - n: 34 for a chunk number too large, 46 where there is no room. */
 int64_t tzb_decode(const uint8_t *record, size_t record_length, const uint8_t *file, size_t file_length, uint32_t chunk, int32_t *out, size_t out_length);
+
+/* The place in the file, counted from its first byte, of the number that tzb_decode's refusal 38 to 43 is about, or
+ * -1 where it is no such refusal. Of what is lent for the points the length alone counts. */
+int64_t tzb_decode_place(const uint8_t *record, size_t record_length, const uint8_t *file, size_t file_length, uint32_t chunk, const int32_t *out, size_t out_length);
 
 /* ---- which zone */
 
@@ -89,14 +104,26 @@ int64_t tzb_decode(const uint8_t *record, size_t record_length, const uint8_t *f
  * -1000 - n for refusal n, opening's first. Opening reads the whole file: to ask often, open once and use tzb_ask. */
 int32_t tzb_lookup(const uint8_t *file, size_t file_length, double lng, double lat);
 
-/* The same with the record of a file that was opened. A record that was made by hand may have zone numbers up to
- * 4,294,967,294: so the answer has 64 bits. */
+/* The place in the file, counted from its first byte, of the number that tzb_lookup's refusal 38 to 43 is about, or
+ * -1 where it is no such refusal. */
+int64_t tzb_lookup_place(const uint8_t *file, size_t file_length, double lng, double lat);
+
+/* The same as tzb_lookup with the record of a file that was opened. A record that was made by hand may have zone numbers
+ * up to 4,294,967,294: so the answer has 64 bits. */
 int64_t tzb_ask(const uint8_t *record, size_t record_length, const uint8_t *file, size_t file_length, double lng, double lat);
+
+/* The place in the file, counted from its first byte, of the number that tzb_ask's refusal 38 to 43 is about, or -1
+ * where it is no such refusal. */
+int64_t tzb_ask_place(const uint8_t *record, size_t record_length, const uint8_t *file, size_t file_length, double lng, double lat);
 
 /* Writes the numbers of all zones that a position lies in, in the order of their names' bytes, into the first of the lent
  * places; those behind stay. How many zones, or -1000 - n: 46 where there are more zones than places. 15 places are
  * always enough for a file with a GRID, tzb_zone_count() places for one without. */
 int64_t tzb_ask_all(const uint8_t *record, size_t record_length, const uint8_t *file, size_t file_length, double lng, double lat, uint32_t *zones, size_t zones_length);
+
+/* The place in the file, counted from its first byte, of the number that tzb_ask_all's refusal 38 to 43 is about, or
+ * -1 where it is no such refusal. Of what is lent for the zones the length alone counts. */
+int64_t tzb_ask_all_place(const uint8_t *record, size_t record_length, const uint8_t *file, size_t file_length, double lng, double lat, const uint32_t *zones, size_t zones_length);
 
 /* ---- the same questions by stripes, for many positions
  *
@@ -126,11 +153,20 @@ int64_t tzb_stripes(const uint8_t *record, size_t record_length, const uint8_t *
 /* tzb_contains, by stripes. */
 int32_t tzb_contains_striped(const uint8_t *record, size_t record_length, const uint32_t *numbers, size_t numbers_length, const uint8_t *file, size_t file_length, uint32_t zone, int32_t x, int32_t y);
 
+/* tzb_contains_place, by stripes. */
+int64_t tzb_contains_striped_place(const uint8_t *record, size_t record_length, const uint32_t *numbers, size_t numbers_length, const uint8_t *file, size_t file_length, uint32_t zone, int32_t x, int32_t y);
+
 /* tzb_ask, by stripes. */
 int64_t tzb_ask_striped(const uint8_t *record, size_t record_length, const uint32_t *numbers, size_t numbers_length, const uint8_t *file, size_t file_length, double lng, double lat);
 
+/* tzb_ask_place, by stripes. */
+int64_t tzb_ask_striped_place(const uint8_t *record, size_t record_length, const uint32_t *numbers, size_t numbers_length, const uint8_t *file, size_t file_length, double lng, double lat);
+
 /* tzb_ask_all, by stripes. */
 int64_t tzb_ask_all_striped(const uint8_t *record, size_t record_length, const uint32_t *numbers, size_t numbers_length, const uint8_t *file, size_t file_length, double lng, double lat, uint32_t *zones, size_t zones_length);
+
+/* tzb_ask_all_place, by stripes. */
+int64_t tzb_ask_all_striped_place(const uint8_t *record, size_t record_length, const uint32_t *numbers, size_t numbers_length, const uint8_t *file, size_t file_length, double lng, double lat, const uint32_t *zones, size_t zones_length);
 
 /* ---- the full check */
 

@@ -20,15 +20,23 @@ use Rattle.tzb_c.proofs.tzb_choice.Reads as choice-reads
 use Rattle.tzb_c.proofs.tzb_listed.Reads as listed-reads
 use Rattle.tzb_c.proofs.tzb_candidate.Reads as candidate-reads
 use Rattle.tzb_c.proofs.tzb_contains.Reads as contains-reads
+use Rattle.tzb_c.proofs.tzb_contains_place.Reads as contains-place-reads
 use Rattle.tzb_c.proofs.tzb_decode.Reads as decode-reads
+use Rattle.tzb_c.proofs.tzb_decode_place.Reads as decode-place-reads
 use Rattle.tzb_c.proofs.tzb_lookup.Reads as lookup-reads
+use Rattle.tzb_c.proofs.tzb_lookup_place.Reads as lookup-place-reads
 use Rattle.tzb_c.proofs.tzb_ask.Reads as ask-reads
+use Rattle.tzb_c.proofs.tzb_ask_place.Reads as ask-place-reads
 use Rattle.tzb_c.proofs.tzb_ask_all.Reads as ask-all-reads
+use Rattle.tzb_c.proofs.tzb_ask_all_place.Reads as ask-all-place-reads
 use Rattle.tzb_c.proofs.tzb_stripes_need.Reads as stripes-need-reads
 use Rattle.tzb_c.proofs.tzb_stripes.Reads as stripes-reads
 use Rattle.tzb_c.proofs.tzb_contains_striped.Reads as contains-striped-reads
+use Rattle.tzb_c.proofs.tzb_contains_striped_place.Reads as contains-striped-place-reads
 use Rattle.tzb_c.proofs.tzb_ask_striped.Reads as ask-striped-reads
+use Rattle.tzb_c.proofs.tzb_ask_striped_place.Reads as ask-striped-place-reads
 use Rattle.tzb_c.proofs.tzb_ask_all_striped.Reads as ask-all-striped-reads
+use Rattle.tzb_c.proofs.tzb_ask_all_striped_place.Reads as ask-all-striped-place-reads
 use Rattle.tzb_c.proofs.tzb_full_check.Reads as full-check-reads
 use Rattle.tzb_c.proofs.tzb_full_check_rule.Reads as full-check-rule-reads
 use Rattle.tzb_c.proofs.tzb_map.Reads as map-reads
@@ -72,6 +80,9 @@ candidate κ a r r' e e' p q = p ∙ sym q
 pub contains : Determined contains-reads.Learnt
 contains κ a r r' e e' p q = p ∙ sym q
 
+pub contains-place : Determined contains-place-reads.Learnt
+contains-place κ a r r' e e' p q = p ∙ sym q
+
 pub decode : Determined decode-reads.Learnt
 decode κ a r r' e e' p q = p .0 ∙ sym (q .0)
 
@@ -79,11 +90,20 @@ decode κ a r r' e e' p q = p .0 ∙ sym (q .0)
 pub decode-memory : DeterminedMemory decode-reads.Learnt (λ κ e. e .1 .1 .1 .0 .now)
 decode-memory κ a r r' e e' p q = p .1 ∙ sym (q .1)
 
+pub decode-place : Determined decode-place-reads.Learnt
+decode-place κ a r r' e e' p q = p ∙ sym q
+
 pub lookup : Determined lookup-reads.Learnt
 lookup κ a r r' e e' p q = p ∙ sym q
 
+pub lookup-place : Determined lookup-place-reads.Learnt
+lookup-place κ a r r' e e' p q = p ∙ sym q
+
 pub ask : Determined ask-reads.Learnt
 ask κ a r r' e e' p q = p ∙ sym q
+
+pub ask-place : Determined ask-place-reads.Learnt
+ask-place κ a r r' e e' p q = p ∙ sym q
 
 pub ask-all : Determined ask-all-reads.Learnt
 ask-all κ a r r' e e' p q = p .0 ∙ sym (q .0)
@@ -91,6 +111,9 @@ ask-all κ a r r' e e' p q = p .0 ∙ sym (q .0)
 -- the lent places at exit
 pub ask-all-memory : DeterminedMemory ask-all-reads.Learnt (λ κ e. e .1 .1 .1 .1 .0 .now)
 ask-all-memory κ a r r' e e' p q = p .1 ∙ sym (q .1)
+
+pub ask-all-place : Determined ask-all-place-reads.Learnt
+ask-all-place κ a r r' e e' p q = p ∙ sym q
 
 -- stripes
 pub stripes-need : Determined stripes-need-reads.Learnt
@@ -106,8 +129,14 @@ stripes-memory κ a r r' e e' p q = p .1 ∙ sym (q .1)
 pub contains-striped : Determined contains-striped-reads.Learnt
 contains-striped κ a r r' e e' p q = p ∙ sym q
 
+pub contains-striped-place : Determined contains-striped-place-reads.Learnt
+contains-striped-place κ a r r' e e' p q = p ∙ sym q
+
 pub ask-striped : Determined ask-striped-reads.Learnt
 ask-striped κ a r r' e e' p q = p ∙ sym q
+
+pub ask-striped-place : Determined ask-striped-place-reads.Learnt
+ask-striped-place κ a r r' e e' p q = p ∙ sym q
 
 pub ask-all-striped : Determined ask-all-striped-reads.Learnt
 ask-all-striped κ a r r' e e' p q = p .0 ∙ sym (q .0)
@@ -115,6 +144,9 @@ ask-all-striped κ a r r' e e' p q = p .0 ∙ sym (q .0)
 -- the lent places at exit
 pub ask-all-striped-memory : DeterminedMemory ask-all-striped-reads.Learnt (λ κ e. e .1 .1 .1 .1 .1 .0 .now)
 ask-all-striped-memory κ a r r' e e' p q = p .1 ∙ sym (q .1)
+
+pub ask-all-striped-place : Determined ask-all-striped-place-reads.Learnt
+ask-all-striped-place κ a r r' e e' p q = p ∙ sym q
 
 pub full-check : Determined full-check-reads.Learnt
 full-check κ a r r' e e' p q = p ∙ sym q

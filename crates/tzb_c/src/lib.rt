@@ -12,7 +12,7 @@ ghost use Rattle.chunks.specs.Decode.{filled};
 ghost use Rattle.tzb.specs.FullCheck.{fullCheckOf};
 ghost use Rattle.tzb_asked.specs.Asked.{zonesAsked, nameAsked, endsAsked, endsAfter, choiceAsked, candidateAsked, containsAsked, decodeAsked, lookupAsked, listAsked, containsAskedBy, lookupAskedBy, listAskedBy, needAsked, stripesAsked};
 ghost use Rattle.reader_ways.specs.Ways.{striped, wayOf};
-ghost use Rattle.tzb_codes.specs.Codes.{bitOf, doneCode, kindCode, listedOf, insideCode, zoneCode, checkCode, ruleOf, neededCode, drawnCode, seenCode, numberCode, startCode, endCode};
+ghost use Rattle.tzb_codes.specs.Codes.{bitOf, doneCode, kindCode, listedOf, insideCode, zoneCode, checkCode, ruleOf, neededCode, drawnCode, seenCode, numberCode, startCode, endCode, placeOf};
 ghost use Rattle.tzb_map.specs.Map.{mapOf, mapIn, howLong, asAnswer};
 ghost use Rattle.tzb_c.specs.Opens.{openInto, lookupOnce};
 ghost use Rattle.tzb_c.specs.Exports.{numberOf, lengthFrom, boxOf};
@@ -138,6 +138,15 @@ pub extern "C" fn tzb_contains(record: &[u8], file: &[u8], zone: u32, x: i32, y:
     tzb_codes::inside_code(tzb_asked::contains_by(false, &none, record, file, zone, x, y))
 }
 
+// The place in the file, counted from its first byte, of the number that the refusal of tzb_contains is about; -1 where it has none, and where there is no refusal.
+#[no_mangle]
+pub extern "C" fn tzb_contains_place(record: &[u8], file: &[u8], zone: u32, x: i32, y: i32) -> i64
+    ensures { λ r. ⌜ r ≡ placeOf (containsAsked (now («record» .entry)) (now (file .entry)) zone (point x y)) ⌝ }
+{
+    let none = [0u32; 0];
+    tzb_codes::verdict_place(tzb_asked::contains_by(false, &none, record, file, zone, x, y))
+}
+
 // The points of a chunk into lent numbers, two a point: how many points, or -1000 - n for refusal n, and then nothing is written.
 #[no_mangle]
 pub extern "C" fn tzb_decode(record: &[u8], file: &[u8], chunk: u32, out: &mut [i32]) -> i64
@@ -149,6 +158,14 @@ pub extern "C" fn tzb_decode(record: &[u8], file: &[u8], chunk: u32, out: &mut [
         Count::Refused(k) => tzb_codes::refusal_code64(k),
         Count::Is(n) => n as i64,
     }
+}
+
+// The place in the file, counted from its first byte, of the number that the refusal of tzb_decode is about; -1 where it has none, and where there is no refusal. Nothing is written.
+#[no_mangle]
+pub extern "C" fn tzb_decode_place(record: &[u8], file: &[u8], chunk: u32, out: &[i32]) -> i64
+    ensures { λ r. ⌜ r ≡ placeOf (decodeAsked (now («record» .entry)) (now (file .entry)) chunk (now (out .entry))) ⌝ }
+{
+    tzb_codes::checked_place(tzb_asked::check_decode(record, file, chunk, out))
 }
 
 fn lookup_once(file: &[u8], lng: f64, lat: f64) -> Found
@@ -174,13 +191,30 @@ pub extern "C" fn tzb_lookup(file: &[u8], lng: f64, lat: f64) -> i32
     }
 }
 
-// The same with the record, once the file was opened: its number, -1 for none, -1000 - n for refusal n.
+// The place in the file, counted from its first byte, of the number that the refusal of tzb_lookup is about; -1 where it has none, and where there is no refusal.
+#[no_mangle]
+pub extern "C" fn tzb_lookup_place(file: &[u8], lng: f64, lat: f64) -> i64
+    ensures { λ r. ⌜ r ≡ placeOf (lookupOnce (now (file .entry)) lng lat) ⌝ }
+{
+    tzb_codes::found_place(lookup_once(file, lng, lat))
+}
+
+// The same as tzb_lookup with the record, once the file was opened: its number, -1 for none, -1000 - n for refusal n.
 #[no_mangle]
 pub extern "C" fn tzb_ask(record: &[u8], file: &[u8], lng: f64, lat: f64) -> i64
     ensures { λ r. ⌜ r ≡ zoneCode (lookupAsked (now («record» .entry)) (now (file .entry)) lng lat) ⌝ }
 {
     let none = [0u32; 0];
     tzb_codes::zone_code(tzb_asked::lookup_by(false, &none, record, file, lng, lat))
+}
+
+// The place in the file, counted from its first byte, of the number that the refusal of tzb_ask is about; -1 where it has none, and where there is no refusal.
+#[no_mangle]
+pub extern "C" fn tzb_ask_place(record: &[u8], file: &[u8], lng: f64, lat: f64) -> i64
+    ensures { λ r. ⌜ r ≡ placeOf (lookupAsked (now («record» .entry)) (now (file .entry)) lng lat) ⌝ }
+{
+    let none = [0u32; 0];
+    tzb_codes::found_place(tzb_asked::lookup_by(false, &none, record, file, lng, lat))
 }
 
 // All zones of a position, walked plainly or by stripes: how many there are, as a number.
@@ -219,6 +253,29 @@ pub extern "C" fn tzb_ask_all(
     ask_all_by(false, &none, record, file, lng, lat, zones)
 }
 
+// The place in the file, counted from its first byte, of the number that the refusal of tzb_ask_all is about; -1 where it has none, and where there is no refusal. Nothing is written.
+#[no_mangle]
+pub extern "C" fn tzb_ask_all_place(
+    record: &[u8],
+    file: &[u8],
+    lng: f64,
+    lat: f64,
+    zones: &[u32],
+) -> i64
+    ensures { λ r. ⌜ r ≡ placeOf (listAsked (now («record» .entry)) (now (file .entry)) lng lat (length (now (zones .entry)))) ⌝ }
+{
+    let none = [0u32; 0];
+    tzb_codes::listing_place(tzb_asked::count_into_by(
+        false,
+        &none,
+        record,
+        file,
+        lng,
+        lat,
+        zones.len(),
+    ))
+}
+
 // ---- stripes
 
 // How many numbers the stripes of the file take, or -1000 - n for refusal n: 49 where, in a group of two chunks or more, a chunk's box leaves the group's in y.
@@ -253,6 +310,21 @@ pub extern "C" fn tzb_contains_striped(
     tzb_codes::inside_code(tzb_asked::contains_by(true, numbers, record, file, zone, x, y))
 }
 
+// The same as tzb_contains_place, by stripes.
+#[no_mangle]
+pub extern "C" fn tzb_contains_striped_place(
+    record: &[u8],
+    numbers: &[u32],
+    file: &[u8],
+    zone: u32,
+    x: i32,
+    y: i32,
+) -> i64
+    ensures { λ r. ⌜ r ≡ placeOf (containsAskedBy (striped (now (numbers .entry))) (now («record» .entry)) (now (file .entry)) zone (point x y)) ⌝ }
+{
+    tzb_codes::verdict_place(tzb_asked::contains_by(true, numbers, record, file, zone, x, y))
+}
+
 // The same as tzb_ask, by stripes.
 #[no_mangle]
 pub extern "C" fn tzb_ask_striped(
@@ -265,6 +337,20 @@ pub extern "C" fn tzb_ask_striped(
     ensures { λ r. ⌜ r ≡ zoneCode (lookupAskedBy (striped (now (numbers .entry))) (now («record» .entry)) (now (file .entry)) lng lat) ⌝ }
 {
     tzb_codes::zone_code(tzb_asked::lookup_by(true, numbers, record, file, lng, lat))
+}
+
+// The same as tzb_ask_place, by stripes.
+#[no_mangle]
+pub extern "C" fn tzb_ask_striped_place(
+    record: &[u8],
+    numbers: &[u32],
+    file: &[u8],
+    lng: f64,
+    lat: f64,
+) -> i64
+    ensures { λ r. ⌜ r ≡ placeOf (lookupAskedBy (striped (now (numbers .entry))) (now («record» .entry)) (now (file .entry)) lng lat) ⌝ }
+{
+    tzb_codes::found_place(tzb_asked::lookup_by(true, numbers, record, file, lng, lat))
 }
 
 // The same as tzb_ask_all, by stripes.
@@ -281,6 +367,29 @@ pub extern "C" fn tzb_ask_all_striped(
     ensures memory { λ r. ⌜ now (zones .exit) ≡ left (now (zones .entry)) (listAskedBy (striped (now (numbers .entry))) (now («record» .entry)) (now (file .entry)) lng lat (length (now (zones .entry)))) ⌝ }
 {
     ask_all_by(true, numbers, record, file, lng, lat, zones)
+}
+
+// The same as tzb_ask_all_place, by stripes.
+#[no_mangle]
+pub extern "C" fn tzb_ask_all_striped_place(
+    record: &[u8],
+    numbers: &[u32],
+    file: &[u8],
+    lng: f64,
+    lat: f64,
+    zones: &[u32],
+) -> i64
+    ensures { λ r. ⌜ r ≡ placeOf (listAskedBy (striped (now (numbers .entry))) (now («record» .entry)) (now (file .entry)) lng lat (length (now (zones .entry)))) ⌝ }
+{
+    tzb_codes::listing_place(tzb_asked::count_into_by(
+        true,
+        numbers,
+        record,
+        file,
+        lng,
+        lat,
+        zones.len(),
+    ))
 }
 
 // ---- the full check
