@@ -288,7 +288,8 @@ impl Run {
         let length = made.file.len();
         let length = if self.one_in(4) { self.random.below(length + 1) } else { length };
         let with = With { record: &made.record, file: &made.file[..length], numbers: &[] };
-        let decode = |i: usize| plain(Question::Decode(i as u32, 600));
+        let room = if self.one_in(256) { 2 * 65_535 } else { 600 };
+        let decode = |i: usize| plain(Question::Decode(i as u32, room));
         let mut all = vec![decode(at.which), decode(at.which + 1), decode(at.which.max(1) - 1)];
         let (x, y) = at.point;
         if self.one_in(4) {
