@@ -10,6 +10,7 @@ mod fields;
 mod grid;
 pub mod journal;
 pub mod maps;
+pub mod places;
 pub mod relatives;
 mod shape;
 pub mod small_rings;

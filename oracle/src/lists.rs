@@ -17,6 +17,9 @@ use std::path::Path;
 
 const SEED: u64 = 20;
 
+/// The refusals that have a place.
+const PLACED: [u32; 6] = [38, 39, 40, 41, 42, 43];
+
 pub fn write(folder: &Path) {
     for (name, width, list) in [("varint.bin", 16, varint()), ("ray.bin", 40, ray())] {
         fs::create_dir_all(folder).expect("the folder for the lists");
@@ -59,6 +62,7 @@ fn stripes(folder: &Path) {
     met("point", &[0, 34, 44, 45]);
     met("lookup", &[0, 34, 44]);
     met("list", &[0, 34, 44, 46]);
+    ["point", "lookup", "list"].iter().for_each(|&kind| met(kind, &PLACED));
 }
 
 fn maps(folder: &Path) {
@@ -80,6 +84,10 @@ fn walked(folder: &Path) {
     for number in (34..=46).chain([32]) {
         let count: u64 = counts.iter().filter(|((_, n), _)| *n == number).map(|(_, c)| c).sum();
         assert!(count >= 2, "{number} is not met");
+    }
+    for kind in ["chunk", "point", "lookup", "list"] {
+        let met = |&n: &u32| counts.get(&(kind, n)).is_some_and(|&count| count >= 5);
+        assert!(PLACED.iter().all(met), "a {kind} with a place is not met");
     }
     let files = walked::full();
     let list = open::bytes(&files);
@@ -149,7 +157,9 @@ fn number(out: &mut Vec<u8>, data: &[u8], at: usize) {
     out.push(at as u8);
     out.push(if r.length < 0 { (-1000 - r.length) as u8 } else { 0 });
     out.push(r.length.max(0) as u8);
-    out.extend_from_slice(&r.number.to_le_bytes());
+    // A number that is refused has the place at which it is read: that, and one more.
+    let number = if r.length < 0 { at as i32 + 1 } else { r.number };
+    out.extend_from_slice(&number.to_le_bytes());
 }
 
 /// M9 to M14.

@@ -33,6 +33,8 @@ oracle compare wide [SECONDS [SEED]]
 oracle compare map [SECONDS [SEED]]
 oracle compare striped [SECONDS [SEED]]
 oracle compare striped FILE.tzb [SECONDS [SEED]]
+oracle compare places [SECONDS [SEED]]
+oracle compare places FILE.tzb [SECONDS [SEED]]
 oracle compare journal [SECONDS [SEED]]
 oracle compare journal-program [PROGRAM [SEED]]
 oracle load [INPUTS [SEED]] [--from NUMBER]
@@ -77,6 +79,10 @@ fn main() {
         ["compare", "striped"] => compare::striped::run(60, random::fresh_seed()),
         ["compare", "striped", one, ref rest @ ..] if rest.len() < 3 => {
             timed(one, rest, compare::striped::run, compare::striped::one)
+        }
+        ["compare", "places"] => compare::places::run(60, random::fresh_seed()),
+        ["compare", "places", one, ref rest @ ..] if rest.len() < 3 => {
+            timed(one, rest, compare::places::run, compare::places::one)
         }
         ["compare", "journal"] => compare::journal::run(60, random::fresh_seed()),
         ["compare", "journal", seconds] => {
@@ -144,6 +150,7 @@ fn short(seconds: u64, seed: u64) {
     compare::asking::short(seconds, seed);
     compare::map::short(seconds, seed);
     compare::striped::short(seconds, seed);
+    compare::places::short(seconds, seed);
     compare::journal::short(seconds, seed);
     load::short(5000 * seconds, seed);
     stack::short(seed);

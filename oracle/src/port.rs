@@ -7,6 +7,7 @@ mod header;
 pub mod journal;
 pub mod map;
 pub mod opening;
+pub mod places;
 pub mod striped;
 
 use crate::bytes::Reading;

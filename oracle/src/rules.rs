@@ -27,6 +27,30 @@ use bytes::{i16_at, i32_at, u16_at, u32_at, utf8};
 /// An answer, or the number of the refusal.
 pub type Said<T> = Result<T, u32>;
 
+/// A refusal with document 02's place (2026-06), counted from the file's first byte: of 38 to 43 and of no other.
+#[derive(Debug, Clone, Copy, PartialEq, Eq)]
+pub struct Refusal {
+    pub number: u32,
+    pub place: Option<u64>,
+}
+
+/// An answer, or the refusal. What reads a chunk's bytes answers so, and all that asks it.
+pub type Placed<T> = Result<T, Refusal>;
+
+/// Without a place.
+impl From<u32> for Refusal {
+    fn from(number: u32) -> Self {
+        Self { number, place: None }
+    }
+}
+
+/// The number alone.
+impl From<Refusal> for u32 {
+    fn from(refusal: Refusal) -> Self {
+        refusal.number
+    }
+}
+
 /// The places at which the original is known to judge otherwise. `known.rs` tells of each.
 #[derive(Debug, Clone, Copy, PartialEq, Eq)]
 pub enum Departure {

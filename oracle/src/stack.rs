@@ -142,6 +142,6 @@ mod tests {
     #[test]
     #[should_panic(expected = "is not in the table of stacks")]
     fn every_export_stands_in_the_header() {
-        stated(&HEADER.replace(" tzb_decode", ""));
+        stated(&HEADER.replace(" tzb_candidate", ""));
     }
 }

@@ -1,6 +1,6 @@
 //! Who can be asked of an opened file, and what. The rules, the original and the port are voices.
 
-use crate::rules::{Candidates, Judge, Said};
+use crate::rules::{Candidates, Judge, Placed, Said};
 
 #[derive(Debug, Clone, Copy)]
 pub enum Question {
@@ -37,22 +37,30 @@ pub trait Voice {
     fn ask(&self, question: Question) -> Option<Said<Answer>>;
 }
 
-impl Voice for Judge<'_> {
-    fn ask(&self, question: Question) -> Option<Said<Answer>> {
+impl Judge<'_> {
+    /// The rules can be asked all. A refusal comes with its place.
+    pub fn answer(&self, question: Question) -> Placed<Answer> {
         let opened = &self.opened;
-        Some(match question {
+        Ok(match question {
             Question::Name(zone) => {
-                opened.name(zone.into()).map(|(start, length)| Answer::Name(start, length))
+                let (start, length) = opened.name(zone.into())?;
+                Answer::Name(start, length)
             }
-            Question::Candidates(lng, lat) => opened.candidates(lng, lat).map(Answer::Candidates),
-            Question::Candidate(place) => opened.candidate(place.into()).map(Answer::Candidate),
-            Question::Decode(chunk, room) => opened.decode(chunk.into(), room).map(Answer::Points),
-            Question::Contains(zone, x, y) => self.contains(zone.into(), x, y).map(Answer::Is),
-            Question::ContainsAt(zone, x, y) => self.contains_at(zone.into(), x, y).map(Answer::Is),
-            Question::Lookup(lng, lat) => self.lookup(lng, lat).map(Answer::Zone),
+            Question::Candidates(lng, lat) => Answer::Candidates(opened.candidates(lng, lat)?),
+            Question::Candidate(place) => Answer::Candidate(opened.candidate(place.into())?),
+            Question::Decode(chunk, room) => Answer::Points(opened.decode(chunk.into(), room)?),
+            Question::Contains(zone, x, y) => Answer::Is(self.contains(zone.into(), x, y)?),
+            Question::ContainsAt(zone, x, y) => Answer::Is(self.contains_at(zone.into(), x, y)?),
+            Question::Lookup(lng, lat) => Answer::Zone(self.lookup(lng, lat)?),
             Question::LookupInto(lng, lat, places) => {
-                self.lookup_into(lng, lat, places).map(Answer::Zones)
+                Answer::Zones(self.lookup_into(lng, lat, places)?)
             }
         })
+    }
+}
+
+impl Voice for Judge<'_> {
+    fn ask(&self, question: Question) -> Option<Said<Answer>> {
+        Some(self.answer(question).map_err(u32::from))
     }
 }

@@ -16,6 +16,8 @@ pub use records::part;
 pub use records::read;
 pub use records::read_held;
 pub use said::Said;
+pub use said::count;
+pub use said::place;
 pub use tally::Tally;
 pub use tally::tell;
 pub use tally::write;

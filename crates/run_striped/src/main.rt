@@ -56,7 +56,7 @@ fn is_left(out: &[u32], count: usize, expected: &[u32]) -> bool {
 }
 
 // ---- a question is 48 bytes: its kind, a zone or how many places are lent, two numbers, a longitude, a latitude; then what is expected:
-// the refusal or 0, and three numbers. Where a refusal is expected the three are 0, so that no place may have changed.
+// the refusal or 0, and three numbers. Behind a refusal stand its place and one more, and zeros: then no number may have changed.
 
 fn is_needed(n: Needed, q: &[u8]) -> bool {
     match n {
@@ -77,7 +77,7 @@ fn build(o: Opened, s: &[u8], out: &mut [u32], room: usize) -> Needed {
 fn is_built(o: Opened, s: &[u8], numbers: &[u32], q: &[u8]) -> bool {
     let mut out = [1_234_567_890u32; 256];
     let n = build(o, s, &mut out, size(q, 4));
-    is_needed(n, q) & is_left(&out, size(q, 36), numbers)
+    is_needed(n, q) & is_left(&out, harness::count(q), numbers)
 }
 
 fn verdict(v: Verdict) -> Said {
@@ -123,7 +123,7 @@ fn is_listed(o: Opened, s: &[u8], numbers: &[u32], q: &[u8]) -> bool {
     let mut out = [1_234_567_890u32; 16];
     let l = list(o, s, numbers, q, &mut out, size(q, 4));
     let zones = [number(q, 40), number(q, 44)];
-    is_counted(l, q) & is_left(&out, size(q, 36), &zones)
+    is_counted(l, q) & is_left(&out, harness::count(q), &zones)
 }
 
 fn is_contained(o: Opened, s: &[u8], numbers: &[u32], q: &[u8]) -> bool {

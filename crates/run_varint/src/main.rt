@@ -2,6 +2,7 @@
 // before the first difference or the list's end.
 ghost use Prim.Native.Nat.{_<_};
 use harness::Tally;
+use harness::number;
 use harness::whole;
 use tzb_core::varint::Place;
 use tzb_core::varint::Read;
@@ -17,13 +18,13 @@ fn wide(b: u8) -> u32 {
 }
 
 // A record: how many of the next eight bytes are lent, those bytes, the place, the refusal or 0, how many bytes the number has, the
-// number.
+// number; with a refusal its place and one more.
 fn is_same(read: Read, r: &[u8; 16]) -> bool {
     match read {
         Read::Number(n, next) => {
             (r[10] == 0) & (n == whole(r, 12)) & (next.at == size(r[9]) + size(r[11]))
         }
-        Read::Refused(why) => why.number == wide(r[10]),
+        Read::Refused(why) => (why.number == wide(r[10])) & (harness::place(why) == number(r, 12)),
     }
 }
 

@@ -59,7 +59,7 @@ fn bytes_of(held: &[u32; 64]) -> [u8; 256] {
 
 // Whether the first numbers are those that are expected, by the sum of their bytes, and the places behind as they were lent.
 fn is_held(held: &[u32; 64], q: &[u8]) -> bool {
-    let count = size(q, 36);
+    let count = harness::count(q);
     if 64 < count {
         return false;
     }
@@ -74,7 +74,7 @@ fn is_held(held: &[u32; 64], q: &[u8]) -> bool {
 }
 
 // ---- a question is 48 bytes: its kind, a chunk or a zone, two numbers, a longitude, a latitude; then what is expected: the refusal or 0,
-// two numbers, zeros. Where a refusal is expected both numbers are 0, so that no place may have changed.
+// two numbers, zeros. Behind a refusal stand its place and one more, and zeros: then no number may have changed.
 
 fn is_checked(c: Checked, q: &[u8]) -> bool {
     match c {
@@ -177,6 +177,6 @@ fn main() {
     }
     harness::tell(
         a.tally.right,
-        b" questions of chunks, containment and lookups answered as document 01 says\n",
+        b" questions of chunks, containment and lookups answered as documents 01 and 02 say\n",
     );
 }

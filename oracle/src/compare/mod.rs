@@ -8,6 +8,7 @@ mod geometry;
 pub mod journal;
 pub mod map;
 mod panel;
+pub mod places;
 mod records;
 mod sides;
 pub mod striped;

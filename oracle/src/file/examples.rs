@@ -1,6 +1,7 @@
 //! Fixed small files: the least that open, one of each valid kind, and those whose every damage is looked at.
 
 use super::*;
+use crate::rules::{Placed, Refusal};
 
 /// The least file that opens: one record of each kind, the shortest name, one byte of points.
 pub fn least(grid: bool) -> Draft {
@@ -193,43 +194,47 @@ pub fn departing() -> Vec<(u32, Vec<u8>)> {
     ]
 }
 
-/// The bytes of a chunk of two points, with the number by which document 01 refuses it, 0 for none.
-const OF_POINTS: [(u32, &[u8]); 22] = [
-    (0, &[0, 0, 0, 0]),
-    (0, &[0x80, 1, 0xff, 1, 0x7f, 1]),
-    (38, &[0]),
-    (38, &[0, 0, 0]),
-    (38, &[0, 0, 0x80]),
-    (38, &[0, 0, 0xff, 0xff, 0xff, 0xff]),
-    (39, &[0, 0, 0x80, 0]),
-    (39, &[0x80, 0x80, 0x80, 0x80, 0, 0, 0, 0]),
-    (40, &[0, 0, 0xff, 0xff, 0xff, 0xff, 0x10]),
-    (40, &[0, 0, 0xff, 0xff, 0xff, 0xff, 0x80]),
+/// The bytes of a chunk of two points, with the number by which document 01 refuses it, 0 for none, and the place among these bytes that
+/// document 02 has for it.
+const OF_POINTS: [(u32, u64, &[u8]); 22] = [
+    (0, 0, &[0, 0, 0, 0]),
+    (0, 0, &[0x80, 1, 0xff, 1, 0x7f, 1]),
+    (38, 1, &[0]),
+    (38, 3, &[0, 0, 0]),
+    (38, 2, &[0, 0, 0x80]),
+    (38, 2, &[0, 0, 0xff, 0xff, 0xff, 0xff]),
+    (39, 2, &[0, 0, 0x80, 0]),
+    (39, 0, &[0x80, 0x80, 0x80, 0x80, 0, 0, 0, 0]),
+    (40, 2, &[0, 0, 0xff, 0xff, 0xff, 0xff, 0x10]),
+    (40, 2, &[0, 0, 0xff, 0xff, 0xff, 0xff, 0x80]),
     // 18,000,000 and 2,147,483,647; both numbers are read before the sum is looked at.
-    (41, &[0x80, 0xa2, 0x95, 0x11, 0, 0xfe, 0xff, 0xff, 0xff, 0x0f, 0]),
-    (38, &[0x80, 0xa2, 0x95, 0x11, 0, 0xfe, 0xff, 0xff, 0xff, 0x0f]),
-    (39, &[0x80, 0xa2, 0x95, 0x11, 0, 0xfe, 0xff, 0xff, 0xff, 0x0f, 0x80, 0]),
+    (41, 5, &[0x80, 0xa2, 0x95, 0x11, 0, 0xfe, 0xff, 0xff, 0xff, 0x0f, 0]),
+    (38, 10, &[0x80, 0xa2, 0x95, 0x11, 0, 0xfe, 0xff, 0xff, 0xff, 0x0f]),
+    (39, 10, &[0x80, 0xa2, 0x95, 0x11, 0, 0xfe, 0xff, 0xff, 0xff, 0x0f, 0x80, 0]),
     // y alone leaves i32; x stays in i32 and leaves the domain, but y's sum comes first.
-    (41, &[0, 2, 0, 0xfe, 0xff, 0xff, 0xff, 0x0f]),
-    (41, &[2, 2, 0x80, 0xa2, 0x95, 0x11, 0xfe, 0xff, 0xff, 0xff, 0x0f]),
-    (42, &[0x82, 0xa2, 0x95, 0x11, 0, 0, 0]),
-    (42, &[0, 0x81, 0xd1, 0xca, 0x08, 0, 0]),
-    (42, &[2, 0, 0x80, 0xa2, 0x95, 0x11, 0]),
-    (42, &[0, 1, 0, 0xff, 0xd0, 0xca, 0x08]),
-    (43, &[0, 0, 0, 0, 0]),
-    (43, &[0, 0, 0, 0, 0x80]),
+    (41, 3, &[0, 2, 0, 0xfe, 0xff, 0xff, 0xff, 0x0f]),
+    (41, 6, &[2, 2, 0x80, 0xa2, 0x95, 0x11, 0xfe, 0xff, 0xff, 0xff, 0x0f]),
+    (42, 4, &[0x82, 0xa2, 0x95, 0x11, 0, 0, 0]),
+    (42, 1, &[0, 0x81, 0xd1, 0xca, 0x08, 0, 0]),
+    (42, 6, &[2, 0, 0x80, 0xa2, 0x95, 0x11, 0]),
+    (42, 3, &[0, 1, 0, 0xff, 0xd0, 0xca, 0x08]),
+    (43, 4, &[0, 0, 0, 0, 0]),
+    (43, 4, &[0, 0, 0, 0, 0x80]),
     // A point outside the domain comes before bytes left over.
-    (42, &[2, 0, 0x80, 0xa2, 0x95, 0x11, 0, 0]),
+    (42, 6, &[2, 0, 0x80, 0xa2, 0x95, 0x11, 0, 0]),
 ];
 
-/// Files whose one chunk has these bytes, with document 01's number for decoding it.
-pub fn chunks() -> Vec<(u32, Vec<u8>)> {
+/// Files whose one chunk has these bytes, with what is said to decoding it.
+pub fn chunks() -> Vec<(Placed<()>, Vec<u8>)> {
     let world = [(-18_000_000, -9_000_000), (18_000_000, 9_000_000)].to_vec();
-    let with = |(number, bytes): (u32, &[u8])| {
+    let with = |(number, place, bytes): (u32, u64, &[u8])| {
         let mut draft = one_zone(Chunks(vec![world.clone()]), usize::MAX, false);
         let points = draft.parts.iter_mut().find(|part| part.typ == POINTS).unwrap();
         points.bytes = bytes.to_vec();
-        (number, draft.lay())
+        let file = draft.lay();
+        let first = entries(&file).into_iter().find(|entry| entry[0] == POINTS).unwrap()[1];
+        let refusal = Refusal { number, place: Some(u64::from(first) + place) };
+        (if number == 0 { Ok(()) } else { Err(refusal) }, file)
     };
     OF_POINTS.into_iter().map(with).collect()
 }

@@ -61,7 +61,7 @@ pub fn points_of(o: &Opened, group: u64) -> Said<Vec<Vec<(i32, i32)>>> {
     let group = o.group_at(group)?;
     let narrow =
         |points: Vec<(i64, i64)>| points.iter().map(|&(x, y)| (x as i32, y as i32)).collect();
-    run(group.first, group.count).map(|chunk| o.points(chunk).map(narrow)).collect()
+    run(group.first, group.count).map(|chunk| Ok(narrow(o.points(chunk)?))).collect()
 }
 
 impl<'a> Family<'a> {

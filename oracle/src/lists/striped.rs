@@ -1,11 +1,11 @@
 //! striped.bin: stripes of small files, and questions by stripes (document 02, 2026-02). README.md has the layout of its records.
 
-use super::blocks::{block, word};
+use super::blocks::{block, said as put_said, word};
 use crate::compare::striped::questions;
 use crate::file::striped::{self, numbers};
 use crate::file::{self, CHUNKDIR, GROUPDIR};
 use crate::random::Random;
-use crate::rules::{self, Judge, Opened, Said};
+use crate::rules::{self, Judge, Opened, Placed};
 use crate::voice::{Answer, Question, Voice};
 use crate::{original, scene};
 use std::collections::BTreeMap;
@@ -40,14 +40,20 @@ const LONGEST: usize = 1016;
 pub fn list() -> (Vec<u8>, Counts) {
     let mut random = Random::new(24);
     let (mut out, mut counts) = (Vec::new(), Counts::new());
-    for (i, (file, mut sets)) in by_hand().into_iter().chain(by_chance()).enumerate() {
+    let mut files = by_hand();
+    files.extend(by_chance());
+    for (i, (file, sets)) in files.iter_mut().enumerate() {
+        let opened = rules::open(file, &[]).ok().expect("a file that opens");
+        sets.extend(of_file(&mut random, file, &opened, i));
+    }
+    files.extend(broken_chunks());
+    for (file, sets) in files {
         let opened = rules::open(&file, &[]).ok().expect("a file that opens");
-        sets.extend(of_file(&mut random, &file, &opened, i));
         block(&mut out, &file, sets.len());
         for set in sets {
             let opened = opened.asked_with(&set.lent);
             let judge = Judge::striped(opened, &set.numbers);
-            let answers: Vec<(Asked, Said<[u64; 3]>)> = set
+            let answers: Vec<(Asked, Placed<[u64; 3]>)> = set
                 .asked
                 .iter()
                 .map(|&asked| (asked, answer(&judge, asked, &set.numbers)))
@@ -64,21 +70,21 @@ pub fn list() -> (Vec<u8>, Counts) {
 }
 
 /// An answer that a record has room for.
-fn kept(said: Said<Vec<u64>>) -> Option<Said<[u64; 3]>> {
+fn kept(said: Placed<Vec<u64>>) -> Option<Placed<[u64; 3]>> {
     match said {
         Ok(numbers) if numbers.len() > 3 => None,
         Ok(mut numbers) => {
             numbers.resize(3, 0);
             Some(Ok([numbers[0], numbers[1], numbers[2]]))
         }
-        Err(number) => Some(Err(number)),
+        Err(refusal) => Some(Err(refusal)),
     }
 }
 
 /// How many numbers; 1 for yes; 1 and the zone, or 0 for none; how many zones, and these.
-fn answer(judge: &Judge, asked: Asked, lent: &[u32]) -> Said<Vec<u64>> {
+fn answer(judge: &Judge, asked: Asked, lent: &[u32]) -> Placed<Vec<u64>> {
     let question = match asked {
-        Asked::Need => return judge.opened.stripes_need().map(|need| vec![need]),
+        Asked::Need => return Ok(vec![judge.opened.stripes_need()?]),
         Asked::Build(room) => {
             let numbers = judge.opened.stripes(room.into())?;
             assert!(lent.starts_with(&numbers), "numbers that are not lent cannot be expected");
@@ -86,7 +92,7 @@ fn answer(judge: &Judge, asked: Asked, lent: &[u32]) -> Said<Vec<u64>> {
         }
         Asked::Question(question) => question,
     };
-    Ok(match judge.ask(question).expect("the rules can be asked all")? {
+    Ok(match judge.answer(question)? {
         Answer::Is(is) => vec![is.into()],
         Answer::Zone(zone) => vec![zone.is_some().into(), zone.unwrap_or(0)],
         Answer::Zones(zones) => [vec![zones.len() as u64], zones].concat(),
@@ -94,8 +100,8 @@ fn answer(judge: &Judge, asked: Asked, lent: &[u32]) -> Said<Vec<u64>> {
     })
 }
 
-/// A question's record: kind, a number, a point, a position; then the refusal and three numbers.
-fn record(out: &mut Vec<u8>, asked: Asked, said: Said<[u64; 3]>, counts: &mut Counts) {
+/// A question's record: kind, a number, a point, a position; then what is said.
+fn record(out: &mut Vec<u8>, asked: Asked, said: Placed<[u64; 3]>, counts: &mut Counts) {
     let (kind, name, of, [x, y], (lng, lat)) = match asked {
         Asked::Need => (1, "need", 0, [0, 0], (0.0, 0.0)),
         Asked::Build(room) => (2, "build", room, [0, 0], (0.0, 0.0)),
@@ -110,9 +116,8 @@ fn record(out: &mut Vec<u8>, asked: Asked, said: Said<[u64; 3]>, counts: &mut Co
     };
     [kind, of, x, y].iter().for_each(|&n| word(out, n.into()));
     [lng, lat].iter().for_each(|&x| out.extend_from_slice(&scene::bits(x).to_le_bytes()));
-    let refusal = said.err().unwrap_or(0);
-    word(out, refusal.into());
-    said.unwrap_or_default().iter().for_each(|&n| word(out, n));
+    put_said(out, said);
+    let refusal = said.err().map_or(0, |refusal| refusal.number);
     *counts.entry((name, refusal)).or_default() += 1;
 }
 
@@ -140,6 +145,27 @@ fn by_hand() -> Vec<(Vec<u8>, Vec<Set>)> {
         }
     }
     out.push((square, sets));
+    out
+}
+
+/// Chunks whose refusals and places are read off document 02 by hand: in a group of three chunks, and some in a group of one.
+fn broken_chunks() -> Vec<(Vec<u8>, Vec<Set>)> {
+    let mut out = Vec::new();
+    for (case, each) in file::places::cases().into_iter().zip([10, 1]) {
+        let opened = rules::open(&case.file, &[]).ok().expect("a file that opens");
+        let numbers = opened.stripes(u64::MAX).expect("stripes");
+        let mut sets = Vec::new();
+        for (lent, told) in case.with.into_iter().step_by(each) {
+            let judge = Judge::striped(opened.asked_with(&lent), &numbers);
+            for &(question, said) in &told {
+                assert_eq!(judge.answer(question).map(|_| ()), said, "{question:?}");
+            }
+            let walks = told.iter().filter(|(q, _)| !matches!(q, Question::Decode(..)));
+            let asked = walks.map(|&(question, _)| Asked::Question(question)).collect();
+            sets.push(Set { lent, numbers: numbers.clone(), asked });
+        }
+        out.push((case.file, sets));
+    }
     out
 }
 
@@ -245,6 +271,7 @@ fn other_bytes(random: &mut Random, file: &[u8], opened: &Opened) -> Vec<Vec<u8>
 mod tests {
     use super::*;
     use crate::file::word;
+    use crate::rules::Refusal;
 
     fn held(block: &[u8]) -> &[u8] {
         &block[8..8 + word(block, 0) as usize]
@@ -260,8 +287,8 @@ mod tests {
             rest = behind;
             some
         };
-        let mut questions = 0;
-        for _ in 0..26 + 14 {
+        let (mut questions, mut places) = (0, 0);
+        for _ in 0..26 + 14 + 2 {
             let file = take(1024);
             let opened = rules::open(held(file), &[]).ok().unwrap();
             for _ in 0..word(file, 4) {
@@ -279,10 +306,26 @@ mod tests {
                             number => assert_eq!(built, Err(number)),
                         }
                     }
+                    if (38..44).contains(&word(q, 32)) {
+                        let point = [8, 12].map(|at| word(q, at) as i32);
+                        let judge = Judge::striped(opened, &numbers);
+                        let degrees = [16, 24].map(|at| {
+                            f64::from_bits(u64::from_le_bytes(q[at..at + 8].try_into().unwrap()))
+                        });
+                        let question = match word(q, 0) {
+                            3 => Question::Contains(word(q, 4), point[0], point[1]),
+                            4 => Question::Lookup(degrees[0], degrees[1]),
+                            _ => Question::LookupInto(degrees[0], degrees[1], word(q, 4).into()),
+                        };
+                        let place = Some(u64::from(word(q, 36)) - 1);
+                        let refusal = Refusal { number: word(q, 32), place };
+                        assert_eq!(judge.answer(question), Err(refusal));
+                        places += 1;
+                    }
                 }
             }
         }
-        assert!(rest.is_empty());
+        assert!(rest.is_empty() && places > 300, "{places}");
         assert_eq!(questions, counts.values().sum::<u64>());
     }
 }

@@ -1,12 +1,12 @@
 //! walked.bin: questions of chunks, containment and lookups, with document 01's answers; full.bin: small files with what the full check says.
 //! README.md has the layout of their records. Of each file's own bytes the original must say the same, but for its known departures.
 
-use super::blocks::{block, word};
+use super::blocks::{block, said, word};
 use crate::compare::asking::questions::{self, spread};
 use crate::file;
 use crate::known::EVERY;
 use crate::random::Random;
-use crate::rules::{self, Judge, Opened, Said, full_check};
+use crate::rules::{self, Judge, Opened, Placed, full_check};
 use crate::voice::{Answer, Question, Voice};
 use crate::{original, scene};
 use std::collections::BTreeMap;
@@ -50,14 +50,32 @@ pub fn list() -> (Vec<u8>, Counts) {
             block(&mut out, bytes, questions.len());
             let judge = Judge::plain(opened.asked_with(bytes), &[]);
             for &q in &questions {
-                record(&mut out, q, judge.ask(q).unwrap(), &mut counts);
+                record(&mut out, q, judge.answer(q), &mut counts);
             }
             if k == 0 {
                 hold_original(&file, &questions);
             }
         }
     }
+    broken_chunks(&mut out, &mut counts);
     (out, counts)
+}
+
+/// Those whose refusals and places are read off document 02 by hand: the rules must say the same.
+fn broken_chunks(out: &mut Vec<u8>, counts: &mut Counts) {
+    for case in file::places::cases() {
+        let opened = rules::open(&case.file, &[]).expect("a file that opens");
+        block(out, &case.file, case.with.len());
+        for (lent, told) in &case.with {
+            block(out, lent, told.len());
+            let judge = Judge::plain(opened.asked_with(lent), &[]);
+            for &(q, expected) in told {
+                let answer = judge.answer(q);
+                assert_eq!(answer.clone().map(|_| ()), expected, "{q:?}");
+                record(out, q, answer, counts);
+            }
+        }
+    }
 }
 
 /// Of so many files the record is also asked with other bytes.
@@ -133,8 +151,8 @@ fn some_of(opened: &Opened, most: usize) -> Vec<Question> {
     out.into_iter().map(most).collect()
 }
 
-/// A question's record: kind, chunk or zone, two numbers, position; then the refusal, two numbers, and four bytes of zero.
-fn record(out: &mut Vec<u8>, q: Question, answer: Said<Answer>, counts: &mut Counts) {
+/// A question's record: kind, chunk or zone, two numbers, position; then what is said, two numbers and four bytes of zero.
+fn record(out: &mut Vec<u8>, q: Question, answer: Placed<Answer>, counts: &mut Counts) {
     let (kind, name, of, [a, b], (x, y)) = match q {
         Question::Decode(chunk, room) => (1, "chunk", chunk, [room as u32, 0], (0.0, 0.0)),
         Question::Contains(zone, x, y) => (2, "point", zone, [x as u32, y as u32], (0.0, 0.0)),
@@ -144,23 +162,22 @@ fn record(out: &mut Vec<u8>, q: Question, answer: Said<Answer>, counts: &mut Cou
     };
     [kind, of, a, b].iter().for_each(|&n| word(out, n.into()));
     [x, y].iter().for_each(|&x| out.extend_from_slice(&scene::bits(x).to_le_bytes()));
-    let refusal = answer.as_ref().err().copied().unwrap_or(0);
-    let [first, second] = answer.map_or([0, 0], numbers);
-    [refusal.into(), first, second, 0].iter().for_each(|&n| word(out, n));
+    let refusal = answer.as_ref().err().map_or(0, |refusal| refusal.number);
+    said(out, answer.map(numbers));
     *counts.entry((name, refusal)).or_default() += 1;
 }
 
 /// How many numbers and the sum of their bytes; 1 for yes; 1 and the zone, or 0 for none.
-fn numbers(answer: Answer) -> [u64; 2] {
+fn numbers(answer: Answer) -> [u64; 3] {
     let sum = |all: &[u32]| {
         let bytes: Vec<u8> = all.iter().flat_map(|n| n.to_le_bytes()).collect();
-        [all.len() as u64, rules::crc32(&bytes).into()]
+        [all.len() as u64, rules::crc32(&bytes).into(), 0]
     };
     match answer {
         Answer::Points(points) => sum(&points.iter().map(|&n| n as u32).collect::<Vec<_>>()),
         Answer::Zones(zones) => sum(&zones.iter().map(|&n| n as u32).collect::<Vec<_>>()),
-        Answer::Is(is) => [is.into(), 0],
-        Answer::Zone(zone) => [zone.is_some().into(), zone.unwrap_or(0)],
+        Answer::Is(is) => [is.into(), 0, 0],
+        Answer::Zone(zone) => [zone.is_some().into(), zone.unwrap_or(0), 0],
         _ => unreachable!("asked.bin has the others"),
     }
 }
@@ -172,4 +189,43 @@ fn hold_original(file: &[u8], questions: &[Question]) {
     };
     let judge = Judge::plain(opened, &EVERY);
     questions.iter().for_each(|&q| assert_eq!(original.ask(q), judge.ask(q), "{q:?}"));
+}
+
+#[cfg(test)]
+mod tests {
+    use super::*;
+    use crate::file::word;
+
+    /// The list is read as README.md says, and each record once. A refusal 38 to 43 has a place in the bytes that are lent, or their end,
+    /// and no other has one.
+    #[test]
+    fn the_list_reads_back() {
+        let (list, counts) = list();
+        let mut rest = &list[..];
+        let mut take = |length: usize| {
+            let (some, behind) = rest.split_at(length);
+            rest = behind;
+            some
+        };
+        let (mut questions, mut places) = (0, 0);
+        for _ in 0..files().len() + file::places::cases().len() {
+            for _ in 0..word(take(1024), 4) {
+                let lent = take(1024);
+                for _ in 0..word(lent, 4) {
+                    let q = take(48);
+                    questions += 1;
+                    match word(q, 32) {
+                        0 => {}
+                        38..44 => {
+                            assert!((1..=word(lent, 0) + 1).contains(&word(q, 36)));
+                            places += 1;
+                        }
+                        _ => assert_eq!(word(q, 36), 0),
+                    }
+                }
+            }
+        }
+        assert!(rest.is_empty() && places > 1000, "{places}");
+        assert_eq!(questions, counts.values().sum::<u64>());
+    }
 }

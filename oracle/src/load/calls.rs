@@ -19,6 +19,8 @@ pub struct Caller {
     record: Lent,
     part: Lent,
     numbers: Lent,
+    /// What a place's export is lent in the place of a room: it may not write there.
+    unwritten: Lent,
     rooms: [Room; 6],
     pub tally: Tally,
 }
@@ -28,13 +30,14 @@ type Slice = (*const u8, usize);
 /// An answer, or None where it was refused.
 type Answer = Option<i64>;
 
-/// What containment and the lookups say, and the bytes of the listed zones.
+/// What containment and the lookups say, the bytes of the listed zones, and the place of each.
 #[derive(Debug, PartialEq)]
 struct Walked {
     is: i32,
     found: i64,
     zones: i64,
     list: Vec<u8>,
+    places: [i64; 3],
 }
 
 fn hold(holds: bool, what: impl FnOnce() -> String) -> Result<(), String> {
@@ -49,6 +52,7 @@ impl Caller {
             record: Lent::new(SHORT),
             part: Lent::new(SHORT),
             numbers: Lent::new(4 * NUMBERS),
+            unwritten: Lent::new(PAGE),
             rooms: [(); 6].map(|()| Room::new()),
             tally: Tally::new(),
         }
@@ -64,6 +68,7 @@ impl Caller {
         let record = self.record.put(record, input.at_end[1]);
         self.names(input, record, file)?;
         self.candidates(input, record, file)?;
+        self.decodes(input, record, file)?;
         let walked = self.walks(input, record, file)?;
         self.stripes(input, record, file, &walked)?;
         self.journal(input, record, file, walked.is)?;
@@ -96,6 +101,26 @@ impl Caller {
         Ok(None)
     }
 
+    /// The place beside a code: one of the file, or its end, exactly for 38 to 43. There 39 and 40 are said again, and 43 is about a byte.
+    fn place(&self, code: i64, place: i64, (f, length): Slice) -> Result<i64, String> {
+        let last = length as i64 - i64::from(code == -1043);
+        let again = |at: i64| unsafe { (self.exports.number_length)(f, length, at as usize) };
+        let may = match code {
+            -1043..=-1038 if !(0..=last).contains(&place) => false,
+            -1040 | -1039 => i64::from(again(place)) == code,
+            -1043..=-1038 => true,
+            _ => place == -1,
+        };
+        hold(may, || format!("the place {place}, where the answer is {code}"))?;
+        Ok(place)
+    }
+
+    /// So many numbers that may be read alone.
+    fn unwritten(&mut self, count: usize, at_end: bool, guard: u64) -> *const u8 {
+        let bytes: Vec<u8> = guard.to_le_bytes().into_iter().cycle().take(4 * count).collect();
+        self.unwritten.put(&bytes, at_end).0
+    }
+
     /// What opens the file. The record that was written, if one was.
     fn opening(&mut self, input: &Input, (f, length): Slice) -> Result<Option<Vec<u8>>, String> {
         let Input { lng, lat, guard, .. } = *input;
@@ -113,6 +138,8 @@ impl Caller {
         let zone = unsafe { (self.call(Export::Lookup).lookup)(f, length, lng, lat) };
         self.said(Export::Lookup, zone.into(), -1, i32::MAX.into())?;
         agrees(zone, zone > -1000 || zone <= -1032)?;
+        let place = unsafe { (self.call(Export::LookupPlace).lookup_place)(f, length, lng, lat) };
+        self.place(zone.into(), place, (f, length))?;
         let check = unsafe { (self.call(Export::FullCheck).full_check)(f, length) };
         self.said(Export::FullCheck, check.into(), 0, 0)?;
         agrees(check, check == 0 || check == -1047)?;
@@ -197,32 +224,55 @@ impl Caller {
         Ok(())
     }
 
+    fn decodes(
+        &mut self,
+        input: &Input,
+        (r, size): Slice,
+        (f, length): Slice,
+    ) -> Result<(), String> {
+        let Input { chunk, guard, rooms: [_, room, _], .. } = *input;
+        let out = self.rooms[1].lend(4 * room, input.at_end[4], guard)?.cast();
+        let export = self.call(Export::Decode).decode;
+        let points = unsafe { export(r, size, f, length, chunk, out, room) };
+        let said = self.said(Export::Decode, points, 0, room as i64 / 2)?;
+        self.rooms[1].take(8 * said.unwrap_or(0) as usize)?;
+        let out = self.unwritten(room, input.at_end[4], guard).cast();
+        let export = self.call(Export::DecodePlace).decode_place;
+        let place = unsafe { export(r, size, f, length, chunk, out, room) };
+        self.place(points, place, (f, length))?;
+        Ok(())
+    }
+
     fn walks(
         &mut self,
         input: &Input,
         (r, size): Slice,
         (f, length): Slice,
     ) -> Result<Walked, String> {
-        let Input { zone, chunk, x, y, lng, lat, guard, rooms: [_, room, places], .. } = *input;
+        let Input { zone, x, y, lng, lat, guard, rooms: [_, _, places], .. } = *input;
         let export = self.call(Export::Contains).contains;
         let is = unsafe { export(r, size, f, length, zone, x, y) };
         self.said(Export::Contains, is.into(), 0, 1)?;
-
-        let out = self.rooms[1].lend(4 * room, input.at_end[4], guard)?.cast();
-        let export = self.call(Export::Decode).decode;
-        let points = unsafe { export(r, size, f, length, chunk, out, room) };
-        let said = self.said(Export::Decode, points, 0, room as i64 / 2)?;
-        self.rooms[1].take(8 * said.unwrap_or(0) as usize)?;
+        let export = self.call(Export::ContainsPlace).contains_place;
+        let place = unsafe { export(r, size, f, length, zone, x, y) };
+        let is_place = self.place(is.into(), place, (f, length))?;
 
         let found = unsafe { (self.call(Export::Ask).ask)(r, size, f, length, lng, lat) };
         self.said(Export::Ask, found, -1, u32::MAX.into())?;
+        let export = self.call(Export::AskPlace).ask_place;
+        let place = unsafe { export(r, size, f, length, lng, lat) };
+        let found_place = self.place(found, place, (f, length))?;
 
         let out = self.rooms[2].lend(4 * places, input.at_end[5], guard)?.cast();
         let export = self.call(Export::AskAll).ask_all;
         let zones = unsafe { export(r, size, f, length, lng, lat, out, places) };
         let said = self.said(Export::AskAll, zones, 0, places as i64)?;
         let list = self.rooms[2].take(4 * said.unwrap_or(0) as usize)?;
-        Ok(Walked { is, found, zones, list })
+        let out = self.unwritten(places, input.at_end[5], guard).cast();
+        let export = self.call(Export::AskAllPlace).ask_all_place;
+        let place = unsafe { export(r, size, f, length, lng, lat, out, places) };
+        let places = [is_place, found_place, self.place(zones, place, (f, length))?];
+        Ok(Walked { is, found, zones, list, places })
     }
 
     /// The need, then the numbers, 46 exactly where the room is below it; then the walks' questions, with these numbers or others. With the
@@ -274,18 +324,28 @@ impl Caller {
         let export = self.call(Export::ContainsStriped).contains_striped;
         let is = unsafe { export(r, size, n, count, f, length, zone, x, y) };
         self.said(Export::ContainsStriped, is.into(), 0, 1)?;
+        let export = self.call(Export::ContainsStripedPlace).contains_striped_place;
+        let place = unsafe { export(r, size, n, count, f, length, zone, x, y) };
+        let is_place = self.place(is.into(), place, (f, length))?;
 
         let export = self.call(Export::AskStriped).ask_striped;
         let found = unsafe { export(r, size, n, count, f, length, lng, lat) };
         self.said(Export::AskStriped, found, -1, u32::MAX.into())?;
+        let export = self.call(Export::AskStripedPlace).ask_striped_place;
+        let place = unsafe { export(r, size, n, count, f, length, lng, lat) };
+        let found_place = self.place(found, place, (f, length))?;
 
         let out = self.rooms[2].lend(4 * places, input.at_end[5], guard)?.cast();
         let export = self.call(Export::AskAllStriped).ask_all_striped;
         let zones = unsafe { export(r, size, n, count, f, length, lng, lat, out, places) };
         let said = self.said(Export::AskAllStriped, zones, 0, places as i64)?;
         let list = self.rooms[2].take(4 * said.unwrap_or(0) as usize)?;
+        let out = self.unwritten(places, input.at_end[5], guard).cast();
+        let export = self.call(Export::AskAllStripedPlace).ask_all_striped_place;
+        let place = unsafe { export(r, size, n, count, f, length, lng, lat, out, places) };
+        let places = [is_place, found_place, self.place(zones, place, (f, length))?];
 
-        let walked = Walked { is, found, zones, list };
+        let walked = Walked { is, found, zones, list, places };
         hold(!alike || walked == *plain, || format!("by stripes {walked:?}, plainly {plain:?}"))
     }
 

@@ -49,6 +49,7 @@ fn as_a_child() {
             "sum" => run(Exports { crc32: sum_that_reads_one_behind, ..PORT }),
             "count" => run(Exports { zone_count: count_that_writes, ..PORT }),
             "text" => run(Exports { utf8: text_without_end, ..PORT }),
+            "list" => run(Exports { ask_all_place: of_places::list_that_writes, ..PORT }),
             other => panic!("no task {other}"),
         }
     }
@@ -439,6 +440,94 @@ mod of_journal {
     }
 }
 
+mod of_places {
+    use super::*;
+
+    /// None, where a number is refused.
+    unsafe extern "C" fn decode_without(
+        _: *const u8,
+        _: usize,
+        _: *const u8,
+        _: usize,
+        _: u32,
+        _: *const i32,
+        _: usize,
+    ) -> i64 {
+        -1
+    }
+
+    /// A byte further on: past the end of the file, or where no number is refused.
+    unsafe extern "C" fn decode_of_one_more(
+        record: *const u8,
+        size: usize,
+        file: *const u8,
+        length: usize,
+        chunk: u32,
+        out: *const i32,
+        room: usize,
+    ) -> i64 {
+        let place = unsafe { (PORT.decode_place)(record, size, file, length, chunk, out, room) };
+        if place < 0 { place } else { place + 1 }
+    }
+
+    /// The first byte, where nothing is refused.
+    unsafe extern "C" fn ask_that_always_has_one(
+        record: *const u8,
+        size: usize,
+        file: *const u8,
+        length: usize,
+        lng: f64,
+        lat: f64,
+    ) -> i64 {
+        unsafe { (PORT.ask_place)(record, size, file, length, lng, lat) }.max(0)
+    }
+
+    /// The end of the file, which plainly it is not.
+    #[allow(clippy::too_many_arguments)]
+    unsafe extern "C" fn striped_at_the_end(
+        record: *const u8,
+        size: usize,
+        numbers: *const u32,
+        count: usize,
+        file: *const u8,
+        length: usize,
+        lng: f64,
+        lat: f64,
+        zones: *const u32,
+        places: usize,
+    ) -> i64 {
+        let export = PORT.ask_all_striped_place;
+        let place =
+            unsafe { export(record, size, numbers, count, file, length, lng, lat, zones, places) };
+        if place < 0 { place } else { length as i64 }
+    }
+
+    #[test]
+    fn a_wrong_place_is_found_out() {
+        assert!(told(Exports { decode_place: decode_without, ..PORT }).is_some());
+        assert!(told(Exports { decode_place: decode_of_one_more, ..PORT }).is_some());
+        assert!(told(Exports { ask_place: ask_that_always_has_one, ..PORT }).is_some());
+        assert!(told(Exports { ask_all_striped_place: striped_at_the_end, ..PORT }).is_some());
+    }
+
+    /// In a child: a place's export writes to the numbers that it is lent.
+    pub unsafe extern "C" fn list_that_writes(
+        record: *const u8,
+        size: usize,
+        file: *const u8,
+        length: usize,
+        lng: f64,
+        lat: f64,
+        zones: *const u32,
+        places: usize,
+    ) -> i64 {
+        if places > 0 {
+            unsafe { zones.cast_mut().write_volatile(0) };
+        }
+        unsafe { (PORT.ask_all_place)(record, size, file, length, lng, lat, zones, places) }
+    }
+}
+
 unsafe extern "C" fn sum_that_reads_one_behind(bytes: *const u8, length: usize) -> u32 {
     unsafe { bytes.add(length).read_volatile().into() }
 }
@@ -469,7 +558,7 @@ fn run(exports: Exports) {
 
 #[test]
 fn a_fault_and_a_call_without_end_are_told() {
-    for task in ["sum", "count", "text"] {
+    for task in ["sum", "count", "text", "list"] {
         assert_eq!(child(task), TOLD, "{task}");
     }
 }

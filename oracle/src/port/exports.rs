@@ -51,16 +51,32 @@ exports! {
     Contains contains: unsafe fn tzb_contains(
         record: Bytes, size: usize, file: Bytes, length: usize, zone: u32, x: i32, y: i32
     ) -> i32;
+    ContainsPlace contains_place: unsafe fn tzb_contains_place(
+        record: Bytes, size: usize, file: Bytes, length: usize, zone: u32, x: i32, y: i32
+    ) -> i64;
     Decode decode: unsafe fn tzb_decode(
         record: Bytes, size: usize, file: Bytes, length: usize, chunk: u32, out: *mut i32, room: usize
     ) -> i64;
+    DecodePlace decode_place: unsafe fn tzb_decode_place(
+        record: Bytes, size: usize, file: Bytes, length: usize, chunk: u32, out: *const i32, room: usize
+    ) -> i64;
     Lookup lookup: unsafe fn tzb_lookup(file: Bytes, length: usize, lng: f64, lat: f64) -> i32;
+    LookupPlace lookup_place: unsafe fn tzb_lookup_place(
+        file: Bytes, length: usize, lng: f64, lat: f64
+    ) -> i64;
     Ask ask: unsafe fn tzb_ask(
+        record: Bytes, size: usize, file: Bytes, length: usize, lng: f64, lat: f64
+    ) -> i64;
+    AskPlace ask_place: unsafe fn tzb_ask_place(
         record: Bytes, size: usize, file: Bytes, length: usize, lng: f64, lat: f64
     ) -> i64;
     AskAll ask_all: unsafe fn tzb_ask_all(
         record: Bytes, size: usize, file: Bytes, length: usize,
         lng: f64, lat: f64, zones: *mut u32, places: usize
+    ) -> i64;
+    AskAllPlace ask_all_place: unsafe fn tzb_ask_all_place(
+        record: Bytes, size: usize, file: Bytes, length: usize,
+        lng: f64, lat: f64, zones: Numbers, places: usize
     ) -> i64;
     StripesNeed stripes_need: unsafe fn tzb_stripes_need(
         record: Bytes, size: usize, file: Bytes, length: usize
@@ -72,13 +88,25 @@ exports! {
         record: Bytes, size: usize, numbers: Numbers, count: usize, file: Bytes, length: usize,
         zone: u32, x: i32, y: i32
     ) -> i32;
+    ContainsStripedPlace contains_striped_place: unsafe fn tzb_contains_striped_place(
+        record: Bytes, size: usize, numbers: Numbers, count: usize, file: Bytes, length: usize,
+        zone: u32, x: i32, y: i32
+    ) -> i64;
     AskStriped ask_striped: unsafe fn tzb_ask_striped(
+        record: Bytes, size: usize, numbers: Numbers, count: usize, file: Bytes, length: usize,
+        lng: f64, lat: f64
+    ) -> i64;
+    AskStripedPlace ask_striped_place: unsafe fn tzb_ask_striped_place(
         record: Bytes, size: usize, numbers: Numbers, count: usize, file: Bytes, length: usize,
         lng: f64, lat: f64
     ) -> i64;
     AskAllStriped ask_all_striped: unsafe fn tzb_ask_all_striped(
         record: Bytes, size: usize, numbers: Numbers, count: usize, file: Bytes, length: usize,
         lng: f64, lat: f64, zones: *mut u32, places: usize
+    ) -> i64;
+    AskAllStripedPlace ask_all_striped_place: unsafe fn tzb_ask_all_striped_place(
+        record: Bytes, size: usize, numbers: Numbers, count: usize, file: Bytes, length: usize,
+        lng: f64, lat: f64, zones: Numbers, places: usize
     ) -> i64;
     FullCheck full_check: unsafe fn tzb_full_check(file: Bytes, length: usize) -> i32;
     FullCheckRule full_check_rule: unsafe fn tzb_full_check_rule(file: Bytes, length: usize) -> u32;

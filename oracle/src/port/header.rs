@@ -14,6 +14,7 @@ fn parameter(text: &str) -> String {
     let (name, kind) = text.split_once(':').unwrap();
     match kind.trim() {
         "&[u8]" => format!("const uint8_t *{name}, size_t {name}_length"),
+        "&[i32]" => format!("const int32_t *{name}, size_t {name}_length"),
         "&[u32]" => format!("const uint32_t *{name}, size_t {name}_length"),
         "&mut [u8]" => format!("uint8_t *{name}, size_t {name}_length"),
         "&mut [i32]" => format!("int32_t *{name}, size_t {name}_length"),

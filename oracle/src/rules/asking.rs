@@ -1,7 +1,7 @@
 //! Lookups, and containment at a whole-number point.
 
 use super::walk::{Point, Walk};
-use super::{Candidates, Departure, Opened, Said, Way, need};
+use super::{Candidates, Departure, Opened, Placed, Said, Way, need};
 
 /// An opened file with the departures by which it is judged, walked plainly or by stripes.
 #[derive(Clone, Copy)]
@@ -24,13 +24,13 @@ impl<'a> Judge<'a> {
 
 impl Judge<'_> {
     /// Any float point, without a look at the zone number or the domain.
-    pub fn contains_at(&self, zone: u64, x: f64, y: f64) -> Said<bool> {
+    pub fn contains_at(&self, zone: u64, x: f64, y: f64) -> Placed<bool> {
         let Self { opened, original, way } = *self;
         Walk { opened, original, way, point: Point { x, y } }.zone(zone)
     }
 
     /// A zone number too large is 45, first of all; then a point outside the domain is no.
-    pub fn contains(&self, zone: u64, x: i32, y: i32) -> Said<bool> {
+    pub fn contains(&self, zone: u64, x: i32, y: i32) -> Placed<bool> {
         need(45, zone < self.opened.zones)?;
         if x.unsigned_abs() > 18_000_000 || y.unsigned_abs() > 9_000_000 {
             return Ok(false);
@@ -53,11 +53,11 @@ impl Judge<'_> {
     }
 
     /// Each coordinate is multiplied by 100,000, with one rounding.
-    fn is_in(&self, zone: u64, lng: f64, lat: f64) -> Said<bool> {
+    fn is_in(&self, zone: u64, lng: f64, lat: f64) -> Placed<bool> {
         self.contains_at(zone, lng * 100_000.0, lat * 100_000.0)
     }
 
-    pub fn lookup(&self, lng: f64, lat: f64) -> Said<Option<u64>> {
+    pub fn lookup(&self, lng: f64, lat: f64) -> Placed<Option<u64>> {
         let (count, zone) = self.candidates(lng, lat)?;
         let unlooked_at = self.opened.grid.is_some()
             && self.opened.flags & 2 == 0
@@ -66,7 +66,7 @@ impl Judge<'_> {
             && -89.0 < lat
             && lat < 89.0;
         if count == 1 && unlooked_at {
-            return zone(0).map(Some);
+            return Ok(Some(zone(0)?));
         }
         for i in 0..count {
             let zone = zone(i)?;
@@ -78,7 +78,7 @@ impl Judge<'_> {
     }
 
     /// Every candidate, by name bytes; equal names in candidate order. Any other refusal comes before 46.
-    pub fn lookup_into(&self, lng: f64, lat: f64, places: u64) -> Said<Vec<u64>> {
+    pub fn lookup_into(&self, lng: f64, lat: f64, places: u64) -> Placed<Vec<u64>> {
         let (count, zone) = self.candidates(lng, lat)?;
         let mut found = Vec::new();
         for i in 0..count {

@@ -1,62 +1,88 @@
 //! Chunk bytes: zigzag LEB128 numbers, points, decoding.
 
 use super::records::{Chunk, Place};
-use super::{Opened, POINTS, Said, need};
+use super::{Opened, POINTS, Placed, Refusal, Said, need};
 use crate::bytes::{Reading, refused};
 
 /// The number at a place, and how many bytes it has. At a place past the end no byte is left.
 pub fn reading(data: &[u8], at: usize) -> Reading {
-    let mut rest = Bytes(data.get(at..).unwrap_or_default());
-    let before = rest.0.len();
+    let left = data.get(at..).unwrap_or_default();
+    let mut rest = Bytes { left, place: at as u64 };
     match rest.number() {
-        Ok(n) => Reading { number: n as i32, length: (before - rest.0.len()) as i32 },
-        Err(refusal) => refused(refusal as i32),
+        Ok(n) => Reading { number: n.value as i32, length: (left.len() - rest.left.len()) as i32 },
+        Err(refusal) => refused(refusal.number as i32),
     }
 }
 
-/// What is left of a chunk's bytes.
-pub struct Bytes<'a>(pub &'a [u8]);
+/// What is left of a chunk's bytes, and the place of the first of them in the file; of none, where the chunk ends.
+pub struct Bytes<'a> {
+    left: &'a [u8],
+    place: u64,
+}
+
+/// A number that was read, and the place of its first byte.
+struct Number {
+    value: i64,
+    place: u64,
+}
+
+/// The refusal is about what starts at that place.
+fn need_at(place: u64, number: u32, holds: bool) -> Placed<()> {
+    if holds { Ok(()) } else { Err(Refusal { number, place: Some(place) }) }
+}
 
 impl Bytes<'_> {
-    /// 38 to 40.
-    fn number(&mut self) -> Said<i64> {
+    fn byte(&mut self) -> Option<u8> {
+        let (&byte, rest) = self.left.split_first()?;
+        *self = Bytes { left: rest, place: self.place + 1 };
+        Some(byte)
+    }
+
+    /// 38 to 40, by "the place in the file of the first byte of the number that was being read".
+    fn number(&mut self) -> Placed<Number> {
+        let place = self.place;
         let mut sum = 0;
         for i in 0..5 {
-            let (&byte, rest) = self.0.split_first().ok_or(38u32)?;
-            self.0 = rest;
-            need(40, i < 4 || byte & 0xf0 == 0)?;
+            let byte = self.byte();
+            need_at(place, 38, byte.is_some())?;
+            let byte = byte.unwrap();
+            need_at(place, 40, i < 4 || byte & 0xf0 == 0)?;
             sum += u64::from(byte % 128) << (7 * i);
             if byte < 128 {
-                need(39, i == 0 || byte != 0)?;
+                need_at(place, 39, i == 0 || byte != 0)?;
                 break;
             }
         }
         let half = (sum / 2) as i64;
-        Ok(if sum % 2 == 0 { half } else { -half - 1 })
+        Ok(Number { value: if sum % 2 == 0 { half } else { -half - 1 }, place })
     }
 
     /// The first point, whole.
-    pub fn first(&mut self) -> Said<Place> {
-        let point = (self.number()?, self.number()?);
-        in_domain(point)
+    pub fn first(&mut self) -> Placed<Place> {
+        let (x, y) = (self.number()?, self.number()?);
+        in_domain((x.value, y.value), &y)
     }
 
-    /// The point after this one. Both numbers are read before the sums are looked at.
-    pub fn next(&mut self, (x, y): Place) -> Said<Place> {
+    /// The point after this one. Both numbers are read before the sums are looked at; "41 names the number whose sum left i32".
+    pub fn next(&mut self, (x, y): Place) -> Placed<Place> {
         let (dx, dy) = (self.number()?, self.number()?);
-        for sum in [x + dx, y + dy] {
-            need(41, i32::try_from(sum).is_ok())?;
+        let (x, y) = (x + dx.value, y + dy.value);
+        for (sum, number) in [(x, &dx), (y, &dy)] {
+            need_at(number.place, 41, i32::try_from(sum).is_ok())?;
         }
-        in_domain((x + dx, y + dy))
+        in_domain((x, y), &dy)
     }
 
-    pub fn end(&self) -> Said<()> {
-        need(43, self.0.is_empty())
+    /// "For 43 of the first byte left over".
+    pub fn end(&self) -> Placed<()> {
+        need_at(self.place, 43, self.left.is_empty())
     }
 }
 
-fn in_domain((x, y): Place) -> Said<Place> {
-    need(42, x.abs() <= 18_000_000 && y.abs() <= 9_000_000)?;
+/// 42 names "the y number", also where x alone is outside.
+fn in_domain((x, y): Place, number: &Number) -> Placed<Place> {
+    let is = x.abs() <= 18_000_000 && y.abs() <= 9_000_000;
+    need_at(number.place, 42, is)?;
     Ok((x, y))
 }
 
@@ -72,11 +98,11 @@ impl<'a> Opened<'a> {
         let start = points.off + chunk.offset;
         need(37, start < end)?;
         need(44, end <= self.file.len() as u64)?;
-        Ok(Bytes(&self.file[start as usize..end as usize]))
+        Ok(Bytes { left: &self.file[start as usize..end as usize], place: start })
     }
 
     /// A chunk decodes into lent places, two a point: 34, 32 for a count of 0, 46 for room, then 37 and the rest.
-    pub fn decode(&self, index: u64, room: u64) -> Said<Vec<i64>> {
+    pub fn decode(&self, index: u64, room: u64) -> Placed<Vec<i64>> {
         let chunk = self.chunk_at(index)?;
         need(32, chunk.count > 0)?;
         need(46, 2 * chunk.count <= room)?;
@@ -84,7 +110,7 @@ impl<'a> Opened<'a> {
         Ok(points.into_iter().flat_map(|(x, y)| [x, y]).collect())
     }
 
-    fn points_of(&self, index: u64, chunk: Chunk) -> Said<Vec<Place>> {
+    fn points_of(&self, index: u64, chunk: Chunk) -> Placed<Vec<Place>> {
         let mut bytes = self.chunk_bytes(index, chunk, None)?;
         let mut out = vec![bytes.first()?];
         for _ in 1..chunk.count {
@@ -110,7 +136,7 @@ impl<'a> Opened<'a> {
     }
 
     /// All points of a chunk.
-    pub fn points(&self, index: u64) -> Said<Vec<Place>> {
+    pub fn points(&self, index: u64) -> Placed<Vec<Place>> {
         let chunk = self.chunk_at(index)?;
         need(32, chunk.count > 0)?;
         self.points_of(index, chunk)
@@ -121,7 +147,8 @@ impl<'a> Opened<'a> {
 mod tests {
     use super::reading;
     use crate::bytes::{OF_NUMBERS, Reading, all, refused};
-    use crate::original;
+    use crate::rules::{Refusal, open};
+    use crate::{file, original};
 
     #[test]
     fn one_and_two_bytes_by_hand() {
@@ -139,6 +166,18 @@ mod tests {
         assert_eq!(reading(&[0x80], 0), refused(38));
         assert_eq!(reading(&[0x80, 0x00], 0), refused(39));
         assert_eq!(reading(&[0x80, 0x01], 3), refused(38));
+    }
+
+    /// Of files that are told by hand.
+    #[test]
+    fn a_refusal_has_its_place() {
+        for (i, (said, file)) in file::chunks().into_iter().enumerate() {
+            let opened = open(&file, &[]).ok().unwrap();
+            assert_eq!(opened.decode(0, u64::MAX).map(|_| ()), said, "chunk {i}");
+            assert_eq!(opened.points(0).map(|_| ()), said, "chunk {i}");
+            let too_short = Refusal { number: 46, place: None };
+            assert_eq!(opened.decode(0, 3), Err(too_short), "chunk {i}");
+        }
     }
 
     #[test]

@@ -26,7 +26,7 @@ impl Opened<'_> {
         if !self.f2() {
             return Some(2);
         }
-        let Ok(points) = (0..self.chunks()).map(|i| self.points(i)).collect::<Said<Vec<_>>>()
+        let Ok(points) = (0..self.chunks()).map(|i| self.points(i)).collect::<Placed<Vec<_>>>()
         else {
             return Some(3);
         };

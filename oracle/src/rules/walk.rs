@@ -4,7 +4,7 @@ use super::chunk::Bytes;
 use super::ray::{Seen, parity, ray};
 use super::records::{Chunk, Group, Place};
 use super::stripes::{Numbers, Way};
-use super::{Departure, Opened, Said, need};
+use super::{Departure, Opened, Placed, need};
 
 #[derive(Clone, Copy)]
 pub struct Point {
@@ -41,7 +41,7 @@ impl Walk<'_> {
         self.original.contains(&d)
     }
 
-    pub fn zone(&self, index: u64) -> Said<bool> {
+    pub fn zone(&self, index: u64) -> Placed<bool> {
         let (o, Point { x, y }) = (&self.opened, self.point);
         let zone = o.zone_at(index)?;
         if !zone.bounds.contains(x, y) {
@@ -60,7 +60,7 @@ impl Walk<'_> {
     }
 
     /// Whether one of the holes has the point strictly inside.
-    fn holes(&self, first: u64, count: u64) -> Said<bool> {
+    fn holes(&self, first: u64, count: u64) -> Placed<bool> {
         for i in first..first + count {
             if self.ring(i, false)? {
                 return Ok(true);
@@ -69,7 +69,7 @@ impl Walk<'_> {
         Ok(false)
     }
 
-    fn ring(&self, index: u64, on_edge: bool) -> Said<bool> {
+    fn ring(&self, index: u64, on_edge: bool) -> Placed<bool> {
         let (o, p) = (&self.opened, self.point);
         let ring = o.ring_at(index, self.original)?;
         if !ring.bounds.contains(p.x, p.y) {
@@ -108,7 +108,7 @@ impl Walk<'_> {
         Ok(tally.odd)
     }
 
-    fn group(&self, index: u64, group: &Group, tally: &mut Tally) -> Said<bool> {
+    fn group(&self, index: u64, group: &Group, tally: &mut Tally) -> Placed<bool> {
         match self.way {
             Way::Plain => self.plain(group, tally),
             Way::Striped(numbers) => self.striped(Numbers(numbers), index, group, tally),
@@ -123,7 +123,7 @@ impl Walk<'_> {
         index: u64,
         group: &Group,
         tally: &mut Tally,
-    ) -> Said<bool> {
+    ) -> Placed<bool> {
         let (o, p) = (&self.opened, self.point);
         let Some(places) = numbers.places(index, p.y)? else { return self.plain(group, tally) };
         for place in places {
@@ -142,7 +142,7 @@ impl Walk<'_> {
         Ok(false)
     }
 
-    fn plain(&self, group: &Group, tally: &mut Tally) -> Said<bool> {
+    fn plain(&self, group: &Group, tally: &mut Tally) -> Placed<bool> {
         let o = &self.opened;
         let last = group.first + group.count - 1;
         let stripe = self.departs(Departure::Stripes) && group.count > 1;
@@ -169,7 +169,7 @@ impl Walk<'_> {
         chunk: Chunk,
         next: Option<Chunk>,
         tally: &mut Tally,
-    ) -> Said<bool> {
+    ) -> Placed<bool> {
         let (o, p) = (&self.opened, self.point);
         let mut bytes = o.chunk_bytes(index, chunk, next)?;
         let first_of_next = || match next {
@@ -189,7 +189,7 @@ impl Walk<'_> {
     }
 
     /// The last point, or none after a hit on an edge. The original reads on after a hit.
-    fn scan(&self, bytes: &mut Bytes, count: u64, tally: &mut Tally) -> Said<Option<Place>> {
+    fn scan(&self, bytes: &mut Bytes, count: u64, tally: &mut Tally) -> Placed<Option<Place>> {
         need(32, count > 0)?;
         let mut point = bytes.first()?;
         let mut on = false;

@@ -165,6 +165,7 @@ fn of_file(
         let at = position(random, turn);
         if turn < 4 {
             call(Export::Lookup, lookup as *const (), &[f, length], at);
+            call(Export::LookupPlace, PORT.lookup_place as *const (), &[f, length], at);
         }
         questions(random, [record, SIZE as u64, f, length], at, lent, &mut call);
         by_stripes(random, [record, SIZE as u64, f, length], at, lent, &mut call);
@@ -221,17 +222,27 @@ fn by_stripes(
     call: &mut impl FnMut(Export, *const (), &[u64], [f64; 2]),
 ) {
     let Exports { contains_striped, ask_striped, ask_all_striped, .. } = PORT;
+    let Exports { contains_striped_place, ask_striped_place, ask_all_striped_place, .. } = PORT;
     let whole = lent.numbers.len() as u64;
     let (n, count) = (lent.numbers.as_ptr() as u64, random.pick(&[whole, whole, whole, 5, 30, 0]));
     let with = |more: &[u64]| [&[r, size, n, count, f, length][..], more].concat();
     let zone = random.pick(&[0, 0, 1, 2, 100, u32::MAX]).into();
     let [x, y] = at.map(|degrees| (degrees * 1e5) as i32 as u64);
-    call(Export::ContainsStriped, contains_striped as *const (), &with(&[zone, x, y]), [0.0; 2]);
+    for (export, at) in [
+        (Export::ContainsStriped, contains_striped as *const ()),
+        (Export::ContainsStripedPlace, contains_striped_place as *const ()),
+    ] {
+        call(export, at, &with(&[zone, x, y]), [0.0; 2]);
+    }
     call(Export::AskStriped, ask_striped as *const (), &with(&[]), at);
+    call(Export::AskStripedPlace, ask_striped_place as *const (), &with(&[]), at);
     let zones = lent.zones.as_mut_ptr() as u64;
     let many = random.pick(&[0, 1, 16, 65_535]);
-    call(Export::AskAllStriped, ask_all_striped as *const (), &with(&[zones, many]), at);
-    call(Export::AskAllStriped, ask_all_striped as *const (), &with(&[zones, 65_535]), at);
+    let place = ask_all_striped_place as *const ();
+    for many in [many, 65_535] {
+        call(Export::AskAllStriped, ask_all_striped as *const (), &with(&[zones, many]), at);
+        call(Export::AskAllStripedPlace, place, &with(&[zones, many]), at);
+    }
 }
 
 /// The middle, where most small files have their zones, then near it, on the earth, and anywhere.
@@ -254,6 +265,7 @@ fn questions(
 ) {
     let Exports { zone_count, name_start, name_end, name, choice, listed, .. } = PORT;
     let Exports { candidate, contains, decode, ask, ask_all, .. } = PORT;
+    let Exports { contains_place, decode_place, ask_place, ask_all_place, .. } = PORT;
     let with = |more: &[u64]| [&lent_in[..], more].concat();
     let none = [0.0; 2];
     let number = random.pick(&[0, 0, 1, 2, 100, u32::MAX]).into();
@@ -268,13 +280,19 @@ fn questions(
     call(Export::Candidate, candidate as *const (), &with(&[number]), none);
     let [x, y] = at.map(|degrees| (degrees * 1e5) as i32 as u64);
     call(Export::Contains, contains as *const (), &with(&[number, x, y]), none);
+    call(Export::ContainsPlace, contains_place as *const (), &with(&[number, x, y]), none);
     let points = lent.points.as_mut_ptr() as u64;
-    call(Export::Decode, decode as *const (), &with(&[number, points, 2 * many]), none);
-    call(Export::Decode, decode as *const (), &with(&[0, points, 2 * 65_535]), none);
+    for asked in [[number, points, 2 * many], [0, points, 2 * 65_535]] {
+        call(Export::Decode, decode as *const (), &with(&asked), none);
+        call(Export::DecodePlace, decode_place as *const (), &with(&asked), none);
+    }
     call(Export::Ask, ask as *const (), &with(&[]), at);
+    call(Export::AskPlace, ask_place as *const (), &with(&[]), at);
     let zones = lent.zones.as_mut_ptr() as u64;
-    call(Export::AskAll, ask_all as *const (), &with(&[zones, many]), at);
-    call(Export::AskAll, ask_all as *const (), &with(&[zones, 65_535]), at);
+    for many in [many, 65_535] {
+        call(Export::AskAll, ask_all as *const (), &with(&[zones, many]), at);
+        call(Export::AskAllPlace, ask_all_place as *const (), &with(&[zones, many]), at);
+    }
 }
 
 /// The parts that take no file: any numbers and floats, and any bytes.

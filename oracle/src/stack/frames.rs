@@ -14,7 +14,8 @@ const WORD: usize = 8;
 const OUTSIDE: [&str; 2] = ["memcpy", "memset"];
 /// What the run itself lays on the stack before a call: two words, and two more for an export that takes more than eight.
 fn handed(name: &str) -> usize {
-    if ["tzb_contains_striped", "tzb_journal_ask"].contains(&name) { 32 } else { 16 }
+    let more = ["tzb_contains_striped", "tzb_contains_striped_place", "tzb_journal_ask"];
+    if more.contains(&name) { 32 } else { 16 }
 }
 
 /// For each export, or None where there is no program that takes machine code apart.

@@ -67,7 +67,7 @@ pub unsafe extern "C" fn contains(
     y: i32,
 ) -> i32 {
     let judge = unsafe { striped((r, size), (n, count), (f, length)) };
-    code(judge.and_then(|judge| judge.contains(zone.into(), x, y)).map(i64::from)) as i32
+    code(judge.and_then(|judge| Ok(judge.contains(zone.into(), x, y)?)).map(i64::from)) as i32
 }
 
 #[allow(clippy::too_many_arguments)]
@@ -82,7 +82,7 @@ pub unsafe extern "C" fn ask(
     lat: f64,
 ) -> i64 {
     let judge = unsafe { striped((r, size), (n, count), (f, length)) };
-    let zone = judge.and_then(|judge| judge.lookup(lng, lat));
+    let zone = judge.and_then(|judge| Ok(judge.lookup(lng, lat)?));
     code(zone.map(|zone| zone.map_or(-1, |zone| zone as i64)))
 }
 
@@ -100,7 +100,7 @@ pub unsafe extern "C" fn ask_all(
     room: usize,
 ) -> i64 {
     let judge = unsafe { striped((r, size), (n, count), (f, length)) };
-    let zones = judge.and_then(|judge| judge.lookup_into(lng, lat, room as u64));
+    let zones = judge.and_then(|judge| Ok(judge.lookup_into(lng, lat, room as u64)?));
     let zones = zones.map(|zones| zones.into_iter().map(|zone| zone as u32).collect());
     unsafe { lay(zones, to, room) }
 }

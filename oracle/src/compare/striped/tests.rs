@@ -147,7 +147,8 @@ unsafe extern "C" fn plain_ask(
     lat: f64,
 ) -> i64 {
     let (record, file) = unsafe { (from_raw_parts(r, size), from_raw_parts(f, length)) };
-    let zone = Opened::of_record(record, file).and_then(|o| Judge::plain(o, &[]).lookup(lng, lat));
+    let opened = Opened::of_record(record, file);
+    let zone = opened.and_then(|o| Ok(Judge::plain(o, &[]).lookup(lng, lat)?));
     match zone {
         Ok(zone) => zone.map_or(-1, |zone| zone as i64),
         Err(number) => -1000 - i64::from(number),
