@@ -30,6 +30,7 @@ use Rattle.exported.proofs.Meaning.{open-answer, open-memory, full-chec
 use Rattle.exported.proofs.Tabled.{higher}
 use Rattle.exported.proofs.Checks as K
 use Rattle.exported.proofs.Checks.{Opens, opened, barred, opens, Checks, checks}
+use Rattle.exported.proofs.Opening.{open-plain}
 use Rattle.exported.proofs.Questions.{contains-q, lookup-q}
 use Rattle.exported.proofs.Room.{room-in, room-short}
 use Rattle.exported.proofs.Codes.{apart, same-refusing, inside-tells, zone-tells}
@@ -68,7 +69,7 @@ module _ (file : List ℕ) (r : ℤ) (rule : ℕ) (c : Tzb-full-check file r) (d
     where
       go : Checks file → W
       go (K.refused-by k h e f) =
-          refused-by (k .number) (h .greatest) e (full-check-answer c ∙ sym (ap checkCode f) ∙ sym (code-small k (omega (arith, h .greatest)))) (rule-answer d ∙ sym (ap ruleOf f))
+          refused-by (k .number) (h .greatest) (open-plain file k e) (full-check-answer c ∙ sym (ap checkCode f) ∙ sym (code-small k (omega (arith, h .greatest)))) (rule-answer d ∙ sym (ap ruleOf f))
       go (K.accepts e z f) = accepted-by e z (full-check-answer c ∙ sym (ap checkCode f)) (rule-answer d ∙ sym (ap ruleOf f))
       go (K.breaks e z f) = broken-by e z (full-check-answer c ∙ sym (ap checkCode f) ∙ sym (code-small (refusal 47) (omega arith))) (rule-answer d ∙ sym (ap ruleOf f))
 
@@ -149,7 +150,7 @@ module _ (file memory : List ℕ) (r : ℤ) (after : List ℕ) (c : Tzb-open fil
 
       go : Opens file → M
       go (opened e) = by e (room-or-not (length memory))
-      go (barred k h e) = let t = by-refusal (k .number) (omega (arith, h .greatest)) (open-barred file memory k e) in not-opened (k .number) (h .greatest) e (t .0) (t .1)
+      go (barred k h e) = let t = by-refusal (k .number) (omega (arith, h .greatest)) (open-barred file memory k e) in not-opened (k .number) (h .greatest) (open-plain file k e) (t .0) (t .1)
 
   pub open-answers : OpenAnswers file memory r after
   open-answers = record { opens = (opens-go kinds, opens-back kinds); kept = kept-told kinds; refuses = λ n l. (refuses-go n l kinds, refuses-back n kinds); no-room = (short-go kinds, short-back kinds); unchanged = unchanged kinds }

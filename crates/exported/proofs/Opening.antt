@@ -1,9 +1,11 @@
 -- Every refusal of opening has a number from 1 to 34.
 -- Assumes nothing.
 use Prim.Native.Nat.{ℕ, _+_, _*_, _-_, _%_}
-use mathlib.Core.Path.{refl}
+use mathlib.Core.Path.{_≡_, refl, sym, ap, _∙_}
 use mathlib.Core.List.{List}
-use Rattle.answer.specs.Answers.{Check, fine}
+use Rattle.answer.specs.declared.Refusal.{Refusal}
+use Rattle.answer.specs.Refusals.{placedAt}
+use Rattle.answer.specs.Answers.{Check, fine, refused, no}
 use Rattle.answer.specs.Checks.{same}
 use Rattle.reader_head.specs.Head.{startCheck, fieldsCheck, versionCheck, boundsCheck, headCheck}
 use Rattle.reader_table.specs.Table.{apartAt, placedCheck, typedCheck, entryCheck, entriesCheck, sections}
@@ -20,7 +22,7 @@ use Rattle.reader_records.specs.declared.ChunkRecord.{ChunkRecord}
 use Rattle.reader_records.specs.declared.GroupRecord.{GroupRecord}
 use Rattle.reader_dirs.specs.Dirs.{chunkCheck, chunkCheckAt, chunksCheck, groupCheck, groupCheckAt, groupsCheck}
 use Rattle.tzb.specs.Opening.{tableCheck, sizesCheck, namesIn, gridIn, contentsCheck, gridIs, openedIs, openOf}
-use Rattle.exported.proofs.Tabled.{Unplaced, Only, Tabled, wider, given, fine-t, claim-t, deny-t, next-t, end-t, each-t, before-t, either-way}
+use Rattle.exported.proofs.Tabled.{Unplaced, Only, Tabled, kind-of, wider, given, fine-t, claim-t, deny-t, next-t, end-t, each-t, before-t, either-way}
 
 -- 1 to 34
 abbrev C : Check → Type 0
@@ -174,3 +176,7 @@ open-unplaced s = before-t _ _ (table s) (before-t _ _ (contents s (openedIs s) 
 
 pub open-tabled : (s : List ℕ) → Tabled 34 (openOf s)
 open-tabled s = wider (λ k h. h .numbered) (openOf s) (open-unplaced s)
+
+-- a refusal of opening is its number alone
+pub open-plain : (s : List ℕ) (k : Refusal) → refused k ≡ openOf s → no (k .number) ≡ openOf s
+open-plain s k e = ap (λ (p : ℕ). refused (placedAt p k)) (sym (kind-of (openOf s) k e (open-unplaced s) .nowhere)) ∙ e

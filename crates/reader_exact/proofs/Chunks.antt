@@ -12,12 +12,13 @@ use Rattle.plane.specs.Tally.{none}
 use Rattle.plane.specs.Lines.{every, lastFrom, chain}
 use Rattle.plane.specs.Domain.{inDomain}
 use Rattle.answer.specs.Answers.{ok}
-use Rattle.answer.specs.Walks.{done}
+use Rattle.answer.specs.Walks.{done, walkBehind}
 use Rattle.boxes.specs.declared.BBox.{BBox}
 use Rattle.boxes.specs.Box.{boxInDomain, relevant, right}
 use Rattle.rays.specs.Ray.{rayOf, parityOf}
 use Rattle.chunks.specs.Scan.{past}
 use Rattle.chunks.proofs.Neighbours.{scan-list, domain-list}
+use Rattle.chunks.proofs.ScanLaws.{past-placeless}
 use Rattle.shapes.specs.Shapes.{Chunk, chunkInDomain}
 use Rattle.shapes.specs.Walk.{floatTests, chunkWalk}
 use Rattle.opened.specs.declared.Opened.{Opened}
@@ -64,7 +65,8 @@ module _ (o : Opened) (s : List ℕ) (i : ℕ) (h : Holds o s i) where
     held-scan : scanIn s (v .count) p (startOf o v) (h .end) ≡ past (through p c) (last c)
     held-scan =
         sym (scan-is s (startOf o v) (h .end) (v .count) p (h .bytes) (h .spans))
-        ∙ scan-list (h .bytes) (v .count) (c .first) (c .rest) (h .decodes) p
+        ∙ ap (walkBehind (startOf o v)) (scan-list (h .bytes) (v .count) (c .first) (c .rest) (h .decodes) p)
+        ∙ sym (past-placeless (startOf o v) (through p c) (last c))
 
     -- the tests of the record's box are those of the shape's
     rel : (b : Bool) → relevant (c .box) p ≡ b → relevant (v .bbox) p ≡ b

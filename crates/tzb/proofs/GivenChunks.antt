@@ -11,7 +11,7 @@ use lib.ListN.{length}
 use lib.IntN.{ℤ}
 use Rattle.fields.specs.Part.{part}
 use Rattle.plane.specs.declared.I32Point.{I32Point}
-use Rattle.answer.specs.Answers.{Answer, ok, need, _then_}
+use Rattle.answer.specs.Answers.{Answer, ok, need, _then_, behind}
 use Rattle.chunks.specs.Points.{firstOf}
 use Rattle.chunks.specs.Decode.{pointsOf}
 use Rattle.opened.specs.declared.Opened.{Opened}
@@ -67,29 +67,29 @@ module _ (file : List ℕ) (o : Opened) (opened : ok o ≡ openOf file) (i : ℕ
   unfolding bytesOf
   bytes-answered = spanned ∙ then-ok (endOf o file i) (λ (e : ℕ). span file (startOf o (chunkOf file (o .chunks) i)) e) (chunk-ends .end) (chunk-ends .given)
 
-  -- its first point is what the bytes begin with
-  pub first-by-bytes : (firstOf chunkBytes then λ t. ok (t .0)) ≡ firstAt o file i
+  -- its first point is what the bytes begin with, a refusal's place counted from the file's first byte
+  pub first-by-bytes : (behind (startOf o (chunkOf file (o .chunks) i)) (firstOf chunkBytes) then λ t. ok (t .0)) ≡ firstAt o file i
   unfolding firstAt firstIn
   first-by-bytes =
       let v = chunkOf file (o .chunks) i in
-      then-ok (span file (startOf o v) (chunk-ends .end)) (λ (b : List ℕ). firstOf b then λ t. ok (t .0)) chunkBytes spanned
+      then-ok (span file (startOf o v) (chunk-ends .end)) (λ (b : List ℕ). behind (startOf o v) (firstOf b) then λ t. ok (t .0)) chunkBytes spanned
       ∙ then-ok (endOf o file i) (λ (e : ℕ). firstIn file (startOf o v) e) (chunk-ends .end) (chunk-ends .given)
       ∙ then-ok (chunkAt o file i) (λ (w : ChunkRecord). endOf o file i then λ e. firstIn file (startOf o w) e) v (chunk-answered file o opened i h)
 
-  -- its points are those that the bytes decode to
-  pub points-by-bytes : pointsOf chunkBytes (chunkOf file (o .chunks) i .count) ≡ chunkPoints o file i
+  -- its points are those that the bytes decode to, likewise
+  pub points-by-bytes : behind (startOf o (chunkOf file (o .chunks) i)) (pointsOf chunkBytes (chunkOf file (o .chunks) i .count)) ≡ chunkPoints o file i
   unfolding chunkPoints
   points-by-bytes =
       let v = chunkOf file (o .chunks) i in
-      then-ok (bytesOf o file i v) (λ (b : List ℕ). pointsOf b (v .count)) chunkBytes bytes-answered
+      then-ok (bytesOf o file i v) (λ (b : List ℕ). behind (startOf o v) (pointsOf b (v .count))) chunkBytes bytes-answered
       ∙ need-met 32 (ltb 0 (v .count)) _ (lt-ltb 0 (v .count) (chunk-counts file o opened i h))
-      ∙ then-ok (chunkAt o file i) (λ (w : ChunkRecord). need 32 (ltb 0 (w .count)) (bytesOf o file i w then λ b. pointsOf b (w .count))) v (chunk-answered file o opened i h)
+      ∙ then-ok (chunkAt o file i) (λ (w : ChunkRecord). need 32 (ltb 0 (w .count)) (bytesOf o file i w then λ b. behind (startOf o w) (pointsOf b (w .count)))) v (chunk-answered file o opened i h)
 
   -- into lent room likewise: 46, and else as the bytes decode
   pub room-by-bytes : (out : List ℤ) → need 46 (leb (2 * chunkOf file (o .chunks) i .count) (length out)) (chunkPoints o file i) ≡ decodeIn o file i out
   unfolding decodeIn decodeBy
   room-by-bytes out =
       let v = chunkOf file (o .chunks) i in
-      ap (λ (x : Answer (List I32Point)). need 46 (leb (2 * v .count) (length out)) x) (sym points-by-bytes ∙ then-ok (bytesOf o file i v) (λ (b : List ℕ). pointsOf b (v .count)) chunkBytes bytes-answered)
+      ap (λ (x : Answer (List I32Point)). need 46 (leb (2 * v .count) (length out)) x) (sym points-by-bytes ∙ then-ok (bytesOf o file i v) (λ (b : List ℕ). behind (startOf o v) (pointsOf b (v .count))) chunkBytes bytes-answered)
       ∙ need-met 32 (ltb 0 (v .count)) _ (lt-ltb 0 (v .count) (chunk-counts file o opened i h))
       ∙ then-ok (chunkAt o file i) (decodeBy o file i out) v (chunk-answered file o opened i h)
