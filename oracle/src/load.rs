@@ -63,20 +63,27 @@ pub struct Tally {
     inputs: [u64; inputs::KINDS.len()],
     calls: [u64; NAMES.len()],
     refused: [[u64; LAST + 1]; NAMES.len()],
+    /// How often there was a place, by the exports that tell one.
+    placed: [u64; NAMES.len()],
 }
 
 impl Tally {
     fn new() -> Self {
         let calls = [0; NAMES.len()];
-        Self { inputs: [0; inputs::KINDS.len()], calls, refused: [[0; LAST + 1]; NAMES.len()] }
+        let (refused, placed) = ([[0; LAST + 1]; NAMES.len()], calls);
+        Self { inputs: [0; inputs::KINDS.len()], calls, refused, placed }
     }
 
     fn print(&self) {
         for (kind, count) in inputs::KINDS.iter().zip(self.inputs) {
             println!("{count:>12}  inputs: {kind}");
         }
-        for (name, (calls, refused)) in NAMES.iter().zip(self.calls.iter().zip(&self.refused)) {
-            println!("{calls:>12}  {name}, of which refused {}", refused.iter().sum::<u64>());
+        for (i, (name, calls)) in NAMES.iter().zip(self.calls).enumerate() {
+            let (refused, placed) = (self.refused[i].iter().sum::<u64>(), self.placed[i]);
+            match name.ends_with("_place") {
+                true => println!("{calls:>12}  {name}, of which with a place {placed}"),
+                false => println!("{calls:>12}  {name}, of which refused {refused}"),
+            }
         }
         for number in 1..=LAST {
             let count: u64 = self.refused.iter().map(|of| of[number]).sum();

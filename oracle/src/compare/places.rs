@@ -501,7 +501,7 @@ mod with_the_archive {
     use std::path::Path;
     use std::time::{Duration, Instant};
 
-    fn end(seed: u64, found: Box<Found>) -> ! {
+    fn end(seed: u64, found: &Found) -> ! {
         println!("seed {seed}");
         println!("asked with the record {}", hex(&found.record));
         if found.asked.way == Way::Striped {
@@ -518,7 +518,7 @@ mod with_the_archive {
     ) {
         let start = Instant::now();
         while start.elapsed() < Duration::from_secs(seconds) {
-            each(run).unwrap_or_else(|found| end(seed, found));
+            each(run).unwrap_or_else(|found| end(seed, &found));
         }
     }
 
@@ -535,7 +535,7 @@ mod with_the_archive {
         println!("seed {seed}, random chunks for {seconds} s");
         let mut run = Run::new(PORT, seed);
         for part in [Run::kept, Run::every_chunk, Run::far] {
-            part(&mut run).unwrap_or_else(|found| end(seed, found));
+            part(&mut run).unwrap_or_else(|found| end(seed, &found));
         }
         for_seconds(&mut run, seconds, seed, Run::some);
         run.print(seed);

@@ -66,7 +66,7 @@ const OF_Y: [Wrong; 4] =
 impl Wrong {
     /// All that a refusal can name this number for. The first point's are 0 and 1, and it is no sum; a chunk without bytes is 37.
     pub fn of(number: usize) -> Vec<Self> {
-        let own = if number % 2 == 0 { &OF_X[..] } else { &OF_Y };
+        let own = if number.is_multiple_of(2) { &OF_X[..] } else { &OF_Y };
         let first = |wrong: &Self| match wrong {
             Self::Missing => number == 0,
             Self::Sum(_) => number < 2,
@@ -192,7 +192,7 @@ pub fn broken(random: &mut Random, count: u16, number: usize, wrong: Wrong) -> B
         let before = if fine == 0 { (0, 0) } else { points[fine / 2 - 1] };
         let [x, y] = wrong_point(random, wrong, before);
         push(&mut bytes, x);
-        place = if number % 2 == 0 { place } else { bytes.len() };
+        place = if number.is_multiple_of(2) { place } else { bytes.len() };
         push(&mut bytes, y);
     }
     bytes.extend(wrong_number(random, wrong));

@@ -102,7 +102,13 @@ impl Caller {
     }
 
     /// The place beside a code: one of the file, or its end, exactly for 38 to 43. There 39 and 40 are said again, and 43 is about a byte.
-    fn place(&self, code: i64, place: i64, (f, length): Slice) -> Result<i64, String> {
+    fn place(
+        &mut self,
+        export: Export,
+        code: i64,
+        place: i64,
+        (f, length): Slice,
+    ) -> Result<i64, String> {
         let last = length as i64 - i64::from(code == -1043);
         let again = |at: i64| unsafe { (self.exports.number_length)(f, length, at as usize) };
         let may = match code {
@@ -112,6 +118,7 @@ impl Caller {
             _ => place == -1,
         };
         hold(may, || format!("the place {place}, where the answer is {code}"))?;
+        self.tally.placed[export as usize] += u64::from(place >= 0);
         Ok(place)
     }
 
@@ -139,7 +146,7 @@ impl Caller {
         self.said(Export::Lookup, zone.into(), -1, i32::MAX.into())?;
         agrees(zone, zone > -1000 || zone <= -1032)?;
         let place = unsafe { (self.call(Export::LookupPlace).lookup_place)(f, length, lng, lat) };
-        self.place(zone.into(), place, (f, length))?;
+        self.place(Export::LookupPlace, zone.into(), place, (f, length))?;
         let check = unsafe { (self.call(Export::FullCheck).full_check)(f, length) };
         self.said(Export::FullCheck, check.into(), 0, 0)?;
         agrees(check, check == 0 || check == -1047)?;
@@ -239,7 +246,7 @@ impl Caller {
         let out = self.unwritten(room, input.at_end[4], guard).cast();
         let export = self.call(Export::DecodePlace).decode_place;
         let place = unsafe { export(r, size, f, length, chunk, out, room) };
-        self.place(points, place, (f, length))?;
+        self.place(Export::DecodePlace, points, place, (f, length))?;
         Ok(())
     }
 
@@ -255,13 +262,13 @@ impl Caller {
         self.said(Export::Contains, is.into(), 0, 1)?;
         let export = self.call(Export::ContainsPlace).contains_place;
         let place = unsafe { export(r, size, f, length, zone, x, y) };
-        let is_place = self.place(is.into(), place, (f, length))?;
+        let is_place = self.place(Export::ContainsPlace, is.into(), place, (f, length))?;
 
         let found = unsafe { (self.call(Export::Ask).ask)(r, size, f, length, lng, lat) };
         self.said(Export::Ask, found, -1, u32::MAX.into())?;
         let export = self.call(Export::AskPlace).ask_place;
         let place = unsafe { export(r, size, f, length, lng, lat) };
-        let found_place = self.place(found, place, (f, length))?;
+        let found_place = self.place(Export::AskPlace, found, place, (f, length))?;
 
         let out = self.rooms[2].lend(4 * places, input.at_end[5], guard)?.cast();
         let export = self.call(Export::AskAll).ask_all;
@@ -271,7 +278,8 @@ impl Caller {
         let out = self.unwritten(places, input.at_end[5], guard).cast();
         let export = self.call(Export::AskAllPlace).ask_all_place;
         let place = unsafe { export(r, size, f, length, lng, lat, out, places) };
-        let places = [is_place, found_place, self.place(zones, place, (f, length))?];
+        let places =
+            [is_place, found_place, self.place(Export::AskAllPlace, zones, place, (f, length))?];
         Ok(Walked { is, found, zones, list, places })
     }
 
@@ -326,14 +334,14 @@ impl Caller {
         self.said(Export::ContainsStriped, is.into(), 0, 1)?;
         let export = self.call(Export::ContainsStripedPlace).contains_striped_place;
         let place = unsafe { export(r, size, n, count, f, length, zone, x, y) };
-        let is_place = self.place(is.into(), place, (f, length))?;
+        let is_place = self.place(Export::ContainsStripedPlace, is.into(), place, (f, length))?;
 
         let export = self.call(Export::AskStriped).ask_striped;
         let found = unsafe { export(r, size, n, count, f, length, lng, lat) };
         self.said(Export::AskStriped, found, -1, u32::MAX.into())?;
         let export = self.call(Export::AskStripedPlace).ask_striped_place;
         let place = unsafe { export(r, size, n, count, f, length, lng, lat) };
-        let found_place = self.place(found, place, (f, length))?;
+        let found_place = self.place(Export::AskStripedPlace, found, place, (f, length))?;
 
         let out = self.rooms[2].lend(4 * places, input.at_end[5], guard)?.cast();
         let export = self.call(Export::AskAllStriped).ask_all_striped;
@@ -343,7 +351,11 @@ impl Caller {
         let out = self.unwritten(places, input.at_end[5], guard).cast();
         let export = self.call(Export::AskAllStripedPlace).ask_all_striped_place;
         let place = unsafe { export(r, size, n, count, f, length, lng, lat, out, places) };
-        let places = [is_place, found_place, self.place(zones, place, (f, length))?];
+        let places = [
+            is_place,
+            found_place,
+            self.place(Export::AskAllStripedPlace, zones, place, (f, length))?,
+        ];
 
         let walked = Walked { is, found, zones, list, places };
         hold(!alike || walked == *plain, || format!("by stripes {walked:?}, plainly {plain:?}"))

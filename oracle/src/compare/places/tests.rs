@@ -1,6 +1,7 @@
 //! That the comparison can fail: the rules stand in the exports' place, and are changed in one thing. The archive's exports are compared as
 //! well.
 
+use super::large::Large;
 use super::stand_in::{self, NONE, STAND_IN};
 use super::*;
 use std::slice::from_raw_parts;
@@ -288,6 +289,19 @@ fn lent_memory_that_changes_is_found_out() {
     assert!(changed(Exports { decode_place: decode_that_writes, ..STAND_IN }));
     assert!(changed(Exports { ask_all_place: list_that_writes_behind, ..STAND_IN }));
     assert!(changed(Exports { decode_place: decode_that_writes_to_the_file, ..STAND_IN }));
+}
+
+/// The sample, some of whose chunks are broken in their place: after each it is as it was.
+#[test]
+fn a_large_file_is_put_right() {
+    let sample = include_bytes!("../../../../sample/real-ne.tzb");
+    let mut large = Large::of(sample.to_vec());
+    let mut find = |port, times| {
+        let mut run = Run::new(port, 3);
+        (0..times).find_map(|_| run.in_its_place(&mut large).err()).map(|found| found.why)
+    };
+    assert_eq!(find(STAND_IN, 3000), None);
+    assert!(find(Exports { ask_place: ask_more, ..STAND_IN }, 3000).is_some());
 }
 
 /// Every refusal is met at every number that it can name, by every question and in every way.
