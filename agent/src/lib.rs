@@ -88,6 +88,7 @@
 
 #![cfg_attr(not(test), warn(clippy::unwrap_used, clippy::expect_used, clippy::panic))]
 
+mod commas;
 mod index;
 pub mod journal;
 mod layout;

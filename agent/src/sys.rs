@@ -26,6 +26,13 @@ mod exports {
         pub fn tzb_contains_striped(record: *const u8, size: usize, numbers: *const u32, count: usize, file: *const u8, length: usize, zone: u32, x: i32, y: i32) -> i32;
         pub fn tzb_ask_striped(record: *const u8, size: usize, numbers: *const u32, count: usize, file: *const u8, length: usize, lng: f64, lat: f64) -> i64;
         pub fn tzb_ask_all_striped(record: *const u8, size: usize, numbers: *const u32, count: usize, file: *const u8, length: usize, lng: f64, lat: f64, zones: *mut u32, places: usize) -> i64;
+        pub fn tzb_ask_place(record: *const u8, size: usize, file: *const u8, length: usize, lng: f64, lat: f64) -> i64;
+        pub fn tzb_ask_all_place(record: *const u8, size: usize, file: *const u8, length: usize, lng: f64, lat: f64, zones: *const u32, places: usize) -> i64;
+        pub fn tzb_contains_place(record: *const u8, size: usize, file: *const u8, length: usize, zone: u32, x: i32, y: i32) -> i64;
+        pub fn tzb_decode_place(record: *const u8, size: usize, file: *const u8, length: usize, chunk: u32, out: *const i32, room: usize) -> i64;
+        pub fn tzb_ask_striped_place(record: *const u8, size: usize, numbers: *const u32, count: usize, file: *const u8, length: usize, lng: f64, lat: f64) -> i64;
+        pub fn tzb_ask_all_striped_place(record: *const u8, size: usize, numbers: *const u32, count: usize, file: *const u8, length: usize, lng: f64, lat: f64, zones: *const u32, places: usize) -> i64;
+        pub fn tzb_contains_striped_place(record: *const u8, size: usize, numbers: *const u32, count: usize, file: *const u8, length: usize, zone: u32, x: i32, y: i32) -> i64;
         pub fn tzb_full_check(file: *const u8, length: usize) -> i32;
         pub fn tzb_full_check_rule(file: *const u8, length: usize) -> u32;
         pub fn tzb_map(file: *const u8, length: usize, zone: u32, out: *mut u8, room: usize) -> i64;
@@ -92,6 +99,38 @@ pub fn ask_striped(record: &Record, numbers: &[u32], file: &[u8], lng: f64, lat:
 #[rustfmt::skip]
 pub fn ask_all_striped(record: &Record, numbers: &[u32], file: &[u8], lng: f64, lat: f64, zones: &mut [u32]) -> i64 {
     ask!(tzb_ask_all_striped, [record, numbers, file], lng, lat, zones.as_mut_ptr(), zones.len())
+}
+
+// Each question once more: the place of its refusal in the file, or -1 where there is none. What is lent is only read.
+
+pub fn ask_place(record: &Record, file: &[u8], lng: f64, lat: f64) -> i64 {
+    ask!(tzb_ask_place, [record, file], lng, lat)
+}
+
+pub fn ask_all_place(record: &Record, file: &[u8], lng: f64, lat: f64, zones: &[u32]) -> i64 {
+    ask!(tzb_ask_all_place, [record, file], lng, lat, zones.as_ptr(), zones.len())
+}
+
+pub fn contains_place(record: &Record, file: &[u8], zone: u32, x: i32, y: i32) -> i64 {
+    ask!(tzb_contains_place, [record, file], zone, x, y)
+}
+
+pub fn decode_place(record: &Record, file: &[u8], chunk: u32, out: &[i32]) -> i64 {
+    ask!(tzb_decode_place, [record, file], chunk, out.as_ptr(), out.len())
+}
+
+pub fn ask_striped_place(record: &Record, numbers: &[u32], file: &[u8], lng: f64, lat: f64) -> i64 {
+    ask!(tzb_ask_striped_place, [record, numbers, file], lng, lat)
+}
+
+#[rustfmt::skip]
+pub fn ask_all_striped_place(record: &Record, numbers: &[u32], file: &[u8], lng: f64, lat: f64, zones: &[u32]) -> i64 {
+    ask!(tzb_ask_all_striped_place, [record, numbers, file], lng, lat, zones.as_ptr(), zones.len())
+}
+
+#[rustfmt::skip]
+pub fn contains_striped_place(record: &Record, numbers: &[u32], file: &[u8], zone: u32, x: i32, y: i32) -> i64 {
+    ask!(tzb_contains_striped_place, [record, numbers, file], zone, x, y)
 }
 
 pub fn full_check(file: &[u8]) -> i32 {
