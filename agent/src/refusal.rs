@@ -82,11 +82,12 @@ impl Refusal {
         (self.rule != 0).then_some(self.rule)
     }
 
-    /// For 38 to 43, which byte of the file is wrong, counted from 0: the first byte of the number that was being read.
+    /// For 38 to 43, the byte of the file at which a chunk is broken, counted from 0: the first byte of the number that was
+    /// being read.
     ///
     /// | Refusal | What starts there |
     /// |---|---|
-    /// | 38 to 40 | the number that is broken; where there is none (38), the place is where it would start, the chunk's end |
+    /// | 38 to 40 | the number that is broken; where the chunk has ended before it (38), that end, where it would start |
     /// | 41 | the number whose sum does not fit, the longitude's before the latitude's |
     /// | 42 | the latitude's number of the point, also where the longitude alone is out of range |
     /// | 43 | the bytes left over |

@@ -163,3 +163,66 @@ pub fn journal_write(places: u32, x: i32, y: i32, zones: &[u32], reason: u32, ou
 pub fn journal_read(places: u32, bytes: &[u8], position: &mut [i32], zones: &mut [u32]) -> i32 {
     ask!(tzb_journal_read, places, [bytes], position.as_mut_ptr(), position.len(), zones.as_mut_ptr(), zones.len())
 }
+
+#[cfg(test)]
+mod tests {
+    use super::*;
+
+    /// The sample's record, its bytes, and the same with a first number that is longer than it need be, which is at this place.
+    fn sample() -> (Record, Vec<u8>, Vec<u8>, usize) {
+        let file = std::fs::read("../sample/real-ne.tzb").unwrap();
+        let mut record = [0; RECORD];
+        assert_eq!(open(&file, &mut record), 0);
+        let points = 1_046_448;
+        let mut broken = file.clone();
+        broken[points..points + 2].copy_from_slice(&[0x80, 0x00]);
+        (record, file, broken, points)
+    }
+
+    #[test]
+    fn the_place_of_a_decoding() {
+        let (record, file, broken, points) = sample();
+        let mut room = [7; 1000];
+        assert_eq!(decode(&record, &broken, 0, &mut room), -1039);
+        assert_eq!(decode_place(&record, &broken, 0, &room), points as i64);
+        assert_eq!(room, [7; 1000]);
+        // An answer, a chunk that is not there, no room, and bytes that end before.
+        assert_eq!(decode_place(&record, &file, 0, &room), -1);
+        assert_eq!(decode_place(&record, &broken, 1, &room), -1);
+        assert_eq!(decode_place(&record, &broken, 5408, &room), -1);
+        assert_eq!(decode_place(&record, &broken, 0, &room[..9]), -1);
+        assert_eq!(decode_place(&record, &broken[..points], 0, &room), -1);
+    }
+
+    /// A zone, none, a list, and the refusals of a zone number, of the room and of bytes that end before.
+    #[test]
+    fn no_place_where_there_is_no_such_refusal() {
+        let (record, file, _, _) = sample();
+        let mut numbers = vec![0; stripes_need(&record, &file) as usize];
+        assert_eq!(stripes(&record, &file, &mut numbers), numbers.len() as i64);
+        let zones = [7; 15];
+        let positions = [(8.68, 50.11), (139.7, 35.7), (-30.0, 0.0), (200.0, 0.0), (f64::NAN, 0.0)];
+        for ((lng, lat), file) in positions
+            .into_iter()
+            .flat_map(|at| [(at, &file[..]), (at, &file[..700_000]), (at, &[])])
+        {
+            let told = [
+                ask_place(&record, file, lng, lat),
+                ask_all_place(&record, file, lng, lat, &zones),
+                ask_all_place(&record, file, lng, lat, &[]),
+                ask_striped_place(&record, &numbers, file, lng, lat),
+                ask_striped_place(&record, &[], file, lng, lat),
+                ask_all_striped_place(&record, &numbers, file, lng, lat, &zones),
+                ask_all_striped_place(&record, &numbers, file, lng, lat, &[]),
+            ];
+            assert_eq!(told, [-1; 7], "{lng} {lat}");
+        }
+        for zone in [0, 126, 481, u32::MAX] {
+            let told = [
+                contains_place(&record, &file, zone, 868_000, 5_011_000),
+                contains_striped_place(&record, &numbers, &file, zone, 868_000, 5_011_000),
+            ];
+            assert_eq!(told, [-1; 2], "{zone}");
+        }
+    }
+}

@@ -81,15 +81,31 @@ fn check_tells_the_first() {
 #[test]
 fn check_of_the_sample() {
     let sound = sample();
-    for (chunk, told) in [(812, "chunk 812"), (5407, "chunk 5,407")] {
+    for (chunk, told) in [(1000, "chunk 1,000"), (5407, "chunk 5,407")] {
         let place = chunk_of(&sound, chunk).start;
-        let file = changed(&sound, place, &[0x80, 0x00]);
-        let kept = Kept::new(&format!("sample-{chunk}.tzb"), &file);
+        let kept = Kept::new("sample.tzb", &changed(&sound, place, &[0x80, 0x00]));
         let byte = format!("{},{:03},{:03}", place / 1_000_000, place / 1000 % 1000, place % 1000);
         let line = format!("byte {byte}: a number is longer than it need be (39), in {told}");
-        let (status, out, err) = run(&["check", &kept.0], "");
-        assert_eq!((status, err.as_str()), (Some(1), ""));
-        assert_eq!(out, format!("{0}: {RULE_3}\n{0}: {line}\n", kept.0));
+        let lines = format!("{0}: {RULE_3}\n{0}: {line}\n", kept.0);
+        assert_eq!(run(&["check", &kept.0], ""), (Some(1), lines, String::new()));
+    }
+}
+
+/// The repository's README shows what the command writes of the sample, where the second number of chunk 812 is 80 00.
+#[test]
+fn the_readme_shows_the_same() {
+    let readme = std::fs::read_to_string("../README.md").unwrap();
+    let sound = sample();
+    let kept = Kept::new("readme.tzb", &changed(&sound, 1_203_725, &[0x80, 0x00]));
+    let check = run(&["check", &kept.0], "").1;
+    let zone = run(&["zone", &kept.0, "-124.72", "50.23"], "").2;
+    assert_eq!((check.lines().count(), zone.lines().count()), (2, 1));
+    for line in check.lines().chain(zone.lines()) {
+        let line = format!("    {}", line.replace(&kept.0, "broken.tzb"));
+        assert!(readme.lines().any(|shown| shown == line), "README.md has no line: {line}");
+    }
+    for words in ["check broken.tzb", "zone broken.tzb -124.72 50.23"] {
+        assert!(readme.contains(&format!("\n    $ ./tzb {words}\n")), "{words}");
     }
 }
 
