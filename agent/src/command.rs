@@ -1,5 +1,6 @@
 //! What the command does with the words it is given.
 
+mod broken;
 mod failure;
 mod found;
 mod help;
@@ -21,11 +22,15 @@ use std::io::{self, BufReader, BufWriter, ErrorKind, Write};
 use std::path::Path;
 use std::process::ExitCode;
 
+use broken::BrokenChunk;
 use failure::{Failure, Status};
 use found::{Found, Shown};
 use position::Position;
 use tzb::{Index, Refusal};
 use words::{Request, Task, Wanted};
+
+/// The rule of the full check that the points of every chunk can be read.
+const EVERY_CHUNK_DECODES: u32 = 3;
 
 /// Runs the command, and gives its exit status.
 pub fn run(words: impl Iterator<Item = OsString>) -> ExitCode {
@@ -170,7 +175,21 @@ fn check(path: &Path, bytes: &[u8], out: &mut impl Write) -> io::Result<Status> 
         }
         Err(refusal) => {
             writeln!(out, "{}: not accepted: {refusal}", Shown(&name))?;
+            if refusal.rule() == Some(EVERY_CHUNK_DECODES) {
+                tell_where(&name, bytes, out)?;
+            }
             Ok(Status::No)
         }
+    }
+}
+
+/// A line for the first chunk that cannot be read. It may be long in coming, so what stands before it is shown at once.
+fn tell_where(name: &str, bytes: &[u8], out: &mut impl Write) -> io::Result<()> {
+    out.flush()?;
+    // The full check has opened it before.
+    let opened = Index::open_plain(bytes).ok();
+    match opened.and_then(|index| BrokenChunk::first(&index)) {
+        Some(broken) => writeln!(out, "{}: {broken}", Shown(name)),
+        None => Ok(()),
     }
 }

@@ -153,15 +153,21 @@ impl<B: AsRef<[u8]>> Index<B> {
     /// The zone that a position lies in, or none. Where several contain it, the first that the file lists.
     ///
     /// # Errors
-    /// A refusal where the file's records or points are broken: never on a file that the full check accepts.
+    /// A refusal where the file's records or points are broken: never on a file that the full check accepts. Where the bytes
+    /// of a chunk are broken, 38 to 43, it has their [`place`](Refusal::place).
     pub fn zone(&self, lng: f64, lat: f64) -> Result<Option<u32>, Refusal> {
+        let (record, file) = (&self.record, self.file());
         let code = match &self.stripes {
-            Ok(numbers) => sys::ask_striped(&self.record, numbers, self.file(), lng, lat),
-            Err(_) => sys::ask(&self.record, self.file(), lng, lat),
+            Ok(numbers) => sys::ask_striped(record, numbers, file, lng, lat),
+            Err(_) => sys::ask(record, file, lng, lat),
+        };
+        let place = || match &self.stripes {
+            Ok(numbers) => sys::ask_striped_place(record, numbers, file, lng, lat),
+            Err(_) => sys::ask_place(record, file, lng, lat),
         };
         match code {
             -1 => Ok(None),
-            code => Refusal::of_code(code).map(|zone| Some(zone as u32)),
+            code => answered(code, place).map(|zone| Some(zone as u32)),
         }
     }
 
@@ -185,10 +191,17 @@ impl<B: AsRef<[u8]>> Index<B> {
     /// As for [`zone`](Self::zone).
     pub fn zones(&self, lng: f64, lat: f64) -> Result<Vec<u32>, Refusal> {
         // A cell of a GRID has at most 15 candidates; without one, all zones can be asked for.
-        into_room(15, self.zone_count() as usize, |room| match &self.stripes {
-            Ok(numbers) => sys::ask_all_striped(&self.record, numbers, self.file(), lng, lat, room),
-            Err(_) => sys::ask_all(&self.record, self.file(), lng, lat, room),
-        })
+        let (few, most) = (15, self.zone_count() as usize);
+        let (record, file) = (&self.record, self.file());
+        let ask = |room: &mut [u32]| match &self.stripes {
+            Ok(numbers) => sys::ask_all_striped(record, numbers, file, lng, lat, room),
+            Err(_) => sys::ask_all(record, file, lng, lat, room),
+        };
+        let place = |room: &[u32]| match &self.stripes {
+            Ok(numbers) => sys::ask_all_striped_place(record, numbers, file, lng, lat, room),
+            Err(_) => sys::ask_all_place(record, file, lng, lat, room),
+        };
+        into_room(few, most, ask, place)
     }
 
     /// The name of the zone that a position lies in, or none: [`zone`](Self::zone), then [`name`](Self::name).
@@ -254,21 +267,30 @@ impl<B: AsRef<[u8]>> Index<B> {
     /// # Errors
     /// Refusal 45 for a zone number that is too large; else as for [`zone`](Self::zone).
     pub fn contains(&self, zone: u32, x: i32, y: i32) -> Result<bool, Refusal> {
+        let (record, file) = (&self.record, self.file());
         let code = match &self.stripes {
-            Ok(numbers) => sys::contains_striped(&self.record, numbers, self.file(), zone, x, y),
-            Err(_) => sys::contains(&self.record, self.file(), zone, x, y),
+            Ok(numbers) => sys::contains_striped(record, numbers, file, zone, x, y),
+            Err(_) => sys::contains(record, file, zone, x, y),
         };
-        Refusal::of_code(code.into()).map(|inside| inside == 1)
+        let place = || match &self.stripes {
+            Ok(numbers) => sys::contains_striped_place(record, numbers, file, zone, x, y),
+            Err(_) => sys::contains_place(record, file, zone, x, y),
+        };
+        answered(code.into(), place).map(|inside| inside == 1)
     }
 
-    /// The points of a chunk, `[x, y]` each, in hundred-thousandths of a degree.
+    /// The points of a chunk, `[x, y]` each, in hundred-thousandths of a degree. Chunk numbers are those below
+    /// [`chunk_count`](Self::chunk_count).
     ///
     /// # Errors
-    /// Refusal 34 for a chunk number that is too large; else a refusal where the chunk's bytes are broken.
+    /// Refusal 34 for a chunk number that is too large; else a refusal where the chunk's bytes are broken, 38 to 43, with
+    /// their [`place`](Refusal::place).
     pub fn decode(&self, chunk: u32) -> Result<Vec<[i32; 2]>, Refusal> {
-        into_room(256, POINTS_OF_A_CHUNK, |room: &mut [[i32; 2]]| {
-            sys::decode(&self.record, self.file(), chunk, room.as_flattened_mut())
-        })
+        let (record, file) = (&self.record, self.file());
+        let decode =
+            |room: &mut [[i32; 2]]| sys::decode(record, file, chunk, room.as_flattened_mut());
+        let place = |room: &[[i32; 2]]| sys::decode_place(record, file, chunk, room.as_flattened());
+        into_room(256, POINTS_OF_A_CHUNK, decode, place)
     }
 
     /// A zone as GeoJSON, to be drawn on a map: [`map`](crate::map) of the file's bytes, the full check included.
@@ -342,6 +364,11 @@ impl<B: AsRef<[u8]>> Index<B> {
     pub fn into_file(self) -> B {
         self.file
     }
+}
+
+/// What a code of a question says, where the second export tells the place of its refusal.
+fn answered(code: i64, place: impl FnOnce() -> i64) -> Result<usize, Refusal> {
+    Refusal::of_code(code).map_err(|refusal| refusal.with_place(place))
 }
 
 /// The record of a file, 84 bytes.

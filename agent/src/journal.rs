@@ -89,15 +89,17 @@ pub struct Entry {
     /// 100,000 times the latitude.
     pub y: i32,
     /// The zones that contain the position, in the order of their names' bytes, or why there is no answer. A position in
-    /// no zone has an empty list; one in more zones than there are places has refusal 46.
+    /// no zone has an empty list; one in more zones than there are places has refusal 46. The bytes keep the refusal's number
+    /// alone, so what is read back has no [`place`](Refusal::place).
     pub answer: Result<Vec<u32>, Refusal>,
 }
 
 impl Entry {
-    /// The entry of a question that was refused, as every question to a file that does not open.
+    /// The entry of a question that was refused, as every question to a file that does not open. It has the refusal's number
+    /// alone, as its bytes have: a [`place`](Refusal::place) is left out.
     #[must_use]
     pub fn refused(x: i32, y: i32, refusal: Refusal) -> Self {
-        Self { x, y, answer: Err(refusal) }
+        Self { x, y, answer: Err(Refusal::new(refusal.number())) }
     }
 
     /// Reads the bytes of one entry. [`entries`] reads a whole journal.

@@ -84,6 +84,23 @@ impl<B: AsRef<[u8]>> Index<B> {
         })
     }
 
+    /// How many chunks of points there are. Chunk numbers are those below: [`decode`](Self::decode) takes one.
+    ///
+    /// ```
+    /// # fn main() -> Result<(), Box<dyn std::error::Error>> {
+    /// # let file = std::fs::read("../sample/real-ne.tzb")?;
+    /// let index = tzb::Index::open(&file)?;
+    /// let broken = (0..index.chunk_count()).find(|&chunk| index.decode(chunk).is_err());
+    /// assert_eq!((index.chunk_count(), broken), (5408, None));
+    /// # Ok(())
+    /// # }
+    /// ```
+    #[must_use]
+    pub fn chunk_count(&self) -> u32 {
+        let section = self.sections().find(|section| section.name() == Some("CHUNKDIR"));
+        section.and_then(|section| section.records()).unwrap_or(0)
+    }
+
     /// The grid, where the file has one.
     #[must_use]
     pub fn grid(&self) -> Option<Grid> {

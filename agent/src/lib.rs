@@ -50,6 +50,24 @@
 //! more memory than the file does. They change no answer. [`Index::open_plain`] opens without them, for a few questions;
 //! [`Index::walk`] tells which way an index goes, and why.
 //!
+//! # Where a file is broken
+//!
+//! A question that meets a chunk whose bytes are broken is refused by 38 to 43, and the [`Refusal`] has the
+//! [`place`](Refusal::place) in the file at which they are. To find all such chunks, for whoever made the file:
+//!
+//! ```
+//! # fn main() -> Result<(), Box<dyn std::error::Error>> {
+//! # let file = tzb::read("../sample/real-ne.tzb")?;
+//! let index = tzb::Index::open(file)?;
+//! for chunk in 0..index.chunk_count() {
+//!     if let Err(refusal) = index.decode(chunk) {
+//!         println!("chunk {chunk}: {refusal}"); // ... longer than it need be, at byte 1,204,331.
+//!     }
+//! }
+//! # Ok(())
+//! # }
+//! ```
+//!
 //! # A zone on a map
 //!
 //! ```
@@ -88,6 +106,7 @@
 
 #![cfg_attr(not(test), warn(clippy::unwrap_used, clippy::expect_used, clippy::panic))]
 
+mod commas;
 mod index;
 pub mod journal;
 mod layout;

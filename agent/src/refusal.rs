@@ -1,10 +1,17 @@
-//! What the reader says where it gives no answer: a number, 1 to 50, and for 47 the rule that is broken.
+//! What the reader says where it gives no answer: a number, 1 to 50, for 38 to 43 the place in the file, and for 47 the rule
+//! that is broken.
 
 use std::fmt;
+use std::ops::RangeInclusive;
 
+use crate::commas::Commas;
 use crate::sys;
 
 /// Why there is no answer. Every refusal has one number, and leaves what was lent as it was.
+///
+/// Refusals 38 to 43, of a chunk whose bytes are broken, also have a [`place`](Self::place), and 47 has a
+/// [`rule`](Self::rule). Two refusals are equal where number, place and rule are the same: to tell what kind one is, look at
+/// its [`number`](Self::number).
 ///
 /// ```
 /// let refusal = tzb::Index::open(b"not an index").unwrap_err();
@@ -19,6 +26,7 @@ pub struct Refusal {
     number: u32,
     /// 0 where there is none.
     rule: u32,
+    place: Option<u64>,
 }
 
 pub(crate) const BAD_LENGTH: u32 = 1;
@@ -26,15 +34,17 @@ pub(crate) const NAME_NOT_UTF8: u32 = 25;
 pub(crate) const PAST_THE_END: u32 = 44;
 pub(crate) const NO_ROOM: u32 = 46;
 const NOT_SOUND: u32 = 47;
+/// Those of a chunk's bytes: a number in them is broken, its sum or its point is out of range, or bytes are left over.
+const WITH_A_PLACE: RangeInclusive<u32> = 38..=43;
 
 impl Refusal {
     pub(crate) fn new(number: u32) -> Self {
-        Self { number, rule: 0 }
+        Self { number, rule: 0, place: None }
     }
 
     /// 47, with the lowest broken rule.
     pub(crate) fn not_sound(rule: u32) -> Self {
-        Self { number: NOT_SOUND, rule }
+        Self { rule, ..Self::new(NOT_SOUND) }
     }
 
     /// The same, and for 47 with the lowest broken rule of this file, which was refused.
@@ -43,6 +53,15 @@ impl Refusal {
             NOT_SOUND => Self::not_sound(sys::full_check_rule(file)),
             _ => self,
         }
+    }
+
+    /// The same, and for 38 to 43 with the place that is told by the second export of the question, which gave this refusal.
+    /// For another refusal it is not asked.
+    pub(crate) fn with_place(self, ask: impl FnOnce() -> i64) -> Self {
+        if !WITH_A_PLACE.contains(&self.number) {
+            return self;
+        }
+        Self { place: u64::try_from(ask()).ok(), ..self }
     }
 
     /// What a code of the exports says: a number that is not negative, or -1000 - n for refusal n.
@@ -63,11 +82,50 @@ impl Refusal {
         (self.rule != 0).then_some(self.rule)
     }
 
+    /// For 38 to 43, the byte of the file at which a chunk is broken, counted from 0: the first byte of the number that was
+    /// being read.
+    ///
+    /// | Refusal | What starts there |
+    /// |---|---|
+    /// | 38 to 40 | the number that is broken; where the chunk has ended before it (38), that end, where it would start |
+    /// | 41 | the number whose sum does not fit, the longitude's before the latitude's |
+    /// | 42 | the latitude's number of the point, also where the longitude alone is out of range |
+    /// | 43 | the bytes left over |
+    ///
+    /// All other refusals have none, 47 too: [`Index::decode`](crate::Index::decode) of one chunk after the other finds what
+    /// is broken by rule 3, as `tzb check` does. A [journal](crate::journal) keeps the number alone, so the refusal of an
+    /// entry has no place either.
+    ///
+    /// ```
+    /// # fn main() -> Result<(), Box<dyn std::error::Error>> {
+    /// # let mut file = tzb::read("../sample/real-ne.tzb")?;
+    /// # let index = tzb::Index::open(&file)?;
+    /// # let points = index.sections().find(|section| section.name() == Some("POINTS")).unwrap().offset;
+    /// # file[points as usize..][..2].copy_from_slice(&[0x80, 0x00]);
+    /// # let (bytes, sum) = file.split_last_chunk_mut().unwrap();
+    /// # let step = |sum: u32, _| if sum & 1 == 1 { sum >> 1 ^ 0xedb8_8320 } else { sum >> 1 };
+    /// # let crc = !bytes.iter().fold(!0, |sum, &byte| (0..8).fold(sum ^ u32::from(byte), step));
+    /// # *sum = crc.to_le_bytes();
+    /// let index = tzb::Index::open(file)?; // a file whose first number is 80 00, and 00 would do
+    /// let refusal = index.decode(0).unwrap_err();
+    /// assert_eq!((refusal.number(), refusal.place()), (39, Some(1_046_448)));
+    /// assert_eq!(
+    ///     refusal.to_string(),
+    ///     "refusal 39: A number in a chunk is written longer than it need be, at byte 1,046,448.",
+    /// );
+    /// # Ok(())
+    /// # }
+    /// ```
+    #[must_use]
+    pub fn place(&self) -> Option<u64> {
+        self.place
+    }
+
     /// What the number means, in a sentence.
     #[must_use]
     pub fn sentence(&self) -> &'static str {
-        let place = (self.number as usize).checked_sub(1);
-        place.and_then(|at| SENTENCES.get(at)).unwrap_or(&"This version has no words for it.")
+        let at = (self.number as usize).checked_sub(1);
+        at.and_then(|at| SENTENCES.get(at)).unwrap_or(&"This version has no words for it.")
     }
 
     /// For 47, what the broken rule means.
@@ -77,15 +135,22 @@ impl Refusal {
     /// fewer than three segments, a line or a point: questions are answered then, but a zone drawn so has no room in it.
     #[must_use]
     pub fn rule_sentence(&self) -> Option<&'static str> {
-        let place = (self.rule as usize).checked_sub(2)?;
-        RULES.get(place).copied()
+        let at = (self.rule as usize).checked_sub(2)?;
+        RULES.get(at).copied()
     }
 }
 
-/// `refusal 11: The checksum …`; for 47 the rule's sentence stands behind it.
+/// `refusal 11: The checksum …`; the place stands at the sentence's end, and for 47 the rule's sentence behind it.
 impl fmt::Display for Refusal {
     fn fmt(&self, f: &mut fmt::Formatter<'_>) -> fmt::Result {
-        write!(f, "refusal {}: {}", self.number, self.sentence())?;
+        let sentence = self.sentence();
+        write!(f, "refusal {}: ", self.number)?;
+        match self.place {
+            Some(place) => {
+                write!(f, "{}, at byte {}.", sentence.trim_end_matches('.'), Commas(place))?;
+            }
+            None => write!(f, "{sentence}")?,
+        }
         match (self.rule(), self.rule_sentence()) {
             (Some(rule), Some(sentence)) => write!(f, " Rule {rule} is broken: {sentence}"),
             _ => Ok(()),
@@ -188,6 +253,65 @@ mod tests {
         assert_eq!(Refusal::new(11).rule(), None);
         assert_eq!(Refusal::new(11).rule_sentence(), None);
         assert_eq!(Refusal::not_sound(7).rule_sentence(), None);
+    }
+
+    /// The second export is asked once, for 38 to 43 alone.
+    #[test]
+    fn a_place_is_asked_for_where_there_can_be_one() {
+        for number in 0..=51 {
+            let mut asked = 0;
+            let refusal = Refusal::new(number).with_place(|| {
+                asked += 1;
+                1_204_331
+            });
+            let placed = (38..=43).contains(&number);
+            assert_eq!((asked, refusal.place().is_some()), (u32::from(placed), placed), "{number}");
+            assert_eq!((refusal.number(), refusal.rule()), (number, None));
+            assert_eq!(refusal.sentence(), Refusal::new(number).sentence());
+            assert_eq!(refusal.to_string().ends_with(", at byte 1,204,331."), placed, "{refusal}");
+        }
+        let sound = Refusal::not_sound(3);
+        assert_eq!(sound.with_place(|| 7), sound);
+        assert_eq!(Refusal::new(39).with_place(|| 0).place(), Some(0));
+        assert_eq!(Refusal::new(39).with_place(|| -1), Refusal::new(39));
+    }
+
+    #[test]
+    fn a_place_is_shown_at_the_sentences_end() {
+        let shown = |number: u32, place| Refusal::new(number).with_place(|| place).to_string();
+        let cases = [
+            (38, 999, "A number in a chunk is cut off, at byte 999."),
+            (
+                42,
+                1_000,
+                "A point lies outside 180 degrees of longitude or 90 of latitude, at byte 1,000.",
+            ),
+            (
+                43,
+                4_294_967_291,
+                "A chunk has bytes left over behind its last point, at byte 4,294,967,291.",
+            ),
+        ];
+        for (number, place, sentence) in cases {
+            assert_eq!(shown(number, place), format!("refusal {number}: {sentence}"));
+        }
+        assert_eq!(shown(43, -1), Refusal::new(43).to_string());
+        let debug = format!("{:?}", Refusal::new(43).with_place(|| 7));
+        assert_eq!(debug, "Refusal { number: 43, rule: 0, place: Some(7) }");
+    }
+
+    /// Number, rule and place count, and a refusal can still be copied and be a key.
+    #[test]
+    fn equal_are_those_with_the_same_place() {
+        use std::collections::HashSet;
+        let at = |number: u32, place| Refusal::new(number).with_place(|| place);
+        let first = at(39, 70);
+        let copied = first;
+        assert_eq!(first, copied);
+        let several = [at(39, 70), at(39, 71), at(40, 70), at(39, -1), Refusal::new(39)];
+        assert_eq!(several.map(|one| one == first), [true, false, false, false, false]);
+        assert_eq!(HashSet::from(several).len(), 4);
+        assert!([39, 39, 40, 39, 39] == several.map(|one| one.number()));
     }
 
     #[test]

@@ -11,11 +11,13 @@ pub fn room<T: Clone + Default>(length: usize) -> Result<Vec<T>, Refusal> {
     Ok(room)
 }
 
-/// Asks with room for `few`, and once more with room for `most` where refusal 46 says that it was too short.
+/// Asks with room for `few`, and once more with room for `most` where refusal 46 says that it was too short. Where the
+/// refusal can have a place, that is asked for with the same room.
 pub fn into_room<T: Copy + Default>(
     few: usize,
     most: usize,
     ask: impl Fn(&mut [T]) -> i64,
+    place: impl FnOnce(&[T]) -> i64,
 ) -> Result<Vec<T>, Refusal> {
     let mut room = vec![T::default(); few];
     let mut answer = Refusal::of_code(ask(&mut room));
@@ -23,7 +25,8 @@ pub fn into_room<T: Copy + Default>(
         room.resize(most, T::default());
         answer = Refusal::of_code(ask(&mut room));
     }
-    room.truncate(answer?);
+    let length = answer.map_err(|refusal| refusal.with_place(|| place(&room)))?;
+    room.truncate(length);
     Ok(room)
 }
 
@@ -49,17 +52,33 @@ mod tests {
         }
     }
 
+    /// A place that is not to be asked for.
+    fn nowhere(_: &[u32]) -> i64 {
+        panic!("the refusal has no place")
+    }
+
     #[test]
     fn room_grows_once() {
-        assert_eq!(into_room(2, 5, list(0)), Ok(vec![]));
-        assert_eq!(into_room(2, 5, list(2)), Ok(vec![7, 8]));
-        assert_eq!(into_room(2, 5, list(3)), Ok(vec![7, 8, 9]));
-        assert_eq!(into_room(2, 5, list(5)), Ok(vec![7, 8, 9, 10, 11]));
-        assert_eq!(into_room(2, 5, list(6)), Err(Refusal::new(46)));
+        assert_eq!(into_room(2, 5, list(0), nowhere), Ok(vec![]));
+        assert_eq!(into_room(2, 5, list(2), nowhere), Ok(vec![7, 8]));
+        assert_eq!(into_room(2, 5, list(3), nowhere), Ok(vec![7, 8, 9]));
+        assert_eq!(into_room(2, 5, list(5), nowhere), Ok(vec![7, 8, 9, 10, 11]));
+        assert_eq!(into_room(2, 5, list(6), nowhere), Err(Refusal::new(46)));
     }
 
     #[test]
     fn another_refusal_is_passed_on() {
-        assert_eq!(into_room(2, 5, |_: &mut [u32]| -1034), Err(Refusal::new(34)));
+        assert_eq!(into_room(2, 5, |_| -1034, nowhere), Err(Refusal::new(34)));
+    }
+
+    /// The place is asked for with the room of the call that was refused.
+    #[test]
+    fn a_refusal_with_a_place() {
+        let place = |room: &[u32]| 100 + room.len() as i64;
+        let at_once = into_room(2, 5, |_| -1039, place).unwrap_err();
+        assert_eq!((at_once.number(), at_once.place()), (39, Some(102)));
+        let after_46 = |room: &mut [u32]| if room.len() < 5 { -1046 } else { -1043 };
+        let later = into_room(2, 5, after_46, place).unwrap_err();
+        assert_eq!((later.number(), later.place()), (43, Some(105)));
     }
 }

@@ -26,6 +26,13 @@ mod exports {
         pub fn tzb_contains_striped(record: *const u8, size: usize, numbers: *const u32, count: usize, file: *const u8, length: usize, zone: u32, x: i32, y: i32) -> i32;
         pub fn tzb_ask_striped(record: *const u8, size: usize, numbers: *const u32, count: usize, file: *const u8, length: usize, lng: f64, lat: f64) -> i64;
         pub fn tzb_ask_all_striped(record: *const u8, size: usize, numbers: *const u32, count: usize, file: *const u8, length: usize, lng: f64, lat: f64, zones: *mut u32, places: usize) -> i64;
+        pub fn tzb_ask_place(record: *const u8, size: usize, file: *const u8, length: usize, lng: f64, lat: f64) -> i64;
+        pub fn tzb_ask_all_place(record: *const u8, size: usize, file: *const u8, length: usize, lng: f64, lat: f64, zones: *const u32, places: usize) -> i64;
+        pub fn tzb_contains_place(record: *const u8, size: usize, file: *const u8, length: usize, zone: u32, x: i32, y: i32) -> i64;
+        pub fn tzb_decode_place(record: *const u8, size: usize, file: *const u8, length: usize, chunk: u32, out: *const i32, room: usize) -> i64;
+        pub fn tzb_ask_striped_place(record: *const u8, size: usize, numbers: *const u32, count: usize, file: *const u8, length: usize, lng: f64, lat: f64) -> i64;
+        pub fn tzb_ask_all_striped_place(record: *const u8, size: usize, numbers: *const u32, count: usize, file: *const u8, length: usize, lng: f64, lat: f64, zones: *const u32, places: usize) -> i64;
+        pub fn tzb_contains_striped_place(record: *const u8, size: usize, numbers: *const u32, count: usize, file: *const u8, length: usize, zone: u32, x: i32, y: i32) -> i64;
         pub fn tzb_full_check(file: *const u8, length: usize) -> i32;
         pub fn tzb_full_check_rule(file: *const u8, length: usize) -> u32;
         pub fn tzb_map(file: *const u8, length: usize, zone: u32, out: *mut u8, room: usize) -> i64;
@@ -94,6 +101,38 @@ pub fn ask_all_striped(record: &Record, numbers: &[u32], file: &[u8], lng: f64, 
     ask!(tzb_ask_all_striped, [record, numbers, file], lng, lat, zones.as_mut_ptr(), zones.len())
 }
 
+// Each question once more: the place of its refusal in the file, or -1 where there is none. What is lent is only read.
+
+pub fn ask_place(record: &Record, file: &[u8], lng: f64, lat: f64) -> i64 {
+    ask!(tzb_ask_place, [record, file], lng, lat)
+}
+
+pub fn ask_all_place(record: &Record, file: &[u8], lng: f64, lat: f64, zones: &[u32]) -> i64 {
+    ask!(tzb_ask_all_place, [record, file], lng, lat, zones.as_ptr(), zones.len())
+}
+
+pub fn contains_place(record: &Record, file: &[u8], zone: u32, x: i32, y: i32) -> i64 {
+    ask!(tzb_contains_place, [record, file], zone, x, y)
+}
+
+pub fn decode_place(record: &Record, file: &[u8], chunk: u32, out: &[i32]) -> i64 {
+    ask!(tzb_decode_place, [record, file], chunk, out.as_ptr(), out.len())
+}
+
+pub fn ask_striped_place(record: &Record, numbers: &[u32], file: &[u8], lng: f64, lat: f64) -> i64 {
+    ask!(tzb_ask_striped_place, [record, numbers, file], lng, lat)
+}
+
+#[rustfmt::skip]
+pub fn ask_all_striped_place(record: &Record, numbers: &[u32], file: &[u8], lng: f64, lat: f64, zones: &[u32]) -> i64 {
+    ask!(tzb_ask_all_striped_place, [record, numbers, file], lng, lat, zones.as_ptr(), zones.len())
+}
+
+#[rustfmt::skip]
+pub fn contains_striped_place(record: &Record, numbers: &[u32], file: &[u8], zone: u32, x: i32, y: i32) -> i64 {
+    ask!(tzb_contains_striped_place, [record, numbers, file], zone, x, y)
+}
+
 pub fn full_check(file: &[u8]) -> i32 {
     ask!(tzb_full_check, [file])
 }
@@ -123,4 +162,67 @@ pub fn journal_write(places: u32, x: i32, y: i32, zones: &[u32], reason: u32, ou
 #[rustfmt::skip]
 pub fn journal_read(places: u32, bytes: &[u8], position: &mut [i32], zones: &mut [u32]) -> i32 {
     ask!(tzb_journal_read, places, [bytes], position.as_mut_ptr(), position.len(), zones.as_mut_ptr(), zones.len())
+}
+
+#[cfg(test)]
+mod tests {
+    use super::*;
+
+    /// The sample's record, its bytes, and the same with a first number that is longer than it need be, which is at this place.
+    fn sample() -> (Record, Vec<u8>, Vec<u8>, usize) {
+        let file = std::fs::read("../sample/real-ne.tzb").unwrap();
+        let mut record = [0; RECORD];
+        assert_eq!(open(&file, &mut record), 0);
+        let points = 1_046_448;
+        let mut broken = file.clone();
+        broken[points..points + 2].copy_from_slice(&[0x80, 0x00]);
+        (record, file, broken, points)
+    }
+
+    #[test]
+    fn the_place_of_a_decoding() {
+        let (record, file, broken, points) = sample();
+        let mut room = [7; 1000];
+        assert_eq!(decode(&record, &broken, 0, &mut room), -1039);
+        assert_eq!(decode_place(&record, &broken, 0, &room), points as i64);
+        assert_eq!(room, [7; 1000]);
+        // An answer, a chunk that is not there, no room, and bytes that end before.
+        assert_eq!(decode_place(&record, &file, 0, &room), -1);
+        assert_eq!(decode_place(&record, &broken, 1, &room), -1);
+        assert_eq!(decode_place(&record, &broken, 5408, &room), -1);
+        assert_eq!(decode_place(&record, &broken, 0, &room[..9]), -1);
+        assert_eq!(decode_place(&record, &broken[..points], 0, &room), -1);
+    }
+
+    /// A zone, none, a list, and the refusals of a zone number, of the room and of bytes that end before.
+    #[test]
+    fn no_place_where_there_is_no_such_refusal() {
+        let (record, file, _, _) = sample();
+        let mut numbers = vec![0; stripes_need(&record, &file) as usize];
+        assert_eq!(stripes(&record, &file, &mut numbers), numbers.len() as i64);
+        let zones = [7; 15];
+        let positions = [(8.68, 50.11), (139.7, 35.7), (-30.0, 0.0), (200.0, 0.0), (f64::NAN, 0.0)];
+        for ((lng, lat), file) in positions
+            .into_iter()
+            .flat_map(|at| [(at, &file[..]), (at, &file[..700_000]), (at, &[])])
+        {
+            let told = [
+                ask_place(&record, file, lng, lat),
+                ask_all_place(&record, file, lng, lat, &zones),
+                ask_all_place(&record, file, lng, lat, &[]),
+                ask_striped_place(&record, &numbers, file, lng, lat),
+                ask_striped_place(&record, &[], file, lng, lat),
+                ask_all_striped_place(&record, &numbers, file, lng, lat, &zones),
+                ask_all_striped_place(&record, &numbers, file, lng, lat, &[]),
+            ];
+            assert_eq!(told, [-1; 7], "{lng} {lat}");
+        }
+        for zone in [0, 126, 481, u32::MAX] {
+            let told = [
+                contains_place(&record, &file, zone, 868_000, 5_011_000),
+                contains_striped_place(&record, &numbers, &file, zone, 868_000, 5_011_000),
+            ];
+            assert_eq!(told, [-1; 2], "{zone}");
+        }
+    }
 }

@@ -6,7 +6,7 @@ use std::collections::BTreeSet;
 
 use common::{
     CHUNKDIR, GROUPDIR, NAMES, POINTS, RINGDIR, RINGOPS, Squares, TZDIR, changed, coast, drawn,
-    in_chunks, same_at, sample, words,
+    in_chunks, same_at, sample, stretch_of, words,
 };
 use tzb::journal::Entry;
 use tzb::{Index, Refusal, Walk, WhyPlain, full_check, map};
@@ -23,6 +23,13 @@ fn ask_everything(file: &[u8], numbers: &mut BTreeSet<(u32, Option<u32>)>) {
         assert_eq!(refusal.rule().is_some(), refusal.number() == 47, "{refusal:?}");
         assert!(refusal.rule().is_none_or(|rule| (2..=6).contains(&rule)), "{refusal:?}");
         assert!(refusal.to_string().starts_with(&format!("refusal {}: ", refusal.number())));
+        let placed = (38..=43).contains(&refusal.number());
+        assert_eq!(refusal.place().is_some(), placed, "{refusal:?}");
+        assert_eq!(refusal.to_string().contains(", at byte "), placed, "{refusal}");
+        if let Some(place) = refusal.place() {
+            let points = stretch_of(file, POINTS);
+            assert!((points.start..=points.end).contains(&(place as usize)), "{refusal}");
+        }
         numbers.insert((refusal.number(), refusal.rule()));
     };
     full_check(file).unwrap_or_else(&mut note);
@@ -42,7 +49,7 @@ fn ask_everything(file: &[u8], numbers: &mut BTreeSet<(u32, Option<u32>)>) {
     for (x, y) in [(50_000, 50_000), (0, 50_000), (200_000, 200_000)] {
         let entry = index.journal(x, y);
         assert_eq!(Entry::read(&entry.to_bytes().unwrap()), Ok(entry.clone()));
-        entry.reason().into_iter().for_each(&mut note);
+        assert!(entry.reason().is_none_or(|refusal| refusal.place().is_none()));
     }
     for number in [0, 1] {
         index.contains(number, 50_000, 50_000).err().into_iter().for_each(&mut note);

@@ -3,9 +3,13 @@
 mod common;
 
 use std::cell::Cell;
+use std::rc::Rc;
 use std::sync::Arc;
 
-use common::{GROUPDIR, Squares, TZDIR, changed, coast, in_chunks, sample, start_of, words};
+use common::broken::Shore;
+use common::{
+    GROUPDIR, Squares, TZDIR, changed, chunk_of, coast, in_chunks, sample, start_of, words,
+};
 use tzb::{Index, Refusal, Walk, full_check};
 
 /// What a service keeps: the index of the day, and how often it was replaced.
@@ -139,4 +143,47 @@ fn an_index_asks_with_its_stripes() {
         [zone, zones, inside].map(|one| one.map_err(|refusal| refusal.number()))
     });
     assert_eq!(told, [[Err(34); 3], [Err(34); 3], [Ok(()); 3]]);
+}
+
+/// Gives broken bytes once, when it is told to.
+struct BrokenOnce {
+    now: Rc<Cell<bool>>,
+    sound: Vec<u8>,
+    broken: Vec<u8>,
+}
+
+impl AsRef<[u8]> for BrokenOnce {
+    fn as_ref(&self) -> &[u8] {
+        if self.now.replace(false) { &self.broken } else { &self.sound }
+    }
+}
+
+/// The place of a refusal is asked for with the bytes of the question.
+#[test]
+fn a_place_is_of_the_bytes_that_were_asked() {
+    let shore = Shore::new((100_000, 200_000));
+    let damages = shore.damages(3);
+    let damage = damages.iter().find(|damage| damage.refusal == 39).unwrap();
+    let (sound, broken) = (shore.file(&[]), shore.file(&[(3, &damage.bytes)]));
+    let place = (chunk_of(&broken, 3).start + damage.place) as u64;
+    let (x, y) = shore.beside(3);
+    let (lng, lat) = (f64::from(x) / 100_000.0, f64::from(y) / 100_000.0);
+    for open in [Index::open, Index::open_plain] {
+        let now = Rc::new(Cell::new(false));
+        let (sound, broken) = (sound.clone(), broken.clone());
+        let index = open(BrokenOnce { now: now.clone(), sound, broken }).unwrap();
+        let questions: [&dyn Fn() -> Option<Refusal>; 4] = [
+            &|| index.zone(lng, lat).err(),
+            &|| index.zones(lng, lat).err(),
+            &|| index.contains(0, x, y).err(),
+            &|| index.decode(3).err(),
+        ];
+        for ask in questions {
+            assert_eq!(ask(), None);
+            now.set(true);
+            let refusal = ask().unwrap();
+            assert_eq!((refusal.number(), refusal.place()), (39, Some(place)));
+            assert_eq!(ask(), None);
+        }
+    }
 }

@@ -266,7 +266,11 @@ fn the_refusal_of_a_question_is_its_reason() {
             let index = Index::open(Squares::new(names).with(section, at, &new)).unwrap();
             let told = index.journal(50_000, 50_000);
             assert_eq!(told, Entry::refused(50_000, 50_000, refusal(reason)));
-            assert_eq!(told.reason(), index.contains(0, 50_000, 50_000).err());
+            let asked = index.contains(0, 50_000, 50_000).unwrap_err();
+            assert_eq!(told.reason().map(|refusal| refusal.number()), Some(asked.number()));
+            // The number alone is kept, also of a refusal that has a place.
+            assert_eq!(told.reason().unwrap().place(), None);
+            assert_eq!(Entry::refused(50_000, 50_000, asked), told);
             // Where no zone is looked into there is no refusal, and outside the domain no question.
             assert_eq!(index.journal(300_000, 50_000).answer, Ok(vec![]), "{reason}");
             assert_eq!(index.journal(i32::MAX, i32::MIN).answer, Ok(vec![]), "{reason}");

@@ -5,6 +5,7 @@ use std::io;
 use std::path::PathBuf;
 use std::process::ExitCode;
 
+use super::broken::Told;
 use super::found::Shown;
 use super::words::Task;
 use tzb::Refusal;
@@ -61,7 +62,9 @@ impl fmt::Display for Failure {
             Self::Unreadable(file, why) | Self::Unwritable(file, why) => {
                 write!(f, "{}: {why}", Shown(&file.to_string_lossy()))
             }
-            Self::Refused(file, why) => write!(f, "{}: {why}", Shown(&file.to_string_lossy())),
+            Self::Refused(file, why) => {
+                write!(f, "{}: {}", Shown(&file.to_string_lossy()), Told(why))
+            }
             Self::NoSuchZone(file, why) => write!(f, "{}: {why}", Shown(&file.to_string_lossy())),
             Self::Input(why) => write!(f, "standard input: {why}"),
             Self::Output(why) => write!(f, "standard output: {why}"),

@@ -2,6 +2,7 @@
 
 use std::io::{BufRead, BufReader, Read, Write};
 
+use super::broken::Told;
 use super::failure::{Failure, Status};
 use super::found::Found;
 use super::position::Position;
@@ -40,7 +41,7 @@ fn answer_line<'a>(
 ) -> Result<(Found<'a>, Status), (String, Status)> {
     let text = String::from_utf8_lossy(line);
     let position = Position::read(&text).map_err(|why| (why.to_string(), Status::Mistaken))?;
-    let found = ask(position).map_err(|refusal| (refusal.to_string(), Status::No))?;
+    let found = ask(position).map_err(|refusal| (Told(&refusal).to_string(), Status::No))?;
     let status = found.status();
     Ok((found, status))
 }

@@ -4,7 +4,10 @@
 // Each test program uses some of it.
 #![allow(dead_code)]
 
+pub mod broken;
 pub mod program;
+
+use std::ops::Range;
 
 use tzb::Index;
 
@@ -94,6 +97,12 @@ pub fn drawn(names: &[&str], polygons: &[&[&[Point]]]) -> Vec<u8> {
 /// A file without GRID whose one zone is one ring, in one group that has a chunk for each of these stretches of points. The
 /// last point is the first one again. All boxes are the least.
 pub fn in_chunks(name: &str, stretches: &[Vec<Point>]) -> Vec<u8> {
+    let bytes: Vec<_> = stretches.iter().map(|stretch| numbers_of(stretch).concat()).collect();
+    in_chunks_of(name, stretches, &bytes)
+}
+
+/// The same with these bytes for the chunks, whatever points they have.
+pub fn in_chunks_of(name: &str, stretches: &[Vec<Point>], bytes: &[Vec<u8>]) -> Vec<u8> {
     let all = stretches.concat();
     let side = box_of(all.iter().copied());
     let listed = |first: u32, count: u32| [words(&[first, count]), side.clone()].concat();
@@ -102,7 +111,7 @@ pub fn in_chunks(name: &str, stretches: &[Vec<Point>]) -> Vec<u8> {
         let next = stretches.get(place + 1).map(|next| next[0]);
         chunks.extend(words(&[stream.len() as u32, stretch.len() as u32]));
         chunks.extend(box_of(stretch.iter().copied().chain(next)));
-        stream.extend(points(&steps(stretch)));
+        stream.extend_from_slice(&bytes[place]);
     }
     let count = all.len() as u32;
     let (x, y) = (all[0].0 as u32, all[0].1 as u32);
@@ -164,9 +173,27 @@ fn whole(zones: usize, sections: &[(usize, Vec<u8>)]) -> (Vec<u8>, [usize; 10]) 
 
 /// Where a section starts, by the file's own table.
 pub fn start_of(file: &[u8], kind: usize) -> usize {
-    let word = |at: usize| u32::from_le_bytes(*file[at..].first_chunk().unwrap()) as usize;
+    stretch_of(file, kind).start
+}
+
+/// Where a section starts and ends, by the file's own table.
+pub fn stretch_of(file: &[u8], kind: usize) -> Range<usize> {
+    let word = |at: usize| word_at(file, at);
     let entry = (64..).step_by(16).take(word(20)).find(|&entry| word(entry) == kind);
-    word(entry.expect("the section is there") + 4)
+    let entry = entry.expect("the section is there");
+    word(entry + 4)..word(entry + 4) + word(entry + 8)
+}
+
+/// Where the bytes of a chunk start and end in the file.
+pub fn chunk_of(file: &[u8], chunk: usize) -> Range<usize> {
+    let (directory, points) = (stretch_of(file, CHUNKDIR), stretch_of(file, POINTS));
+    let start = |chunk| points.start + word_at(file, directory.start + 24 * chunk);
+    let is_last = directory.start + 24 * (chunk + 1) == directory.end;
+    start(chunk)..if is_last { points.end } else { start(chunk + 1) }
+}
+
+fn word_at(file: &[u8], at: usize) -> usize {
+    u32::from_le_bytes(*file[at..].first_chunk().unwrap()) as usize
 }
 
 /// Holds an index to another at a position: its zone, all its zones, and whether these and a few more contain the point of
@@ -233,16 +260,24 @@ fn names_section(names: &[&str]) -> Vec<u8> {
     [words(&offsets), blob.into_bytes()].concat()
 }
 
-/// A chunk's bytes: each number in zigzag form, seven bits a byte.
+/// A chunk's bytes.
 fn points(deltas: &[(i32, i32)]) -> Vec<u8> {
+    deltas.iter().flat_map(|&(x, y)| [x, y]).flat_map(number).collect()
+}
+
+/// The numbers of a chunk with these points, each by its bytes.
+pub fn numbers_of(points: &[Point]) -> Vec<Vec<u8>> {
+    steps(points).iter().flat_map(|&(x, y)| [x, y]).map(number).collect()
+}
+
+/// A number's bytes: in zigzag form, seven bits a byte.
+pub fn number(n: i32) -> Vec<u8> {
     let mut out = Vec::new();
-    for n in deltas.iter().flat_map(|&(x, y)| [x, y]) {
-        let mut rest = ((n << 1) ^ (n >> 31)) as u32;
-        while rest >= 0x80 {
-            out.push(rest as u8 | 0x80);
-            rest >>= 7;
-        }
-        out.push(rest as u8);
+    let mut rest = ((n << 1) ^ (n >> 31)) as u32;
+    while rest >= 0x80 {
+        out.push(rest as u8 | 0x80);
+        rest >>= 7;
     }
+    out.push(rest as u8);
     out
 }
