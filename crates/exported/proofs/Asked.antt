@@ -80,14 +80,14 @@ module _
   unfolding recordOf
   record-q held = need-o 44 (same (length held) 84) _ (plainly 44 refl) (given _)
 
-  load : (n : ℕ) (s : List ℕ) (p : ℕ) → Q (loadAt n s p)
+  load : (n p : ℕ) → Q (loadAt n s p)
   unfolding loadAt
-  load n s p = need-o 44 (F.inside n s p) _ (plainly 44 refl) (given _)
+  load n p = need-o 44 (F.inside n s p) _ (plainly 44 refl) (given _)
 
   -- ---- names
-  pub bounds-q : (s : List ℕ) (at n zone : ℕ) → Q (boundsAt s at n zone)
+  pub bounds-q : (at n zone : ℕ) → Q (boundsAt s at n zone)
   unfolding boundsAt
-  bounds-q s at n zone =
+  bounds-q at n zone =
       need-o 45 (C.below zone n) _ (plainly 45 refl)
       (need-o 44 (atMost (at + 4 + 4 * zone + 8) (length s)) _ (plainly 44 refl)
       (need-o 23 (atMost (edge s at n zone) (edge s at n (zone + 1))) _ (plainly 23 refl)
@@ -95,14 +95,14 @@ module _
       (given _))))
 
   -- ---- candidates
-  module _ (o : Opened) (s : List ℕ) where
+  module _ (o : Opened) where
     name-q : (zone : ℕ) → Q (nameAt o s zone)
     unfolding nameAt
-    name-q zone = then-t _ _ (bounds-q s _ _ zone) (λ b. given _)
+    name-q zone = then-t _ _ (bounds-q _ _ zone) (λ b. given _)
 
     cell : (g : Grid) (column row : ℤ) → Q (cellCandidates s g column row)
     unfolding cellCandidates
-    cell g column row = either-way Q (inGrid g column row) _ _ (then-t _ _ (load 4 s _) (λ w. given _)) (given _)
+    cell g column row = either-way Q (inGrid g column row) _ _ (then-t _ _ (load 4 _) (λ w. given _)) (given _)
 
     pub candidates-q : (lng lat : Float) → Q (candidatesOf o s lng lat)
     unfolding candidatesOf
@@ -114,12 +114,12 @@ module _
 
     pub candidate-q : (place : ℕ) → Q (candidateAt o s place)
     unfolding candidateAt
-    candidate-q place = need-o 30 (C.below place (o .grid .total)) _ (plainly 30 refl) (then-t _ _ (load 2 s _) (below (o .zones .count)))
+    candidate-q place = need-o 30 (C.below place (o .grid .total)) _ (plainly 30 refl) (then-t _ _ (load 2 _) (below (o .zones .count)))
 
   -- ---- records
-  record-at : (s : List ℕ) (d : Directory) (w i : ℕ) → Q (recordAt s d w i)
+  record-at : (d : Directory) (w i : ℕ) → Q (recordAt s d w i)
   unfolding recordAt
-  record-at s d w i = need-o 34 (ltb i (d .count)) _ (plainly 34 refl) (need-o 44 (F.inside w s (place d w i)) _ (plainly 44 refl) (given _))
+  record-at d w i = need-o 34 (ltb i (d .count)) _ (plainly 34 refl) (need-o 44 (F.inside w s (place d w i)) _ (plainly 44 refl) (given _))
 
   ruled-34 : {A : Type 0} (at : Answer ℕ) (read : ℕ → A) (rule : A → Bool) → Q at → Q (ruled at read rule 34)
   unfolding ruled
@@ -129,26 +129,26 @@ module _
   unfolding ruled
   ruled-35 at read rule h = then-t _ _ h (λ p. need-o 35 (rule (read p)) _ (plainly 35 refl) (given _))
 
-  list : (s : List ℕ) (d : Directory) (below i : ℕ) → Q (listAt s d below i)
+  list : (d : Directory) (below i : ℕ) → Q (listAt s d below i)
   unfolding listAt
-  list s d below i = ruled-34 _ _ _ (record-at s d listWide i)
+  list d below i = ruled-34 _ _ _ (record-at d listWide i)
 
-  module _ (o : Opened) (s : List ℕ) (i : ℕ) where
+  module _ (o : Opened) (i : ℕ) where
     ring : Q (ringAt o s i)
     unfolding ringAt
-    ring = ruled-34 _ _ _ (record-at s (o .rings) ringWide i)
+    ring = ruled-34 _ _ _ (record-at (o .rings) ringWide i)
 
     op : Q (opAt o s i)
     unfolding opAt
-    op = ruled-35 _ _ _ (record-at s (o .ops) opWide i)
+    op = ruled-35 _ _ _ (record-at (o .ops) opWide i)
 
     pub group : Q (groupAt o s i)
     unfolding groupAt
-    group = ruled-34 _ _ _ (record-at s (o .groups) groupWide i)
+    group = ruled-34 _ _ _ (record-at (o .groups) groupWide i)
 
     pub chunk : Q (chunkAt o s i)
     unfolding chunkAt
-    chunk = ruled-34 _ _ _ (record-at s (o .chunks) chunkWide i)
+    chunk = ruled-34 _ _ _ (record-at (o .chunks) chunkWide i)
 
   -- ---- chunks
   span-q : (a e : ℕ) → Q (span s a e)
@@ -199,7 +199,7 @@ module _
   module _ (o : Opened) where
     end-q : (i : ℕ) → Q (endOf o s i)
     unfolding endOf
-    end-q i = either-way Q (ltb (i + 1) (o .chunks .count)) _ _ (then-t _ _ (chunk o s (i + 1)) (λ v. given _)) (given _)
+    end-q i = either-way Q (ltb (i + 1) (o .chunks .count)) _ _ (then-t _ _ (chunk o (i + 1)) (λ v. given _)) (given _)
 
     bytes : (i : ℕ) (v : ChunkRecord) → Q (bytesOf o s i v)
     unfolding bytesOf
@@ -208,7 +208,7 @@ module _
     pub decode-q : (i : ℕ) (out : List ℤ) → Q (decodeIn o s i out)
     unfolding decodeIn decodeBy bytesOf
     decode-q i out =
-        then-t _ _ (chunk o s i) (λ v.
+        then-t _ _ (chunk o i) (λ v.
         need-o 32 (ltb 0 (v .count)) _ (plainly 32 refl)
         (need-o 46 (leb (2 * v .count) (length out)) _ (plainly 46 refl)
         (then-e _ _ (bytes i v) (λ b h. let g = then-inv (endOf o s i) (λ e. span s (startOf o v) e) b h in points-q (startOf o v) (g .0) b (g .2) (v .count)))))
@@ -234,7 +234,7 @@ module _
 
         pass : W (passAt o s p i v)
         unfolding passAt
-        pass = yields-t _ _ (chunk o s (i + 1)) (λ n. go-t _ _ (joined n) (λ t. walked _ _))
+        pass = yields-t _ _ (chunk o (i + 1)) (λ n. go-t _ _ (joined n) (λ t. walked _ _))
 
         last-in : (x : I32Point) (e : ℕ) → W (lastIn o s p i v x e)
         unfolding lastIn
@@ -251,13 +251,13 @@ module _
 
       group-of : (g : GroupRecord) → W (groupScan o s p g)
       unfolding groupScan
-      group-of g = yields-t _ _ (chunk o s (g .first)) (λ v. chunks-from (g .exit) _ (g .first) v)
+      group-of g = yields-t _ _ (chunk o (g .first)) (λ v. chunks-from (g .exit) _ (g .first) v)
 
       -- ---- groups by stripes
       alone : (x : I32Point) (follows : Bool) (i : ℕ) → W (aloneAt o s p x follows i)
       unfolding aloneAt
       alone x follows i =
-          yields-t _ _ (chunk o s i) (λ v.
+          yields-t _ _ (chunk o i) (λ v.
           either-way W (relevant (v .bbox) p) _ _ (either-way W follows _ _ (go-t _ _ (pass i v) (λ n. walked _ _)) (last i v x)) (walked _ _))
 
       numbered-q : (g : GroupRecord) (c : ℕ) → W (numbered o s p g c)
@@ -306,7 +306,7 @@ module _
 
     turned : (i : ℕ) → Q (turnedAt o s i)
     unfolding turnedAt
-    turned i = then-t _ _ (op o s i) (λ w. then-t _ _ (group o s _) (λ g. given _))
+    turned i = then-t _ _ (op o i) (λ w. then-t _ _ (group o _) (λ g. given _))
 
     -- ---- zones and lookups: the same
     sought : (f : ℕ → Answer Bool) (found other : Bool) → ((i : ℕ) → Q (f i)) → (n i : ℕ) → Q (firstSo f found other n i)
@@ -316,7 +316,7 @@ module _
 
     candidate-of : (grid : Bool) (place : ℕ) → Q (candidateOf o s grid place)
     unfolding candidateOf
-    candidate-of grid place = either-way Q grid _ _ (candidate-q o s place) (given _)
+    candidate-of grid place = either-way Q grid _ _ (candidate-q o place) (given _)
 
     or-else : (z : Sought) (x : Answer Sought) → Q x → Q (orElse z x)
     or-else nowhere x h = h
@@ -335,7 +335,7 @@ module _
     names-read : (l : List ℕ) → Q (namesRead o s l)
     unfolding namesRead
     names-read [] = fine-t
-    names-read (zone ∷ l) = and-t _ _ (outcome-t _ (name-q o s zone)) (names-read l)
+    names-read (zone ∷ l) = and-t _ _ (outcome-t _ (name-q o zone)) (names-read l)
 
     list-for : (places : ℕ) (l : List ℕ) → Q (listFor o s places l)
     unfolding listFor placed
@@ -371,20 +371,20 @@ module _
 
         ring-contains : (edge : Bool) (i : ℕ) → Q (ringContains w o s p edge i)
         unfolding ringContains
-        ring-contains edge i = then-t _ _ (ring o s i) (λ r. either-way Q (contains (r .bbox) p) _ _ (verdict-t edge _ (ring-of r)) (given _))
+        ring-contains edge i = then-t _ _ (ring o i) (λ r. either-way Q (contains (r .bbox) p) _ _ (verdict-t edge _ (ring-of r)) (given _))
 
         -- ---- zones
         poly : (i : ℕ) → Q (polyOf w o s p i)
         unfolding polyOf
         poly i =
-            then-t _ _ (list s (o .polys) _ i) (λ q.
+            then-t _ _ (list (o .polys) _ i) (λ q.
             either-way Q (contains (q .bbox) p) _ _
             (then-t _ _ (ring-contains true (q .first)) (λ b. either-way Q b _ _ (sought (ringContains w o s p false) false true (ring-contains false) (q .count - 1) (q .first + 1)) (given _)))
             (given _))
 
         zone-q : (i : ℕ) → Q (zoneBy w o s p i)
         unfolding zoneBy
-        zone-q i = then-t _ _ (list s (o .zones) _ i) (λ z. either-way Q (contains (z .bbox) p) _ _ (sought (polyOf w o s p) true false poly (z .count) (z .first)) (given _))
+        zone-q i = then-t _ _ (list (o .zones) _ i) (λ z. either-way Q (contains (z .bbox) p) _ _ (sought (polyOf w o s p) true false poly (z .count) (z .first)) (given _))
 
       pub contains-by-q : (zone : ℕ) (q : I32Point) → Q (containsBy w o s zone q)
       unfolding containsBy
@@ -399,11 +399,11 @@ module _
       unfolding lookupAmong
       among lng lat none = given _
       among lng lat (all n) = first-hit _ (hit (scaled lng lat) false) n 0
-      among lng lat (listed n place) = either-way Q (unlooked o n lng lat) _ _ (then-t _ _ (candidate-q o s place) (λ zone. given _)) (first-hit _ (hit (scaled lng lat) true) n place)
+      among lng lat (listed n place) = either-way Q (unlooked o n lng lat) _ _ (then-t _ _ (candidate-q o place) (λ zone. given _)) (first-hit _ (hit (scaled lng lat) true) n place)
 
       pub lookup-by-q : (lng lat : Float) → Q (lookupBy w o s lng lat)
       unfolding lookupBy
-      lookup-by-q lng lat = then-t _ _ (candidates-q o s lng lat) (among lng lat)
+      lookup-by-q lng lat = then-t _ _ (candidates-q o lng lat) (among lng lat)
 
       hits-among : (p : Point) (c : Chosen) → Q (hitsAmong w o s p c)
       unfolding hitsAmong
@@ -413,7 +413,7 @@ module _
 
       hits : (lng lat : Float) → Q (hitsOf w o s lng lat)
       unfolding hitsOf
-      hits lng lat = then-t _ _ (candidates-q o s lng lat) (hits-among _)
+      hits lng lat = then-t _ _ (candidates-q o lng lat) (hits-among _)
 
       pub list-by-q : (lng lat : Float) (places : ℕ) → Q (listBy w o s lng lat places)
       unfolding listBy

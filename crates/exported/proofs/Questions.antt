@@ -40,14 +40,14 @@ pub record-q : (held : List ℕ) → Tabled 46 (recordOf held)
 record-q held = A.record-q [] (Numbered 46) by-plain (by-broken []) held
 
 pub bounds-q : (s : List ℕ) (at n zone : ℕ) → Tabled 46 (boundsAt s at n zone)
-bounds-q s at n zone = A.bounds-q s (Numbered 46) by-plain (by-broken s) s at n zone
+bounds-q s at n zone = A.bounds-q s (Numbered 46) by-plain (by-broken s) at n zone
 
 module _ (o : Opened) (s : List ℕ) where
   pub candidates-q : (lng lat : Float) → Tabled 46 (candidatesOf o s lng lat)
-  candidates-q = A.candidates-q s (Numbered 46) by-plain (by-broken s) o s
+  candidates-q = A.candidates-q s (Numbered 46) by-plain (by-broken s) o
 
   pub candidate-q : (place : ℕ) → Tabled 46 (candidateAt o s place)
-  candidate-q = A.candidate-q s (Numbered 46) by-plain (by-broken s) o s
+  candidate-q = A.candidate-q s (Numbered 46) by-plain (by-broken s) o
 
   pub decode-q : (i : ℕ) (out : List ℤ) → Tabled 46 (decodeIn o s i out)
   decode-q = A.decode-q s (Numbered 46) by-plain (by-broken s) o
