@@ -31,12 +31,6 @@ counted-at a p r h = let e : a + p ≡ min (a + p) noPlace = omega (arith, h) in
 
 -- ---- the cases of the code
 module _ {A : Type 0} (p : ℕ) (x : Answer A) where
-  pub about-ok : (a : A) → ok a ≡ x → ok a ≡ about p x
-  about-ok a e = rw (← e)
-
-  pub about-no : (r : Refusal) → refused r ≡ x → refused (placedAt p r) ≡ about p x
-  about-no r e = rw (← e)
-
   pub behind-ok : (a : A) → ok a ≡ x → ok a ≡ behind p x
   behind-ok a e = rw (← e)
 
@@ -53,11 +47,7 @@ module _ {A : Type 0} (p : ℕ) where
   behind-inv (ok b) a e = e
   behind-inv (refused r) a e = let z : _≡_ {A = ℕ} 0 1 = cc in absurd (omega (arith, z))
 
--- what is done with a value, and an outcome, change no place
-pub behind-then : {A B : Type 0} (p : ℕ) (x : Answer A) (f : A → B) → (behind p x then λ a. ok (f a)) ≡ behind p (x then λ a. ok (f a))
-behind-then p (ok a) f = refl
-behind-then p (refused r) f = refl
-
+-- an outcome changes no place
 pub behind-outcome : {A : Type 0} (p : ℕ) (x : Answer A) → outcome (behind p x) ≡ behind p (outcome x)
 behind-outcome p (ok a) = refl
 behind-outcome p (refused r) = refl
@@ -90,6 +80,6 @@ pub then-split : {A B : Type 0} (x : Answer A) (k : A → Answer B) (r : Refusal
 then-split (ok a) k r e = inr (a, refl, e)
 then-split {A} {B} (refused m) k r e = inl (ap refused (refused-inv {A = B} r m e))
 
-pub need-split : {A : Type 0} (n : ℕ) (b : Bool) (x : Answer A) (r : Refusal) → refused r ≡ need n b x → (r ≡ refusal n) ⊎ (refused r ≡ x)
-need-split n true x r e = inr e
+pub need-split : {A : Type 0} (n : ℕ) (b : Bool) (x : Answer A) (r : Refusal) → refused r ≡ need n b x → (r ≡ refusal n) ⊎ ((b ≡ true) × (refused r ≡ x))
+need-split n true x r e = inr (refl, e)
 need-split {A} n false x r e = inl (refused-inv {A = A} r (refusal n) e)

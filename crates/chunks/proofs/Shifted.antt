@@ -19,7 +19,7 @@ use Rattle.varints.proofs.Places.{number-place}
 use Rattle.varints.proofs.Shifted.{farther, number-shifted, end-same}
 use Rattle.chunks.specs.Delta.{addDelta}
 use Rattle.chunks.specs.Points.{numbersAt, movedBy, mustLie, firstFrom, nextAt}
-use Rattle.chunks.specs.Broken.{reached, Numbers, Broken, x-unread, y-unread, x-over, y-over, outside, left-over}
+use Rattle.chunks.specs.Broken.{reached, Numbers, Broken, x-unread, y-unread, x-over, y-over, first-outside, outside, left-over}
 use Rattle.chunks.proofs.Breaking.{y-within, reached-within}
 
 -- two numbers, y's place, and the place after them
@@ -151,10 +151,11 @@ module _ (front s : List ℕ) (few : length (front ++ s) ≤ noPlace) where
         second = read j (after k x j (b .first)) y m (b .second);
       }
 
-  pub broken-shifted : (r : Refusal) → Broken s 0 r → Broken (front ++ s) a (countedFrom a r)
-  broken-shifted r (x-unread n q k e f) = x-unread n q (a + k) (there n q k e) (unread k (at-most n q k e) r f)
-  broken-shifted r (y-unread n q k e x j f g) = y-unread n q (a + k) (there n q k e) x (a + j) (read k (at-most n q k e) x j f) (unread j (after k x j f) r g)
-  broken-shifted r (x-over n q k x j y m b o i) = x-over n q (a + k) x (a + j) y (a + m) (numbers n q k x j y m b) o (named 41 k (at-most n q k (b .behind)) r i)
-  broken-shifted r (y-over n q k x j y m b f o i) = y-over n q (a + k) x (a + j) y (a + m) (numbers n q k x j y m b) f o (named 41 j (after k x j (b .first)) r i)
-  broken-shifted r (outside n q k x j y m b o i) = outside n q (a + k) x (a + j) y (a + m) (numbers n q k x j y m b) o (named 42 j (after k x j (b .first)) r i)
-  broken-shifted r (left-over n q k e o i) = left-over n q (a + k) (there n q k e) (end-same front s k ∙ o) (named 43 k (at-most n q k e) r i)
+  pub broken-shifted : (count : ℕ) (r : Refusal) → Broken s 0 count r → Broken (front ++ s) a count (countedFrom a r)
+  broken-shifted c r (x-unread n q k l e f) = x-unread n q (a + k) l (there n q k e) (unread k (at-most n q k e) r f)
+  broken-shifted c r (y-unread n q k l e x j f g) = y-unread n q (a + k) l (there n q k e) x (a + j) (read k (at-most n q k e) x j f) (unread j (after k x j f) r g)
+  broken-shifted c r (x-over n q k x j y m l b o i) = x-over n q (a + k) x (a + j) y (a + m) l (numbers (suc n) q k x j y m b) o (named 41 k (at-most (suc n) q k (b .behind)) r i)
+  broken-shifted c r (y-over n q k x j y m l b f o i) = y-over n q (a + k) x (a + j) y (a + m) l (numbers (suc n) q k x j y m b) f o (named 41 j (after k x j (b .first)) r i)
+  broken-shifted c r (first-outside q k x j y m l b o i) = first-outside q (a + k) x (a + j) y (a + m) l (numbers 0 q k x j y m b) o (named 42 j (after k x j (b .first)) r i)
+  broken-shifted c r (outside n q k x j y m l b f g o i) = outside n q (a + k) x (a + j) y (a + m) l (numbers (suc n) q k x j y m b) f g o (named 42 j (after k x j (b .first)) r i)
+  broken-shifted c r (left-over n q k l e o i) = left-over n q (a + k) l (there (suc n) q k e) (end-same front s k ∙ o) (named 43 k (at-most (suc n) q k e) r i)

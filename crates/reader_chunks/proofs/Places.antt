@@ -35,7 +35,7 @@ module _ (s : List ℕ) (few : length s ≤ noPlace) (a e : ℕ) (b : List ℕ) 
   few-whole : length (take a s ++ b) ≤ noPlace
   few-whole = let i = span-in s a e b h in omega (arith, few, ap length whole, length-take-le e s (i .1), i .1)
 
-  pub broken-file : (r : Refusal) → Broken b 0 r → Broken (take e s) a (countedFrom a r)
-  broken-file r k =
-      subst (λ (l : List ℕ). Broken l a (countedFrom a r)) whole
-      (subst (λ (n : ℕ). Broken (take a s ++ b) n (countedFrom n r)) front (broken-shifted (take a s) b few-whole r k))
+  pub broken-file : (count : ℕ) (r : Refusal) → Broken b 0 count r → Broken (take e s) a count (countedFrom a r)
+  broken-file count r k =
+      subst (λ (l : List ℕ). Broken l a count (countedFrom a r)) whole
+      (subst (λ (n : ℕ). Broken (take a s ++ b) n count (countedFrom n r)) front (broken-shifted (take a s) b few-whole count r k))

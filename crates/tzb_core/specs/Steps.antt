@@ -3,7 +3,7 @@
 use Prim.Native.Nat.{ℕ, _≤_}
 use mathlib.Core.Bool.{Bool, true, _||_, _&&_}
 use lib.IntN.{ℤ, natAbs}
-use Rattle.answer.specs.Answers.{Answer, ok, refused}
+use Rattle.answer.specs.Answers.{Answer, ok, refused, no}
 use Rattle.tzb_core.specs.declared.varint.Digits.{Digits}
 use Rattle.tzb_core.specs.declared.varint.Digits.the-variants as D
 use mathlib.Core.Path.{_≡_}
@@ -20,7 +20,7 @@ use Rattle.tzb_core.specs.declared.chunk.Band.{Band}
 -- ---- numbers
 abbrev pub digitsTold : Digits → Answer (ℕ × ℕ)
 digitsTold (D.Of n q) = ok (n, q .at)
-digitsTold (D.Refused r) = refused r
+digitsTold (D.Refused n) = no n
 
 -- ---- points
 abbrev pub pairTold : Pair → Answer (I32Point × ℕ × ℕ)

@@ -21,10 +21,10 @@ pub enum Read {
     Refused(Refusal),
 }
 
-// What the digits make, before zigzag, and the place after them.
+// What the digits make, before zigzag, and the place after them; or the number of the refusal, which gets its place where the number's is known.
 enum Digits {
     Of(u32, Place),
-    Refused(Refusal),
+    Refused(u32),
 }
 
 // 0, -1, 1, -2, .. for 0, 1, 2, 3, ..
@@ -50,7 +50,7 @@ fn digits_of(n: u32, at: usize) -> Digits
 fn refused(number: u32) -> Digits
     ensures { λ r. ⌜ digitsTold r ≡ no number ⌝ }
 {
-    Digits::Refused(answer::refuse(number))
+    Digits::Refused(number)
 }
 
 fn less_one(n: usize) -> usize
@@ -135,7 +135,7 @@ impl Place {
     {
         let d = varint_digits(s, self.at);
         match d {
-            Digits::Refused(k) => Read::Refused(answer::placed_at(k, self.at)),
+            Digits::Refused(n) => Read::Refused(answer::placed_at(answer::refuse(n), self.at)),
             Digits::Of(n, next) => Read::Number(unzigzag(n), next),
         }
     }

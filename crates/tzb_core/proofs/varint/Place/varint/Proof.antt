@@ -1,6 +1,7 @@
 -- `Place::varint` meets its contract: the digits, then zigzag.
 -- Assumes nothing.
 use mathlib.Core.Path.{sym, ap, _∙_}
+use Rattle.answer.specs.Refusals.{placedAt}
 use Rattle.answer.specs.Answers.{refused}
 use mir.Syntax.{w32}
 use borrow.Author.Needs.{needs}
@@ -16,6 +17,9 @@ varint-digits-requires c κs = search needs
 enum-known-d : tie.Need-enum-known-d
 enum-known-d c = search needs
 
+refuse-requires : tie.Need-refuse-requires
+refuse-requires c κs = search needs
+
 placed-at-requires : tie.Need-placed-at-requires
 placed-at-requires c κs = search needs
 
@@ -27,8 +31,9 @@ unzigzag-requires c κs = search needs
 
 returns : tie.Need-returns
 returns c =
-    let d = c .before .before .before .before .varint-digits in
-    ap refused (c .placed-at .ensures) ∙ number-no _ _ _ (sym (ap digitsTold (c .before .before .d .given .1)) ∙ d .ensures)
+    let r = c .before in
+    let d = r .before .before in
+    ap refused (c .placed-at .ensures ∙ ap (placedAt _) (r .refuse .ensures)) ∙ number-no _ _ _ (sym (ap digitsTold (d .d .given .1)) ∙ d .before .before .varint-digits .ensures)
 
 returns-2 : tie.Need-returns-2
 returns-2 c =
@@ -39,4 +44,4 @@ returns-2 c =
 pub varint-spec : {M : Type 1} → statement M
 varint-spec =
     tie.close
-    (tie.spec varint-digits-requires enum-known-d placed-at-requires enum-known-d-2 unzigzag-requires returns returns-2)
+    (tie.spec varint-digits-requires enum-known-d refuse-requires placed-at-requires enum-known-d-2 unzigzag-requires returns returns-2)
