@@ -150,7 +150,7 @@ module _ (file memory : List ℕ) (r : ℤ) (after : List ℕ) (c : Tzb-open fil
 
       go : Opens file → M
       go (opened e) = by e (room-or-not (length memory))
-      go (barred k h e) = let t = by-refusal (k .number) (omega (arith, h .greatest)) (open-barred file memory k e) in not-opened (k .number) (h .greatest) (open-plain file k e) (t .0) (t .1)
+      go (barred k h e) = let t = by-refusal (k .number) (omega (arith, h .greatest)) (open-barred file memory (refusal (k .number)) (open-plain file k e)) in not-opened (k .number) (h .greatest) (open-plain file k e) (t .0) (t .1)
 
   pub open-answers : OpenAnswers file memory r after
   open-answers = record { opens = (opens-go kinds, opens-back kinds); kept = kept-told kinds; refuses = λ n l. (refuses-go n l kinds, refuses-back n kinds); no-room = (short-go kinds, short-back kinds); unchanged = unchanged kinds }

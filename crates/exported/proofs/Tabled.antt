@@ -127,6 +127,12 @@ module _ {P : Refusal → Type 0} {A B : Type 0} where
   go-t on f h g = record { by = tt }
   go-t (off b a) f h g = add-t b (f a) (g a)
 
+  -- the same where what comes next may know where it comes from
+  pub go-e : (w : Walk A) (f : A → Walk B) → OnlyWalk P w → ((b : Bool) (a : A) → off b a ≡ w → OnlyWalk P (f a)) → OnlyWalk P (w go f)
+  go-e (broken k) f h g = record { by = h .by }
+  go-e on f h g = record { by = tt }
+  go-e (off b a) f h g = add-t b (f a) (g b a refl)
+
   pub yields-t : (x : Answer A) (f : A → Walk B) → Only P x → ((a : A) → OnlyWalk P (f a)) → OnlyWalk P (x yields f)
   yields-t (ok a) f h g = g a
   yields-t (refused k) f h g = record { by = h .by }
