@@ -51,9 +51,10 @@ fn measure(seed: u64, turns: usize) -> Measured {
     let mut stack = Stack::new(SIZE);
     let mut random = Random::new(seed);
     calls::all(&mut random, turns, &mut Lent::new(), &mut |export, call| {
-        let need = stack.need(call);
+        let written = stack.need(call);
         measured.calls += 1;
-        if need > measured.most[export] {
+        if written > measured.most[export] {
+            let need = comes_back_on(&stack, call, written);
             measured.most[export] = need;
             let wrong = comes_back(&stack, call, need, stated[export]);
             let told = wrong.map(|what| format!("{}: {what}", NAMES[export]));
@@ -61,6 +62,13 @@ fn measure(seed: u64, turns: usize) -> Measured {
         }
     });
     measured
+}
+
+/// The least stack on which a call comes back: as much as it wrote to, or more where it reads below that. It does where an
+/// answer is copied whole of which a case fills only a part.
+fn comes_back_on(stack: &Stack, call: &Call, written: usize) -> usize {
+    let more = (written..SIZE).step_by(own::STEP);
+    more.clone().find(|&bytes| stack.suffices(bytes, call)).unwrap_or(written)
 }
 
 /// A call on as much stack as it took, on a place less, and on what is stated for it. What is not as it should be.
