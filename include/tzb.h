@@ -9,9 +9,9 @@
  * keeps anything between calls, and each may be called from any thread.
  *
  * A refusal by 38 to 43 is about a number in a chunk's bytes, and has a place: that of the number's first byte in the
- * file, for 43 of the first byte that is left over. A function that can meet one has a second beside it, whose name ends
- * in _place and which has the same arguments. It asks the same again, writes nothing, and answers with the place, or
- * with -1 where there is none.
+ * file, for 43 of the first byte that is left over. A function that can be refused so has a second beside it, whose name
+ * ends in _place and which has the same arguments. It asks the same again, writes nothing, and answers with the place,
+ * or with -1 where there is none. (tzb_journal_ask has none: such a refusal is its entry's reason, by the number alone.)
  *
  * Open once, ask often:
  *
@@ -95,7 +95,7 @@ int64_t tzb_contains_place(const uint8_t *record, size_t record_length, const ui
 int64_t tzb_decode(const uint8_t *record, size_t record_length, const uint8_t *file, size_t file_length, uint32_t chunk, int32_t *out, size_t out_length);
 
 /* The place in the file, counted from its first byte, of the number that tzb_decode's refusal 38 to 43 is about, or
- * -1 where it is no such refusal. Of what is lent for the points the length alone counts. */
+ * -1 where it is no such refusal. Of what is lent for the points the length alone counts: 46 has no place. */
 int64_t tzb_decode_place(const uint8_t *record, size_t record_length, const uint8_t *file, size_t file_length, uint32_t chunk, const int32_t *out, size_t out_length);
 
 /* ---- which zone */
@@ -122,7 +122,7 @@ int64_t tzb_ask_place(const uint8_t *record, size_t record_length, const uint8_t
 int64_t tzb_ask_all(const uint8_t *record, size_t record_length, const uint8_t *file, size_t file_length, double lng, double lat, uint32_t *zones, size_t zones_length);
 
 /* The place in the file, counted from its first byte, of the number that tzb_ask_all's refusal 38 to 43 is about, or
- * -1 where it is no such refusal. Of what is lent for the zones the length alone counts. */
+ * -1 where it is no such refusal. Nothing is read of what is lent for the zones. */
 int64_t tzb_ask_all_place(const uint8_t *record, size_t record_length, const uint8_t *file, size_t file_length, double lng, double lat, const uint32_t *zones, size_t zones_length);
 
 /* ---- the same questions by stripes, for many positions

@@ -1,4 +1,4 @@
--- Every refusal of opening has a number from 1 to 34.
+-- Every refusal of opening has a number from 1 to 34, and no place.
 -- Assumes nothing.
 use Prim.Native.Nat.{ℕ, _+_, _*_, _-_, _%_}
 use mathlib.Core.Path.{_≡_, refl, sym, ap, _∙_}

@@ -1,5 +1,5 @@
 -- DEMAND 1, on the exports.
--- "Any bytes and any position get a zone, none, or one numbered refusal; a refusal changes no lent memory."
+-- "Any bytes and any position get a zone, none, or one numbered refusal; a refusal changes no lent memory." By document 02's request 2026-06 a refusal is told by its number, its place, and for 47 the rule: the place stands in specs/Places.
 --
 -- `Demand1 file`, below, is this sentence of a file, for each export that answers a question; `demand-1`, in proofs/Demand1, proves it of every file. No export asks anything of its caller: `held`, `memory`, zone numbers and floats are any. Where each word is defined:
 --   a call and its answer     `Tzb-open`, .., specs/Calls: what the export's contract allows

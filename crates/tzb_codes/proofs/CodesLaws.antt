@@ -7,7 +7,6 @@ use mathlib.Core.List.{List}
 use lib.IntN.{pos, negsuc}
 use borrow.Author.Tests.{lt-ltb, le-ltb}
 use Rattle.answer.specs.declared.Refusal.{Refusal}
-use Rattle.answer.specs.Refusals.{refusal}
 use Rattle.answer.specs.Answers.{Answer, ok, refused, outcome, howMany}
 use Rattle.tzb_codes.specs.Codes.{refusalCode, doneCode, numberCode, startCode, endCode, wholeCode, placeCode, placeOf}
 
@@ -52,10 +51,6 @@ module _ (r : Refusal) where
   pub place-none : 0x8000_0000_0000_0000 ≤ r .place → negsuc 0 ≡ placeCode r
   unfolding placeCode
   place-none h = rw (le-ltb (r .place) 0x8000_0000_0000_0000 h)
-
--- a refusal that is made without a place has none
-pub place-less : (n : ℕ) → negsuc 0 ≡ placeCode (refusal n)
-place-less n = place-none (refusal n) (omega arith)
 
 -- a refusal's place does not depend on what else is told of the answer
 pub place-outcome : {A : Type 0} (x : Answer A) → placeOf (outcome x) ≡ placeOf x
