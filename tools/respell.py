@@ -90,11 +90,17 @@ def names():
     return own
 
 
+def is_plain(word):
+    return re.fullmatch(r"[a-z0-9_]+", word)
+
+
 def turn(text, table, behind_dots=True):
-    """Each word of the table, also in comments; behind a dot only if asked."""
+    """Each word of the table, also in comments; behind a dot only if asked. A plain word before a dot names a module, and stays."""
 
     def one(m):
         word = m[0]
+        if is_plain(word) and text[m.end() : m.end() + 1] in (".", "("):
+            return word
         dotted = m.start() > 0 and text[m.start() - 1] == "."
         if word in table and (behind_dots or not dotted):
             return table[word]
@@ -107,10 +113,15 @@ def turn(text, table, behind_dots=True):
     return WORD.sub(one, text)
 
 
-def imported(text):
+def of_library(path):
+    return not path.startswith("Rattle.") or path.split(".")[1] in ("std", "core", "io", "libc", "os", "check")
+
+
+def imported(text, among=lambda path: not of_library(path)):
     found = set()
-    for m in re.finditer(r"^use ([^\s{]+)\.\{([^}]*)\}", text, re.M):
-        found.update(w.strip() for item in m[2].split(",") for w in item.split(" as "))
+    for m in re.finditer(r"^(?:ghost )?use ([^\s{]+)\.\{([^}]*)\}", text, re.M):
+        if among(m[1]):
+            found.update(w.strip() for item in m[2].split(",") for w in item.split(" as "))
     return found
 
 
@@ -160,7 +171,11 @@ def main():
             table = {w: own[w] for w in imported(text) & set(own)}
             new = turn(text, table, False)
         else:
-            new = turn(text, own)
+            library = imported(text, of_library)
+            table = {w: n for w, n in own.items() if w not in library}
+            if path.endswith(".rt"):
+                table = {w: n for w, n in table.items() if not is_plain(w)}
+            new = turn(text, table)
         if new != text:
             with open(path, "w", encoding="utf-8") as f:
                 f.write(new)

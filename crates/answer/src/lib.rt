@@ -6,14 +6,14 @@ ghost use Rattle.answer.specs.Answers.{checked_told};
 ghost use Rattle.answer.specs.Checks.{failed, claim};
 
 // Why there is no answer: its number in document 01, and the place of the byte that it is about. One that is about no byte has the place 2 ^ 64 - 1, where none stands.
-#[derive(Drop)]
+#[derive(Clone, Copy)]
 pub struct Refusal {
     pub number: u32,
     pub place: usize,
 }
 
 // What a check finds.
-#[derive(Drop)]
+#[derive(Clone, Copy)]
 pub enum Checked {
     Fine,
     Refused(Refusal),

@@ -9,7 +9,7 @@ use Rattle.boxes.proofs.BBox.relevant.Reads as relevant-reads
 use Rattle.boxes.proofs.BBox.right.Reads as right-reads
 use Rattle.boxes.proofs.point_in_domain.Reads as point-in-domain-reads
 use Rattle.boxes.proofs.in_box.Reads as in-box-reads
-use Rattle.boxes.proofs.same_point_law.Reads as same-point-reads
+use Rattle.boxes.proofs.same_point.Reads as same-point-reads
 
 pub ordered : Determined ordered-reads.Learnt
 ordered κ a r r' e e' p q = p ∙ sym q

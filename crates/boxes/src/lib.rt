@@ -6,7 +6,7 @@ ghost use Rattle.plane.specs.Segment.{same_point};
 
 use plane::{I32Point, Point};
 
-#[derive(Drop)]
+#[derive(Clone, Copy)]
 pub struct BBox {
     pub minx: i32,
     pub miny: i32,
@@ -83,7 +83,7 @@ pub fn in_box(b: BBox, q: I32Point) -> bool
     ((b.minx <= q.x) & (q.x <= b.maxx)) & ((b.miny <= q.y) & (q.y <= b.maxy))
 }
 
-pub fn same_point_law(a: I32Point, b: I32Point) -> bool
+pub fn same_point(a: I32Point, b: I32Point) -> bool
     ensures { result ≡ same_point a b }
 {
     (a.x == b.x) & (a.y == b.y)

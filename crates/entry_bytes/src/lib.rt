@@ -16,7 +16,7 @@ use answer::{Checked, Refusal};
 use plane::I32Point;
 
 // What bytes are, read as an entry: its position, how many zones there are, and the reason. The zones stand in lent places.
-#[derive(Drop)]
+#[derive(Clone, Copy)]
 pub enum EntryRead {
     Is(I32Point, u8, u8),
     Refused(Refusal),

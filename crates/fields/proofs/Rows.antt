@@ -32,6 +32,8 @@ row_back (w ∷ ws) (n ∷ ns) front rest (one h hs) =
     ap₂ (λ (x : ℕ) (xs : List ℕ). x ∷ xs)
     (ap (λ (l : List ℕ). le w (front ++ l) (length front)) (append_assoc (to_le w n) (row_bytes ws ns) rest) ∙ number_back w n front (row_bytes ws ns ++ rest) h)
     (ap₂ (λ (l : List ℕ) (q : ℕ). row_in ws l q) on at ∙ row_back ws ns (front ++ to_le w n) rest hs)
+row_back [] (n ∷ ns) front rest x'' = elim x'' [ ]
+row_back (w ∷ ws) [] front rest x3 = elim x3 [ ]
 
 -- bytes: each below 256
 module _ (s : List ℕ) (byte : (i : ℕ) → get_or s i 0 < 256) where

@@ -119,31 +119,31 @@ pub fn word(s: &[u8], at: usize) -> usize
 }
 
 // What a load answers: the number, or that it would read past the lent bytes.
-#[derive(Drop)]
+#[derive(Clone, Copy)]
 pub enum Loaded16 {
     Value(u16),
     Refused(Refusal),
 }
 
-#[derive(Drop)]
+#[derive(Clone, Copy)]
 pub enum Loaded32 {
     Value(u32),
     Refused(Refusal),
 }
 
-#[derive(Drop)]
+#[derive(Clone, Copy)]
 pub enum Loaded64 {
     Value(u64),
     Refused(Refusal),
 }
 
-#[derive(Drop)]
+#[derive(Clone, Copy)]
 pub enum LoadedI16 {
     Value(i16),
     Refused(Refusal),
 }
 
-#[derive(Drop)]
+#[derive(Clone, Copy)]
 pub enum LoadedI32 {
     Value(i32),
     Refused(Refusal),

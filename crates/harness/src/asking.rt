@@ -6,7 +6,7 @@ use crate::numbers::number;
 use crate::records::read_held;
 use crate::tally::{Tally, less};
 
-#[derive(Drop)]
+#[derive(Clone, Copy)]
 pub struct Asking {
     pub tally: Tally,
     // How many more times bytes are lent for this file.

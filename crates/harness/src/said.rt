@@ -26,7 +26,7 @@ pub fn count(q: &[u8]) -> usize {
 }
 
 // The refusal or 0, and three numbers.
-#[derive(Drop)]
+#[derive(Clone, Copy)]
 pub struct Said(pub u32, pub u32, pub u32, pub u32);
 
 impl Said {

@@ -8,7 +8,7 @@ pub fn less(n: u32) -> u32
     if n == 0 { 0 } else { n - 1 }
 }
 
-#[derive(Drop)]
+#[derive(Clone, Copy)]
 pub struct Tally {
     pub right: u64,
     // How many more records may come. Nothing says that standard input ends, so this ends every program.

@@ -71,7 +71,7 @@ fn say(text: &[u8]) {
 }
 
 // How many bytes came, and whether a read failed.
-#[derive(Drop)]
+#[derive(Clone, Copy)]
 struct Came {
     count: usize,
     failed: bool,

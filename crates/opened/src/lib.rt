@@ -1,20 +1,20 @@
 // What is kept of an opened file, by value: all that a question needs beside the file's bytes. It stands below opening, which makes it, and below every question, so that neither knows the other.
 // A section's place in the file.
-#[derive(Drop)]
+#[derive(Clone, Copy)]
 pub struct Section {
     pub off: u32,
     pub len: u32,
 }
 
 // Records in a row.
-#[derive(Drop)]
+#[derive(Clone, Copy)]
 pub struct Directory {
     pub off: u32,
     pub count: u32,
 }
 
 // GRID: where it lies, and its first twelve bytes.
-#[derive(Drop)]
+#[derive(Clone, Copy)]
 pub struct Grid {
     pub off: u32,
     pub lng: i16,
@@ -25,7 +25,7 @@ pub struct Grid {
 }
 
 // An opened file: all that a question needs beside the file's bytes.
-#[derive(Drop)]
+#[derive(Clone, Copy)]
 pub struct Opened {
     pub flags: u32,
     pub names: Section,

@@ -2,7 +2,7 @@
 use Rattle.std.specs.Prelude.{◌≡◌, refl, Bool, true, not, ◌||◌, ℕ, ◌+◌, ◌-◌, ◌*◌, ◌≤◌, ◌<◌, ℤ, pos, neg_ℤ, nat_abs, ◌-ℤ◌, ◌*ℤ◌}
 use Rattle.std.proofs.Math.Path.{sym, ap, ap₂}
 use Rattle.std.proofs.Common.{◌∙◌, true≢false, mul-pos, arith}
-use Rattle.std.proofs.Math.Bool.{false, ◌&&◌, cond, and_false, or_comm}
+use Rattle.std.proofs.Math.Bool.{false, ◌&&◌, cond, and-false, or_comm}
 use Rattle.std.proofs.lemmas.Bool.{false≢true}
 use Rattle.std.specs.Int.Signed.{lt_z, le_z}
 use Rattle.basics.specs.Parity.{◌⊻◌}
@@ -160,7 +160,7 @@ amid_less u v w h k = neither (lt_z u v) (ap (λ t. t && le_z w v) (lt_not_le w 
 
 amid_more : (u v w : ℤ) → lt_z u w ≡ true → lt_z v w ≡ true → amid_z u v w ≡ false
 unfolding amid_z
-amid_more u v w h k = neither (lt_z u v) (ap (λ t. le_z u w && t) (lt_not_le v w k) ∙ and_false (le_z u w)) (ap (λ t. le_z v w && t) (lt_not_le u w h) ∙ and_false (le_z v w))
+amid_more u v w h k = neither (lt_z u v) (ap (λ t. le_z u w && t) (lt_not_le v w k) ∙ and-false (le_z u w)) (ap (λ t. le_z v w && t) (lt_not_le u w h) ∙ and-false (le_z v w))
 
 -- ---- which segments count
 -- A, B: the end is above p; L, R: p is to the left of the way from a to b, or from b to a
@@ -199,13 +199,13 @@ module _ (p a b : I32Point) where
   -- p is not in the segment's box: what is left is whether it counts
   seen : (t : Bool) → amid_z a.x b.x p.x && amid_z a.y b.y p.y ≡ false → mix (above p a) (above p b) (left_of p a b) (left_of p b a) ≡ t → seg p a b ≡ Off t
   unfolding seg on_z
-  seen t h k = rw (h, and_false, counts_is, k)
+  seen t h k = rw (h, and-false, counts_is, k)
 
   outside_x : amid_z a.x b.x p.x ≡ false → amid_z a.x b.x p.x && amid_z a.y b.y p.y ≡ false
   outside_x h = rw h
 
   outside_y : amid_z a.y b.y p.y ≡ false → amid_z a.x b.x p.x && amid_z a.y b.y p.y ≡ false
-  outside_y h = rw (h, and_false)
+  outside_y h = rw (h, and-false)
 
 -- ---- that the sign is the meeting place's: for a below b the level of p meets the segment at x = ax + (bx - ax) (py - ay) / (by - ay), which is above px just where (by - ay) (px - ax) is below (bx - ax) (py - ay)
 pub meets_right : (ax ay bx by px py : ℤ) → lt_z (pos 0) (cross ax ay bx by px py) ≡ lt_z ((by -ℤ ay) *ℤ (px -ℤ ax)) ((bx -ℤ ax) *ℤ (py -ℤ ay))

@@ -5,7 +5,7 @@ use mathlib.Core.Logic.{◌⊎◌, inl, inr, ◌≢◌}
 use Prim.Native.Nat.{ℕ, suc, ◌+◌, ◌-◌, ◌*◌, ◌^◌, ◌≤◌, ◌<◌, min, max}
 use native.Mathlib.Nat.{le_trans, le_of_eq, le_of_lt}
 use native.Mathlib.Omega.{arith}
-use mathlib.Core.Bool.{Bool, true, false, not, ◌&&◌, ◌||◌, cond, and_true, and_false, or-false}
+use mathlib.Core.Bool.{Bool, true, false, not, ◌&&◌, ◌||◌, cond, and-true, and-false, or-false}
 use borrow.Author.Tests.{lt-ltb, le-ltb, le-leb, eq-eqb, ne_eqb}
 use lib.Dec.{T, ltb, leb, eqb, ltb→lt, nltb→le, leb→le, nleb→lt, eqb→eq, T_not, lit≤, lit<}
 use lib.Ieee.{Float, binary64, lt, le, eq, sub, div}
@@ -366,7 +366,7 @@ module _ (ax ay bx by px py : ℕ) (iax : In ax) (iay : In ay) (ibx : In bx) (ib
       go : (b : Bool) → (T b → ax ≡ bx) → (ax ≡ bx → T b) → (b && eqb px bx && amid ay by py) || eq (div binary64 (diff px ax) (diff bx ax)) (div binary64 (diff py ay) (diff by ay)) ≡ on_n ax ay bx by px py
       go true f g =
           let e = f tt in
-          ap₂ ◌||◌ (ap (λ (u : Bool). eqb px bx && u) (verum (amid ay by py) t) ∙ and_true (eqb px bx)) (no_ratio e)
+          ap₂ ◌||◌ (ap (λ (u : Bool). eqb px bx && u) (verum (amid ay by py) t) ∙ and-true (eqb px bx)) (no_ratio e)
           ∙ or-false (eqb px bx)
           ∙ bool_iff (eqb px bx) (on_n ax ay bx by px py)
           (λ (h : T (eqb px bx)). let q = eqb→eq px bx h in let w = amid_same ax bx px e q in on_make (upright ax bx px e q) (amid_make ax bx px w.0 w.1) t)
@@ -423,7 +423,7 @@ module _ (ax ay bx by px py : ℕ) (iax : In ax) (iay : In ay) (ibx : In bx) (ib
       let L : Bool = ltb (less ax ay bx by px py) (plus ax ay bx by px py) in
       let R : Bool = ltb (plus ax ay bx by px py) (less ax ay bx by px py) in
       ap₂ (λ (u v : Bool). ((u && ltb py by) && L) || ((leb by py && v) && R)) (le-leb ay py lo) (le-ltb py ay lo)
-      ∙ ap (λ (u : Bool). (ltb py by && L) || (u && R)) (and_false (leb by py))
+      ∙ ap (λ (u : Bool). (ltb py by && L) || (u && R)) (and-false (leb by py))
       ∙ or-false (ltb py by && L)
 
   counts_down : by ≤ py → counts_n ax ay bx by px py ≡ ltb py ay && ltb (plus ax ay bx by px py) (less ax ay bx by px py)
@@ -432,7 +432,7 @@ module _ (ax ay bx by px py : ℕ) (iax : In ax) (iay : In ay) (ibx : In bx) (ib
       let L : Bool = ltb (less ax ay bx by px py) (plus ax ay bx by px py) in
       let R : Bool = ltb (plus ax ay bx by px py) (less ax ay bx by px py) in
       ap₂ (λ (u v : Bool). ((leb ay py && u) && L) || ((v && ltb py ay) && R)) (le-ltb py by lo) (le-leb by py lo)
-      ∙ ap (λ (u : Bool). (u && L) || (ltb py ay && R)) (and_false (leb ay py))
+      ∙ ap (λ (u : Bool). (u && L) || (ltb py ay && R)) (and-false (leb ay py))
 
   -- what exact geometry says
   abbrev pub exact_at : Sight

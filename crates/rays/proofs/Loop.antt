@@ -1,4 +1,4 @@
--- The Rust loop `while py == a.y || py == b.y { py = py.next_up_law() }`, for ends that are whole numbers of 32 bits and ANY float: it ends after one turn at most, with what `nudged` says.
+-- The Rust loop `while py == a.y || py == b.y { py = py.next_up() }`, for ends that are whole numbers of 32 bits and ANY float: it ends after one turn at most, with what `nudged` says.
 -- Assumes nothing.
 use mathlib.Core.Path.{◌≡◌, refl, sym, ap, ap₂, ◌∙◌, subst}
 use mathlib.Core.Logic.{◌⊎◌, inl, inr}

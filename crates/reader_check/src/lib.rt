@@ -19,7 +19,7 @@ use reader_records::{GroupAt, ListAt, OpAt, RingAt};
 use tzb_core::chunk::Traced;
 
 // What is asked of each record of a directory.
-#[derive(Drop)]
+#[derive(Clone, Copy)]
 enum Demand {
     // F2: a zone, a polygon, an op meets its rule; a ring does, and its points add.
     Zone,

@@ -18,7 +18,7 @@ use Rattle.reader_chunks.proofs.scan_in.Reads as scan-in-reads
 use Rattle.reader_chunks.proofs.trace_in.Reads as trace-in-reads
 use Rattle.reader_chunks.proofs.first_at.Reads as first-at-reads
 use Rattle.reader_chunks.proofs.trace_at.Reads as trace-at-reads
-use Rattle.reader_chunks.proofs.count_at_law.Reads as count-at-reads
+use Rattle.reader_chunks.proofs.count_at.Reads as count-at-reads
 use Rattle.reader_chunks.proofs.decode_chunk_points.Reads as decode-chunk-points-reads
 use Rattle.reader_chunks.proofs.check_chunk_points.Reads as check-chunk-points-reads
 use Rattle.answer.proofs.AnswersLaws.{read_back, one_answer, checked_one}

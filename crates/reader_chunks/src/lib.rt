@@ -15,14 +15,14 @@ use tzb_core::chunk;
 use tzb_core::chunk::{Counted, Scan, Spotted, Traced};
 
 // A place in the file.
-#[derive(Drop)]
+#[derive(Clone, Copy)]
 pub enum Offset {
     At(usize),
     Refused(Refusal),
 }
 
 // A point of the file.
-#[derive(Drop)]
+#[derive(Clone, Copy)]
 pub enum PointAt {
     At(I32Point),
     Refused(Refusal),
@@ -174,7 +174,7 @@ pub fn trace_at(o: Opened, s: &[u8], index: usize) -> Traced
 }
 
 // The segments of chunk `index`, after the point before it and with so many counted.
-pub fn count_at_law(o: Opened, s: &[u8], index: usize, before: I32Point, sides: u32) -> Counted
+pub fn count_at(o: Opened, s: &[u8], index: usize, before: I32Point, sides: u32) -> Counted
     ensures { told_count result ≡ count_at o s.now index before sides }
 {
     let t = reader_records::chunk_at(o, s, index);

@@ -18,7 +18,7 @@ use reader_records::{ChunkAt, GroupAt, GroupRecord, ListAt, OpAt, RingAt, RingRe
 use tzb_core::chunk::Traced;
 
 // What is asked of each part of something larger.
-#[derive(Drop)]
+#[derive(Clone, Copy)]
 pub enum Part {
     // The box covers that of a chunk.
     Chunk(BBox),

@@ -66,7 +66,7 @@ pub fn chunks(o: Opened, s: &[u8]) -> Checked
 }
 
 // The point count of chunk i.
-fn count_at_law(s: &[u8], d: Directory, i: usize) -> usize
+fn count_at(s: &[u8], d: Directory, i: usize) -> usize
     requires { Lies s.now d chunk_wide × (i < d.count) }
     ensures { (result ≡ count_at s.now d i) × (result < 0x1_0000) }
 {
@@ -82,7 +82,7 @@ fn points_of(s: &[u8], d: Directory, from: usize, to: usize) -> usize
     let mut sum = 0;
     let mut j = from;
     while j < to {
-        sum += count_at_law(s, d, j);
+        sum += count_at(s, d, j);
         j += 1;
     }
     sum

@@ -18,7 +18,7 @@ use tzb_core::chunk::Scan;
 use tzb_core::raycast;
 
 // Past a stretch of segments: its parity.
-#[derive(Drop)]
+#[derive(Clone, Copy)]
 pub enum Went {
     Refused(Refusal),
     On,
@@ -26,14 +26,14 @@ pub enum Went {
 }
 
 // A chunk's first point, where it was read already.
-#[derive(Drop)]
+#[derive(Clone, Copy)]
 pub enum Known {
     Unread,
     Read(I32Point),
 }
 
 // Past a chunk that another follows: the parity, and the next chunk's first point.
-#[derive(Drop)]
+#[derive(Clone, Copy)]
 pub enum Joined {
     Refused(Refusal),
     On,
@@ -41,7 +41,7 @@ pub enum Joined {
 }
 
 // The same with the next chunk's record.
-#[derive(Drop)]
+#[derive(Clone, Copy)]
 pub enum Pass {
     Refused(Refusal),
     On,

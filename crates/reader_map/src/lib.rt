@@ -21,7 +21,7 @@ use reader_outline::Outlined;
 use reader_records::ListAt;
 
 // How many bytes the text takes.
-#[derive(Drop)]
+#[derive(Clone, Copy)]
 pub enum Text {
     Long(usize),
     Refused(Refusal),

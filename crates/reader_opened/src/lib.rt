@@ -11,7 +11,7 @@ use answer::Checked;
 use opened::{Directory, Grid, Opened, Section};
 
 // What the table says of a file: where each section lies. 0 and 0 for one that is not there.
-#[derive(Drop)]
+#[derive(Clone, Copy)]
 pub struct Sections {
     pub flags: u32,
     pub zones: u32,

@@ -16,14 +16,14 @@ use plane::I32Point;
 use reader_records::{ChunkAt, GroupAt, GroupRecord, OpAt, RingAt};
 
 // How many positions the lent numbers hold.
-#[derive(Drop)]
+#[derive(Clone, Copy)]
 pub enum Filled {
     Upto(usize),
     Refused(Refusal),
 }
 
 // The same of a ring that can be drawn, and whether they are written backwards.
-#[derive(Drop)]
+#[derive(Clone, Copy)]
 pub enum Outlined {
     Drawn(usize, bool),
     Refused(Refusal),

@@ -22,16 +22,16 @@ use Rattle.reader_records.specs.declared.GroupAt.{GroupAt}
 use Rattle.reader_records.specs.declared.GroupAt.TheVariants as G
 use Rattle.reader_records.specs.declared.ChunkAt.{ChunkAt}
 use Rattle.reader_records.specs.declared.ChunkAt.TheVariants as C
-use Rattle.reader_records.proofs.list_at_law.Reads as list-at-reads
+use Rattle.reader_records.proofs.list_at.Reads as list-at-reads
 use Rattle.reader_records.proofs.tz_at.Reads as tz-at-reads
 use Rattle.reader_records.proofs.poly_at.Reads as poly-at-reads
 use Rattle.reader_records.proofs.ring_at.Reads as ring-at-reads
 use Rattle.reader_records.proofs.op_at.Reads as op-at-reads
 use Rattle.reader_records.proofs.group_place.Reads as group-place-reads
-use Rattle.reader_records.proofs.group_at_law.Reads as group-at-reads
+use Rattle.reader_records.proofs.group_at.Reads as group-at-reads
 use Rattle.reader_records.proofs.chunk_at.Reads as chunk-at-reads
 use Rattle.reader_records.proofs.group_in.Reads as group-in-reads
-use Rattle.reader_records.proofs.chunk_in_law.Reads as chunk-in-reads
+use Rattle.reader_records.proofs.chunk_in.Reads as chunk-in-reads
 use Rattle.reader_records.proofs.group_rule.Reads as group-rule-reads
 use Rattle.reader_records.proofs.chunk_rule.Reads as chunk-rule-reads
 use Rattle.reader_records.proofs.count_rule.Reads as count-rule-reads

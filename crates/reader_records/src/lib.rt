@@ -9,14 +9,14 @@ use opened::Opened;
 use plane::I32Point;
 
 // A zone with its polygons, a polygon with its rings.
-#[derive(Drop)]
+#[derive(Clone, Copy)]
 pub struct ListRecord {
     pub first: u32,
     pub count: u16,
     pub bbox: BBox,
 }
 
-#[derive(Drop)]
+#[derive(Clone, Copy)]
 pub struct RingRecord {
     pub first: u32,
     pub points: u32,
@@ -24,7 +24,7 @@ pub struct RingRecord {
     pub bbox: BBox,
 }
 
-#[derive(Drop)]
+#[derive(Clone, Copy)]
 pub struct GroupRecord {
     pub first: u32,
     pub points: u32,
@@ -34,7 +34,7 @@ pub struct GroupRecord {
     pub bbox: BBox,
 }
 
-#[derive(Drop)]
+#[derive(Clone, Copy)]
 pub struct ChunkRecord {
     pub off: u32,
     pub count: u16,
@@ -42,38 +42,38 @@ pub struct ChunkRecord {
 }
 
 // Where a record stands.
-#[derive(Drop)]
+#[derive(Clone, Copy)]
 pub enum RecordPlace {
     At(usize),
     Refused(Refusal),
 }
 
-#[derive(Drop)]
+#[derive(Clone, Copy)]
 pub enum ListAt {
     At(ListRecord),
     Refused(Refusal),
 }
 
-#[derive(Drop)]
+#[derive(Clone, Copy)]
 pub enum RingAt {
     At(RingRecord),
     Refused(Refusal),
 }
 
 // A ring op's word: its group's index, and in the top bit whether that is turned round.
-#[derive(Drop)]
+#[derive(Clone, Copy)]
 pub enum OpAt {
     At(usize),
     Refused(Refusal),
 }
 
-#[derive(Drop)]
+#[derive(Clone, Copy)]
 pub enum GroupAt {
     At(GroupRecord),
     Refused(Refusal),
 }
 
-#[derive(Drop)]
+#[derive(Clone, Copy)]
 pub enum ChunkAt {
     At(ChunkRecord),
     Refused(Refusal),
@@ -94,7 +94,7 @@ fn record_at(s: &[u8], off: u32, count: u32, width: usize, index: usize) -> Reco
     RecordPlace::At(at)
 }
 
-fn box_in_law(s: &[u8], at: usize) -> BBox
+fn box_in(s: &[u8], at: usize) -> BBox
     requires { at + 16 ≤ length s.now }
     ensures { result ≡ box_in s.now at }
 {
@@ -130,7 +130,7 @@ fn list_in(s: &[u8], at: usize) -> ListRecord
     ListRecord {
         first: fields::u32_at(s, at),
         count: fields::u16_at(s, at + 4),
-        bbox: box_in_law(s, at + 8),
+        bbox: box_in(s, at + 8),
     }
 }
 
@@ -142,7 +142,7 @@ fn list_rule(below: u32, v: ListRecord) -> bool
 }
 
 // A zone or a polygon: record `index` of a directory of `count` from `off` on; the directory below has `below`.
-pub fn list_at_law(s: &[u8], off: u32, count: u32, below: u32, index: usize) -> ListAt
+pub fn list_at(s: &[u8], off: u32, count: u32, below: u32, index: usize) -> ListAt
     ensures { told_list result ≡ list_at s.now (directory off count) below index }
 {
     let t = record_at(s, off, count, opened::LIST_WIDE, index);
@@ -162,16 +162,16 @@ pub fn list_at_law(s: &[u8], off: u32, count: u32, below: u32, index: usize) -> 
 pub fn tz_at(o: Opened, s: &[u8], index: usize) -> ListAt
     ensures { told_list result ≡ tz_at o s.now index }
 {
-    list_at_law(s, o.zones.off, o.zones.count, o.polys.count, index)
+    list_at(s, o.zones.off, o.zones.count, o.polys.count, index)
 }
 
 pub fn poly_at(o: Opened, s: &[u8], index: usize) -> ListAt
     ensures { told_list result ≡ poly_at o s.now index }
 {
-    list_at_law(s, o.polys.off, o.polys.count, o.rings.count, index)
+    list_at(s, o.polys.off, o.polys.count, o.rings.count, index)
 }
 
-fn ring_in_law(s: &[u8], at: usize) -> RingRecord
+fn ring_in(s: &[u8], at: usize) -> RingRecord
     requires { at + ring_wide ≤ length s.now }
     ensures { result ≡ ring_in s.now at }
 {
@@ -179,7 +179,7 @@ fn ring_in_law(s: &[u8], at: usize) -> RingRecord
         first: fields::u32_at(s, at),
         points: fields::u32_at(s, at + 4),
         count: fields::u16_at(s, at + 8),
-        bbox: box_in_law(s, at + 12),
+        bbox: box_in(s, at + 12),
     }
 }
 
@@ -197,7 +197,7 @@ pub fn ring_at(o: Opened, s: &[u8], index: usize) -> RingAt
     match t {
         RecordPlace::Refused(r) => RingAt::Refused(r),
         RecordPlace::At(at) => {
-            let v = ring_in_law(s, at);
+            let v = ring_in(s, at);
             if ring_rule(o.ops.count, v) {
                 RingAt::At(v)
             } else {
@@ -249,7 +249,7 @@ pub fn group_in(s: &[u8], at: usize) -> GroupRecord
         count: fields::u16_at(s, at + 8),
         entry: point_in(s, at + 12),
         exit: point_in(s, at + 20),
-        bbox: box_in_law(s, at + 28),
+        bbox: box_in(s, at + 28),
     }
 }
 
@@ -281,7 +281,7 @@ pub fn group_place(o: Opened, s: &[u8], index: usize) -> RecordPlace
     }
 }
 
-pub fn group_at_law(o: Opened, s: &[u8], index: usize) -> GroupAt
+pub fn group_at(o: Opened, s: &[u8], index: usize) -> GroupAt
     ensures { told_group result ≡ group_at o s.now index }
 {
     let t = group_place(o, s, index);
@@ -292,14 +292,14 @@ pub fn group_at_law(o: Opened, s: &[u8], index: usize) -> GroupAt
 }
 
 // The chunk record that stands at a tested place.
-pub fn chunk_in_law(s: &[u8], at: usize) -> ChunkRecord
+pub fn chunk_in(s: &[u8], at: usize) -> ChunkRecord
     requires { at + chunk_wide ≤ length s.now }
     ensures { result ≡ chunk_in s.now at }
 {
     ChunkRecord {
         off: fields::u32_at(s, at),
         count: fields::u16_at(s, at + 4),
-        bbox: box_in_law(s, at + 8),
+        bbox: box_in(s, at + 8),
     }
 }
 
@@ -317,7 +317,7 @@ pub fn chunk_at(o: Opened, s: &[u8], index: usize) -> ChunkAt
     match t {
         RecordPlace::Refused(r) => ChunkAt::Refused(r),
         RecordPlace::At(at) => {
-            let v = chunk_in_law(s, at);
+            let v = chunk_in(s, at);
             if chunk_rule(v) {
                 ChunkAt::At(v)
             } else {

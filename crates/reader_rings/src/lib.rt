@@ -17,7 +17,7 @@ use reader_records::{GroupRecord, OpAt, RecordPlace, RingAt, RingRecord};
 use replies::Verdict;
 
 // A group with its index, and its ends as a ring op has them.
-#[derive(Drop)]
+#[derive(Clone, Copy)]
 pub struct Turned {
     pub entry: I32Point,
     pub exit: I32Point,
@@ -26,20 +26,20 @@ pub struct Turned {
 }
 
 // An op's word, and where its group stands.
-#[derive(Drop)]
+#[derive(Clone, Copy)]
 pub enum LegAt {
     At(usize, usize),
     Refused(Refusal),
 }
 
 // How far round: the last exit, and the points so far.
-#[derive(Drop)]
+#[derive(Clone, Copy)]
 pub struct Round {
     pub exit: I32Point,
     pub sum: usize,
 }
 
-#[derive(Drop)]
+#[derive(Clone, Copy)]
 pub enum Rounds {
     Refused(Refusal),
     On,
@@ -47,7 +47,7 @@ pub enum Rounds {
 }
 
 // What a group's box and its ends tell of it: the parity, or that its chunks have to be walked.
-#[derive(Drop)]
+#[derive(Clone, Copy)]
 enum Beside {
     Past(bool),
     Through,

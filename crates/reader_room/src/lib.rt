@@ -13,14 +13,14 @@ use tzb_core::chunk;
 use tzb_core::chunk::Counted;
 
 // A group as its op has it: how many segments are counted so far, where it is entered and where it is left.
-#[derive(Drop)]
+#[derive(Clone, Copy)]
 pub struct Line {
     pub sides: u32,
     pub entry: I32Point,
     pub exit: I32Point,
 }
 
-#[derive(Drop)]
+#[derive(Clone, Copy)]
 pub enum LineAt {
     At(Line),
     Refused(Refusal),
@@ -151,7 +151,7 @@ fn lines_room(
 }
 
 // The ring has three segments that are not degenerate.
-pub fn has_room_law(o: Opened, s: &[u8], v: RingRecord) -> bool
+pub fn has_room(o: Opened, s: &[u8], v: RingRecord) -> bool
     ensures { result ≡ holds (λ b. b) (room_of o s.now v) }
 {
     let t = line_at(o, s, fields::wide(v.first), 0);

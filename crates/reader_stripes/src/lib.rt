@@ -18,7 +18,7 @@ use replies::Needed;
 use stripes::Striping;
 
 // A group as its stripes are made of it: its first chunk, how many chunks it has, and how it is cut.
-#[derive(Drop)]
+#[derive(Clone, Copy)]
 pub struct Cut {
     pub first: u32,
     pub count: u32,
@@ -26,7 +26,7 @@ pub struct Cut {
 }
 
 // Where the next stripe's entry goes, and where the next chunk number.
-#[derive(Drop)]
+#[derive(Clone, Copy)]
 pub struct Places {
     pub stripe: usize,
     pub chunk: usize,

@@ -8,7 +8,7 @@ ghost use Rattle.reader_table.specs.Steps.{own, Strides, Taken, Clipped, TakenBy
 use answer::Checked;
 
 // Bits of one byte of the map, and how many units they stand for.
-#[derive(Drop)]
+#[derive(Clone, Copy)]
 struct Stride {
     bits: u8,
     units: usize,

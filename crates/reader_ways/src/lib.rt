@@ -14,26 +14,26 @@ use reader_records::GroupRecord;
 use stripes::Striping;
 
 // A group's entry in the numbers: how it is cut, and where its stripes' entries start.
-#[derive(Drop)]
+#[derive(Clone, Copy)]
 pub struct Entry {
     pub striping: Striping,
     pub first: usize,
 }
 
 // A stripe's entry: where its chunk numbers start, and how many there are.
-#[derive(Drop)]
+#[derive(Clone, Copy)]
 pub struct Stripe {
     pub first: usize,
     pub count: u32,
 }
 
-#[derive(Drop)]
+#[derive(Clone, Copy)]
 pub enum EntryAt {
     At(Entry),
     Refused(Refusal),
 }
 
-#[derive(Drop)]
+#[derive(Clone, Copy)]
 pub enum StripeAt {
     At(Stripe),
     Refused(Refusal),

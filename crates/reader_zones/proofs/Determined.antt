@@ -2,7 +2,7 @@
 -- Assumes nothing.
 use Rattle.basics.specs.Determined.{Determined}
 use Rattle.reader_zones.proofs.timezone_contains.Reads as timezone-contains-reads
-use Rattle.reader_zones.proofs.contains_by_law.Reads as contains-by-reads
+use Rattle.reader_zones.proofs.contains_by.Reads as contains-by-reads
 use Rattle.reader_zones.proofs.contains.Reads as contains-reads
 use Rattle.replies.proofs.One.{one_verdict}
 

@@ -143,7 +143,7 @@ pub fn timezone_contains(
 
 // Whether the zone contains the point of whole numbers: a zone number too large is 45, then a point outside the domain is no.
 // The answer is taken apart and made again, since one that is handed on whole is copied whole, and waited for.
-pub fn contains_by_law(
+pub fn contains_by(
     striped: bool,
     numbers: &[u32],
     o: Opened,
@@ -178,5 +178,5 @@ pub fn contains(o: Opened, s: &[u8], zone: u32, x: i32, y: i32) -> Verdict
     ensures { verdict_told result ≡ contains_at o s.now zone (point x y) }
 {
     let none = [0u32; 0];
-    contains_by_law(false, &none, o, s, zone, x, y)
+    contains_by(false, &none, o, s, zone, x, y)
 }

@@ -3,14 +3,14 @@ use answer::Refusal;
 use opened::Opened;
 
 // Where a zone's name stands: from its start up to its end.
-#[derive(Drop)]
+#[derive(Clone, Copy)]
 pub enum Bounds {
     At(usize, usize),
     Refused(Refusal),
 }
 
 // The zones that a question looks at.
-#[derive(Drop)]
+#[derive(Clone, Copy)]
 pub enum Choice {
     None,
     // All zones, in order: how many there are.
@@ -21,21 +21,21 @@ pub enum Choice {
 }
 
 // The zone at a place of the candidate list.
-#[derive(Drop)]
+#[derive(Clone, Copy)]
 pub enum Candidate {
     Zone(u32),
     Refused(Refusal),
 }
 
 // Whether a zone contains a point.
-#[derive(Drop)]
+#[derive(Clone, Copy)]
 pub enum Verdict {
     Is(bool),
     Refused(Refusal),
 }
 
 // The zone that a position lies in.
-#[derive(Drop)]
+#[derive(Clone, Copy)]
 pub enum Found {
     None,
     Zone(u32),
@@ -43,35 +43,35 @@ pub enum Found {
 }
 
 // How many zones were listed.
-#[derive(Drop)]
+#[derive(Clone, Copy)]
 pub enum Listing {
     Zones(u32),
     Refused(Refusal),
 }
 
 // How many points or zones there are.
-#[derive(Drop)]
+#[derive(Clone, Copy)]
 pub enum Count {
     Is(u32),
     Refused(Refusal),
 }
 
 // How many numbers the stripes of a file take, or were written.
-#[derive(Drop)]
+#[derive(Clone, Copy)]
 pub enum Needed {
     Numbers(u64),
     Refused(Refusal),
 }
 
 // What opening answers: the opened record, or the first refusal.
-#[derive(Drop)]
+#[derive(Clone, Copy)]
 pub enum Opening {
     Done(Opened),
     Refused(Refusal),
 }
 
 // What the full check says: accepted; opening's refusal; or 47 with the lowest broken rule, 2 to 6.
-#[derive(Drop)]
+#[derive(Clone, Copy)]
 pub enum FullCheck {
     Accepted,
     Refused(Refusal),
@@ -79,7 +79,7 @@ pub enum FullCheck {
 }
 
 // A zone's map as text: how many bytes it has; a refusal; or 47 with the lowest broken rule, where the full check does not accept the file.
-#[derive(Drop)]
+#[derive(Clone, Copy)]
 pub enum Drawing {
     Drawn(usize),
     Refused(Refusal),

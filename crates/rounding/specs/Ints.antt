@@ -3,7 +3,7 @@ use Rattle.std.specs.Prelude.{◌≡◌, refl, ℕ, zero, suc, ◌+◌, ◌-◌,
 use Rattle.std.proofs.Common.{sym, ap₂, ◌∙◌, subst, arith, ltb→lt, nltb→le, eqb→eq}
 use Rattle.std.proofs.Math.Path.{ap}
 use native.Mathlib.Nat.{lt_of_lt_of_le, lt_of_not-le, not-le_of_lt, mul_comm, mul-le-mul_right, mul-pos, mul-sub, zero-lt-suc, zero-mul, eq_of_mul-eq-mul_right}
-use Rattle.std.proofs.Math.Bool.{true, false, cond, and_true}
+use Rattle.std.proofs.Math.Bool.{true, false, cond, and-true}
 use Rattle.std.specs.Bool.{beq}
 use Rattle.std.proofs.Math.IntN.{sub_ℕ}
 use Rattle.std.specs.Float.{nan, inf, fin, Format, binary64}
@@ -187,8 +187,8 @@ level_is X Y K = go (ltb X K) (ltb Y K) (ltb→lt X K) (nltb→le X K) (ltb→lt
     neq A B n = both_eqb A B 0 1 (λ (e : A ≡ B). absurd (n e)) (λ e. absurd (zero_one e))
 
     go : (s t : Bool) → (T s → X < K) → (T (not s) → K ≤ X) → (T t → Y < K) → (T (not t) → K ≤ Y) → level s (dist X K) t (dist Y K) ≡ eqb X Y
-    go false false a b c d = let b' = b tt in let d' = d tt in and_true (eqb (dist X K) (dist Y K)) ∙ both_eqb X Y (dist X K) (dist Y K) (λ (h : X ≡ Y). omega arith) (λ (h : dist X K ≡ dist Y K). omega arith)
-    go true true a b c d = let a' = a tt in let c' = c tt in and_true (eqb (dist X K) (dist Y K)) ∙ both_eqb X Y (dist X K) (dist Y K) (λ (h : X ≡ Y). omega arith) (λ (h : dist X K ≡ dist Y K). omega arith)
+    go false false a b c d = let b' = b tt in let d' = d tt in and-true (eqb (dist X K) (dist Y K)) ∙ both_eqb X Y (dist X K) (dist Y K) (λ (h : X ≡ Y). omega arith) (λ (h : dist X K ≡ dist Y K). omega arith)
+    go true true a b c d = let a' = a tt in let c' = c tt in and-true (eqb (dist X K) (dist Y K)) ∙ both_eqb X Y (dist X K) (dist Y K) (λ (h : X ≡ Y). omega arith) (λ (h : dist X K ≡ dist Y K). omega arith)
     go false true a b c d = let b' = b tt in let c' = c tt in split (eqb (dist X K) (dist Y K)) (eqb (dist X K) 0) (eqb→eq (dist X K) (dist Y K)) (eqb→eq (dist X K) 0) (λ (e : X ≡ Y). omega arith) (λ (e : dist X K ≡ dist Y K). omega arith)
       where
         split : (p q : Bool) → (T p → dist X K ≡ dist Y K) → (T q → dist X K ≡ 0) → (X ≡ Y → ⊥) → (dist X K ≡ dist Y K → dist X K ≡ 0 → ⊥) → p && q ≡ eqb X Y

@@ -2,7 +2,7 @@
 use Rattle.std.specs.Prelude.{◌≡◌, refl, ℕ, ◌+◌, ◌-◌, ◌*◌, ◌^◌, ◌≤◌, ◌<◌, Bool, true, false, not, ◌&&◌, cond, T, ltb, eqb, Float}
 use Rattle.std.proofs.Common.{sym, ◌∙◌, subst, le_trans, le_of_lt, lt_of_lt_of_le, arith, lt-ltb, le-ltb, ltb→lt, nltb→le, eqb→eq, lit≤}
 use Rattle.std.proofs.Math.Path.{ap₂}
-use Rattle.std.proofs.Math.Bool.{◌||◌, and_true}
+use Rattle.std.proofs.Math.Bool.{◌||◌, and-true}
 use Rattle.std.specs.Float.Ieee.Fits.{eq→eqb}
 use Rattle.std.specs.Float.Ieee.Exact.{HasValue}
 use Rattle.std.specs.Float.Ieee.Scale.{finite, grid}
@@ -80,8 +80,8 @@ rep_level s t a b p q p' q' e f = go s t e f
     both false v false f1 f2 g1 g2 h1 h2 i j k = refl
 
     go : (s t : Bool) → Rep s a p q → Rep t b p' q' → level s a t b ≡ eqb (p + q') (q + p')
-    go false false e f = and_true (eqb a b) ∙ both_eqb (p + q') (q + p') a b (λ (h : p + q' ≡ q + p'). omega arith) (λ (h : a ≡ b). omega arith)
-    go true true e f = and_true (eqb a b) ∙ both_eqb (p + q') (q + p') a b (λ (h : p + q' ≡ q + p'). omega arith) (λ (h : a ≡ b). omega arith)
+    go false false e f = and-true (eqb a b) ∙ both_eqb (p + q') (q + p') a b (λ (h : p + q' ≡ q + p'). omega arith) (λ (h : a ≡ b). omega arith)
+    go true true e f = and-true (eqb a b) ∙ both_eqb (p + q') (q + p') a b (λ (h : p + q' ≡ q + p'). omega arith) (λ (h : a ≡ b). omega arith)
     go false true e f = both (eqb a b) (eqb a 0) (eqb (p + q') (q + p')) (eqb→eq a b) (λ (h : a ≡ b). eq→eqb h) (eqb→eq a 0) (λ (h : a ≡ 0). eq→eqb h) (eqb→eq (p + q') (q + p')) (λ (h : p + q' ≡ q + p'). eq→eqb h) (λ (h : p + q' ≡ q + p'). omega arith) (λ (h : p + q' ≡ q + p'). omega arith) (λ (h : a ≡ b) (k : a ≡ 0). omega arith)
     go true false e f = both (eqb a b) (eqb a 0) (eqb (p + q') (q + p')) (eqb→eq a b) (λ (h : a ≡ b). eq→eqb h) (eqb→eq a 0) (λ (h : a ≡ 0). eq→eqb h) (eqb→eq (p + q') (q + p')) (λ (h : p + q' ≡ q + p'). eq→eqb h) (λ (h : p + q' ≡ q + p'). omega arith) (λ (h : p + q' ≡ q + p'). omega arith) (λ (h : a ≡ b) (k : a ≡ 0). omega arith)
 

@@ -3,7 +3,7 @@
 // looked at together.
 ghost use Rattle.std.specs.Prelude.{◌≤◌};
 
-#[derive(Drop)]
+#[derive(Clone, Copy)]
 struct Tally {
     right: u64,
     tried: u64,

@@ -2,7 +2,7 @@
 -- Assumes nothing.
 use Prim.Native.Nat.{ℕ, zero, suc, ◌+◌, ◌-◌, ◌*◌, ◌/◌, ◌≤◌, ◌<◌, min, max}
 use native.Mathlib.Omega.{arith}
-use native.Mathlib.Nat.{div_zero, div-mul-le_self, le-div_iff_mul-le, div-lt_iff_lt-mul, mul-le-mul_right, mul-lt-mul_of_pos_right, min-eq_left, min-eq_right, mul_comm, mul-le-mul}
+use native.Mathlib.Nat.{div-zero, div-mul-le_self, le-div_iff_mul-le, div-lt_iff_lt-mul, mul-le-mul_right, mul-lt-mul_of_pos_right, min-eq_left, min-eq_right, mul_comm, mul-le-mul}
 use mathlib.Core.Path.{◌≡◌, refl, sym, ap₂, ◌∙◌}
 use mathlib.Core.Bool.{true}
 use borrow.Author.Tests.{lt-ltb, le-ltb, le-leb}
@@ -16,7 +16,7 @@ use Rattle.stripes.specs.Numbers.{depth}
 use Rattle.stripes.proofs.Heights.{above_rises}
 
 div_rises : (a b d : ℕ) → a ≤ b → a / d ≤ b / d
-div_rises a b zero h = omega (arith, div_zero a)
+div_rises a b zero h = omega (arith, div-zero a)
 div_rises a b (suc d) h = (le-div_iff_mul-le {k = suc d} {x = a / suc d} {y = b} (omega arith)).1 (omega (arith, div-mul-le_self a (suc d)))
 
 min_rises : (a b c : ℕ) → a ≤ b → min a c ≤ min b c

@@ -6,7 +6,7 @@ ghost use Rattle.stripes.specs.Numbers.{depth};
 use boxes::BBox;
 
 // How a group is cut: its least y, its height, how many stripes.
-#[derive(Drop)]
+#[derive(Clone, Copy)]
 pub struct Striping {
     pub least: i32,
     pub height: u32,

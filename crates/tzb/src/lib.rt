@@ -15,9 +15,9 @@ pub use reader_listing::{lookup_into, lookup_into_by};
 pub use reader_lookup::{lookup, lookup_by};
 pub use reader_named::{name, name_refusal};
 use reader_opened::Sections;
-pub use reader_records::{chunk_at, group_at_law, op_at, poly_at, ring_at, tz_at};
+pub use reader_records::{chunk_at, group_at, op_at, poly_at, ring_at, tz_at};
 pub use reader_stripes::{stripes, stripes_need};
-pub use reader_zones::{contains, contains_by_law};
+pub use reader_zones::{contains, contains_by};
 use replies::{FullCheck, Opening};
 
 // 1 to 18: the header, the section table, the sections that there must be.

@@ -6,7 +6,7 @@ use Rattle.tzb_asked.proofs.name_bounds.Reads as name-bounds-reads
 use Rattle.tzb_asked.proofs.name_ends.Reads as name-ends-reads
 use Rattle.tzb_asked.proofs.candidates.Reads as candidates-reads
 use Rattle.tzb_asked.proofs.candidate_at.Reads as candidate-at-reads
-use Rattle.tzb_asked.proofs.contains_by_law.Reads as contains-by-reads
+use Rattle.tzb_asked.proofs.contains_by.Reads as contains-by-reads
 use Rattle.tzb_asked.proofs.decode.Reads as decode-reads
 use Rattle.tzb_asked.proofs.check_decode.Reads as check-decode-reads
 use Rattle.tzb_asked.proofs.lookup_by.Reads as lookup-by-reads

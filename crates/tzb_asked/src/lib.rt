@@ -68,7 +68,7 @@ pub fn candidate_at(record: &[u8], file: &[u8], place: u32) -> Candidate
 }
 
 // Whether the zone contains the point of whole numbers, walked plainly or by the stripes that the numbers say.
-pub fn contains_by_law(
+pub fn contains_by(
     striped: bool,
     numbers: &[u32],
     record: &[u8],

@@ -2,7 +2,7 @@
 -- Assumes nothing.
 use Rattle.std.proofs.Common.{sym, ◌∙◌}
 use Rattle.basics.specs.Determined.{Determined}
-use Rattle.tzb_core.proofs.raycast.next_up_law.Reads as next-up-reads
+use Rattle.tzb_core.proofs.raycast.next_up.Reads as next-up-reads
 use Rattle.tzb_core.proofs.raycast.raycast_seg.Reads as raycast-seg-reads
 use Rattle.tzb_core.proofs.raycast.endpoint_parity.Reads as endpoint-parity-reads
 use Rattle.tzb_core.proofs.raycast.to_point.Reads as to-point-reads

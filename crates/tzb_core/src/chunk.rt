@@ -27,28 +27,28 @@ use boxes::BBox;
 use plane::{I32Point, Point, Seen};
 
 // Two numbers, where the second starts, and the place after both.
-#[derive(Drop)]
+#[derive(Clone, Copy)]
 enum Pair {
     Of(I32Point, Place, Place),
     Refused(Refusal),
 }
 
 // A point, and the place after it.
-#[derive(Drop)]
+#[derive(Clone, Copy)]
 pub enum Spotted {
     At(I32Point, Place),
     Refused(Refusal),
 }
 
 // The point that a delta leads to.
-#[derive(Drop)]
+#[derive(Clone, Copy)]
 enum Moved {
     To(I32Point),
     Refused(Refusal),
 }
 
 // Past a chunk: the parity of its segments, and its last point.
-#[derive(Drop)]
+#[derive(Clone, Copy)]
 pub enum Scan {
     Refused(Refusal),
     On,
@@ -56,21 +56,21 @@ pub enum Scan {
 }
 
 // Past a chunk's points: whether a box covers them all, and the last of them.
-#[derive(Drop)]
+#[derive(Clone, Copy)]
 pub enum Traced {
     Points(bool, I32Point),
     Refused(Refusal),
 }
 
 // How many segments are counted, and the last point read.
-#[derive(Drop)]
+#[derive(Clone, Copy)]
 pub enum Counted {
     Upto(u32, I32Point),
     Refused(Refusal),
 }
 
 // Heights around a point: one below lo is below the point, and one above hi is above it.
-#[derive(Drop)]
+#[derive(Clone, Copy)]
 struct Band {
     lo: i32,
     hi: i32,

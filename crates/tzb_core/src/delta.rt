@@ -4,7 +4,7 @@ ghost use Rattle.chunks.specs.Delta.{add_delta};
 ghost use Rattle.tzb_core.specs.Reading.{summed};
 
 // A coordinate moved by a delta; or the number of the refusal, which gets its place where the delta's is known.
-#[derive(Drop)]
+#[derive(Clone, Copy)]
 pub enum Sum {
     Of(i32),
     Refused(u32),

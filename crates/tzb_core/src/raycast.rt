@@ -1,4 +1,4 @@
-// What a point sees of a segment, in floats: raycast.rs, with `next_up_law` written out, and `endpoint_parity` and `to_point` of reader.rs.
+// What a point sees of a segment, in floats: raycast.rs, with `next_up` written out, and `endpoint_parity` and `to_point` of reader.rs.
 ghost use Rattle.std.specs.Prelude.{◌≡◌, true};
 ghost use Rattle.rounding.specs.Upward.{step_of, next_up};
 ghost use Rattle.plane.specs.Sight.{seen_told};
@@ -25,7 +25,7 @@ fn step(b: u64) -> u64
 }
 
 // The next float upward; NaN and the infinity above stay.
-pub fn next_up_law(x: f64) -> f64
+pub fn next_up(x: f64) -> f64
     ensures { result ≡ next_up x }
 {
     if x != x {
@@ -88,7 +88,7 @@ fn nudge(ay: f64, by: f64, y: f64) -> f64
     ensures { result ≡ nudged ay by y }
 {
     if (y == ay) | (y == by) {
-        return next_up_law(y);
+        return next_up(y);
     }
     y
 }

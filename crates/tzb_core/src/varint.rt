@@ -9,12 +9,12 @@ ghost use Rattle.varints.specs.Steps.{rest};
 use answer::Refusal;
 
 // Where the next number starts.
-#[derive(Drop)]
+#[derive(Clone, Copy)]
 pub struct Place {
     pub at: usize,
 }
 
-#[derive(Drop)]
+#[derive(Clone, Copy)]
 pub enum Read {
     // The number, and the place after it.
     Number(i32, Place),
@@ -22,7 +22,7 @@ pub enum Read {
 }
 
 // What the digits make, before zigzag, and the place after them; or the number of the refusal, which gets its place where the number's is known.
-#[derive(Drop)]
+#[derive(Clone, Copy)]
 enum Digits {
     Of(u32, Place),
     Refused(u32),

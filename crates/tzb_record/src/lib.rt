@@ -8,7 +8,7 @@ use answer::{Checked, Refusal};
 use opened::{Directory, Grid, Opened, Section};
 
 // What bytes are, read as a record.
-#[derive(Drop)]
+#[derive(Clone, Copy)]
 pub enum RecordRead {
     Is(Opened),
     Refused(Refusal),

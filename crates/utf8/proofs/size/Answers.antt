@@ -1,0 +1,33 @@
+-- `utf8::size` meets its contract: each arm is rows of the grammar, and what is left starts no character.
+-- Assumes nothing.
+use mathlib.Core.List.{[], ◌∷◌}
+use Rattle.utf8.specs.Rfc3629.{tail}
+use Rattle.utf8.proofs.Steps.{asks, of_two, of_three, of_four, by_second, starts_none, stands_alone, two_row}
+use native.Mathlib.Omega.{arith}
+use lib.ListN.{get_or}
+use Rattle.utf8.proofs.size.Goals as goal
+
+pub returns-in-0-to-127 : goal.returns-in-0-to-127
+returns-in-0-to-127 c =
+    stands_alone c.args.s.now c.args.i c.requires (omega arith)
+
+pub returns-in-194-to-223 : goal.returns-in-194-to-223
+returns-in-194-to-223 c =
+    let a = by_second tail [] 0xc2 30 (get_or c.args.s.now c.args.i 0) c.byte.result c.tail.result tt (omega arith) (omega arith) c.tail.ensures in
+    asks c.args.s.now c.args.i c.requires [] 0xc2 30 of_two (omega arith) (omega arith) _ _ _ c.byte.ensures a (two_row _ c.tail.result c.two.ensures)
+
+pub returns-in-224-to-239 : goal.returns-in-224-to-239
+returns-in-224-to-239 c =
+    asks c.args.s.now c.args.i c.requires (tail ∷ []) 0xe0 16 of_three (omega arith) (omega arith) _ _ _ c.byte-in-224-to-239.ensures c.second_of_three.ensures c.three.ensures
+
+pub returns-in-240-to-244 : goal.returns-in-240-to-244
+returns-in-240-to-244 c =
+    asks c.args.s.now c.args.i c.requires (tail ∷ tail ∷ []) 0xf0 5 of_four (omega arith) (omega arith) _ _ _ c.byte-in-240-to-244.ensures c.second_of_four.ensures c.four.ensures
+
+pub returns-in_default : goal.returns-in_default
+returns-in_default c =
+    starts_none c.args.s.now c.args.i c.requires 0x80 66 tt (omega arith) (omega arith)
+
+pub returns-in_default-2 : goal.returns-in_default-2
+returns-in_default-2 c =
+    starts_none c.args.s.now c.args.i c.requires 0xf5 11 tt (omega arith) (omega (arith, c.shared_slice_known-1.given c.args.i))

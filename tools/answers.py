@@ -1,0 +1,316 @@
+#!/usr/bin/env python3
+"""Turns a function's Proof.antt, which walks the code by the older names, into Invariants.antt and Answers.antt.
+
+usage: python3 tools/answers.py CRATE..      at the top of the repository, with the crates below proved
+
+It asks `rt check --generated FOLDER --old-names` for each goal's old and new name and for the steps between them. An answer that
+only says `search rules` goes: the check finds it. A line `-- TODO` marks what it could not turn.
+"""
+import json
+import os
+import re
+import subprocess
+import sys
+import tempfile
+
+W = r"[^\s(){}.;,@\"«»\[\]\\]+"
+
+
+def plain(name):
+    return re.sub("-+", "-", name.replace("_", "-"))
+
+
+def blocks(text):
+    """The file's use lines, leading comment and declarations: each a list of lines."""
+    lines = text.split("\n")
+    head, uses, decls = [], [], []
+    i = 0
+    while i < len(lines) and lines[i].startswith("--"):
+        head.append(lines[i])
+        i += 1
+    comment = []
+    cur = None
+    while i < len(lines):
+        line = lines[i]
+        if re.match(r"(ghost )?use ", line):
+            uses.append(line)
+            cur = None
+        elif line.startswith("--") and not (cur and False):
+            comment.append(line)
+            cur = None
+        elif line.strip() == "":
+            if cur is not None:
+                cur.append(line)
+        elif not line.startswith((" ", "\t")):
+            word = re.sub(r"^(abbrev |unfoldable |pub )+", "", line).split(" ")[0]
+            if cur is not None and (word == cur_name or word in ("unfolding", "where")):
+                cur.append(line)
+            else:
+                cur = comment + [line]
+                comment = []
+                cur_name = word
+                decls.append((word, cur))
+        else:
+            cur.append(line)
+        i += 1
+    return head, uses, decls
+
+
+class Places:
+    def __init__(self, names):
+        self.of = {}
+        for old, parent, label, _, _ in names["places"]:
+            self.of[old] = (parent, label)
+
+    def parent(self, place):
+        return self.of[place][0] if place in self.of else None
+
+    def label(self, place, word):
+        """The new label of a step by its old one, at a place or above it."""
+        p = place
+        while p is not None and p in self.of:
+            old, new = self.of[p][1]
+            if plain(old) == plain(word) and old:
+                return new
+            p = self.of[p][0]
+        return None
+
+
+PATH = re.compile(r"(?<![\w'.\-₀])(" + W + r")((?:\." + W + r")+)|(?<![\w'.\-₀])([a-z][\w']*)(?![\w'.\-₀])")
+
+
+def turn_body(body, place, places, todo):
+    env = {"c": place}
+
+    def walk(head, steps):
+        at = env[head]
+        i = 0
+        while i < len(steps) and steps[i] == "before":
+            up = places.parent(at)
+            if up is None:
+                todo.append("before past the start")
+                return head + "." + ".".join(steps), None
+            at = up
+            i += 1
+        if i == len(steps):
+            return "c", at
+        rest = steps[i:]
+        if rest[0] not in ("args", "requires", "ranges", "well_formed", "initial"):
+            new = places.label(at, rest[0])
+            if new is None:
+                todo.append("no step " + rest[0] + " at " + str(at))
+            else:
+                rest = [new] + rest[1:]
+        rest = ["type_inv" if r == "type-inv" else r for r in rest]
+        said = "c." + ".".join(rest)
+        if re.match(r"if-not-", rest[0]) and rest[-1] in ("true", "false") and len(rest) == 2:
+            return f"(not_from_{'false' if rest[-1] == 'true' else 'true'} _ {said})", None
+        return said, None
+
+    # aliases first, in order
+    out = []
+    pos = 0
+    token = re.compile(r"let (" + W + r") = (" + W + r"(?:\." + W + r")*) in[ \n]+ *|" + PATH.pattern)
+    while True:
+        m = token.search(body, pos)
+        if not m:
+            out.append(body[pos:])
+            break
+        out.append(body[pos : m.start()])
+        if m.group(1):
+            name, path = m.group(1), m.group(2)
+            head, *steps = path.split(".")
+            if head in env:
+                new, at = walk(head, steps)
+                if at is not None:
+                    env[name] = at
+                else:
+                    tail = m.group(0)[m.group(0).index(" in") :]
+                    out.append(f"let {name} = {new}{tail}")
+                    env.pop(name, None)
+            else:
+                out.append(m.group(0))
+                env.pop(name, None)
+        elif m.group(3):
+            head, steps = m.group(3), m.group(4).lstrip(".").split(".")
+            if head in env:
+                new, at = walk(head, steps)
+                if at is not None:
+                    todo.append("a whole place is passed on: " + m.group(0))
+                out.append(new)
+            else:
+                out.append(m.group(0))
+        else:
+            word = m.group(5)
+            if word in env:
+                if word != "c":
+                    todo.append("a whole place is passed on: " + word)
+                else:
+                    todo.append("c is passed on")
+                out.append("c")
+            else:
+                out.append(word)
+        pos = m.end()
+    return "".join(out)
+
+
+def turn_invariant(kind, decl, loops, changed, todo):
+    """abbrev invariant-loop a b c = .. with today's names."""
+    text = "\n".join(decl)
+    m = re.search(r"^(?:invariant|decreases)-" + W + r"((?: " + W + r")*) =", text, re.M)
+    args = m[1].split()
+    body = text[m.end() :]
+    return args, body
+
+
+def convert(crate, function_folder, names, old):
+    text = open(os.path.join(function_folder, old), encoding="utf-8").read()
+    head, uses, decls = blocks(text)
+    places = Places(names)
+    needs = {}
+    for (o, n), at in zip(names["needs"], names["asked_at"]):
+        needs.setdefault(plain(o), (n, at[0]))
+    loops = names["loops"]
+    loop_names = {}
+    for lp, ch in zip(loops, names["changed"]):
+        loop_names[plain(lp[0][0])] = (lp[0][1], lp[1], ch)
+    path = ".".join(os.path.relpath(function_folder, f"crates/{crate}/proofs").split("/"))
+    answers, invariants, helpers = [], [], []
+    todos = []
+    for name, decl in decls:
+        body_text = "\n".join(decl).rstrip()
+        if "tie.close" in body_text:
+            continue
+        m = re.search(r"tie\.(invariant|decreases)-(" + W + ")", body_text)
+        n = re.search(r"^(?:pub )?" + re.escape(name) + r" : tie\.Need-(" + W + ")", body_text, re.M)
+        if body_text.lstrip().startswith("abbrev") or re.search(r"^abbrev .*: tie\.", body_text, re.M):
+            kind, loop = m[1], plain(m[2])
+            if loop not in loop_names:
+                helpers.append("-- TODO no loop " + loop + "\n" + body_text)
+                todos.append("loop " + loop)
+                continue
+            new, live, ch = loop_names[loop]
+            k = re.search(r"^(?:invariant|decreases)-" + W + r"((?: " + W + r")*) =", body_text, re.M)
+            args = k[1].split()
+            body = body_text[k.end() :]
+            table = {}
+            want = [("l.initial." + v if c else "l." + v) for v, c in zip(live, ch)] + ["l." + v for v, c in zip(live, ch) if c]
+            if len(want) != len(args):
+                todos.append(f"invariant has {len(args)} parameters, and the loop {want}")
+            for a, w in zip(args, want):
+                if a != "_":
+                    table[a] = w
+            def sub(mm):
+                word = mm[0]
+                return table.get(word, word)
+            body = re.sub(r"(?<![\w'.\-₀])[A-Za-z][\w'₀]*(?![\w'\-₀])", sub, body)
+            comments = [l for l in decl if l.startswith("--")]
+            invariants.append("\n".join(comments + [f"abbrev pub {kind}-{new} : goal.{kind}-{new}", f"{kind}-{new} l ={body}"]))
+            continue
+        if n:
+            old_need = plain(n[1])
+            found = None
+            for cut in ("", "overflow-", "nonzero-", "bounds-"):
+                if old_need.startswith(cut) and old_need[len(cut) :] in needs:
+                    found = needs[old_need[len(cut) :]]
+                    break
+            lines = body_text.split("\n")
+            sig = next(i for i, l in enumerate(lines) if re.match(r"^(?:pub )?" + re.escape(name) + " : ", l))
+            comments = lines[:sig]
+            rest = lines[sig + 1 :]
+            unfold = []
+            while rest and rest[0].startswith("unfolding"):
+                unfold.append(rest.pop(0))
+            clause = "\n".join(rest)
+            k = re.match(re.escape(name) + r" c( κs)?((?: " + W + r")*) =", clause)
+            if k and clause[k.end() :].strip() == "search rules" and not unfold:
+                continue
+            if not found or not k:
+                helpers.append("-- TODO no goal for " + n[1] + "\n" + body_text)
+                todos.append("goal " + n[1])
+                continue
+            new, at = found
+            todo = []
+            body = turn_body(clause[k.end() :], at, places, todo)
+            todos += [new + ": " + t for t in todo]
+            answers.append("\n".join(comments + [f"pub {new} : goal.{new}"] + unfold + [f"{new} c{k[2]} ={body}"] + (["-- TODO " + "; ".join(todo)] if todo else [])))
+            continue
+        if "tie." in body_text:
+            todos.append("helper over places: " + name)
+            helpers.append("-- TODO\n" + body_text)
+        else:
+            helpers.append(body_text)
+    keep = [u for u in uses if not re.search(r"\.(Statement|Tie)(\.\{| as|$)", u)]
+    keep = [u for u in keep if u != "use borrow.Author.Rules.{rules}"]
+
+    def used(body):
+        """The use lines whose names the body has."""
+        out = []
+        words = set(re.findall(r"[^\s(){}.;,@\"«»]+", body))
+        for u in keep:
+            m = re.match(r"use (\S+?)\.\{([^}]*)\}$", u)
+            if not m:
+                out.append(u)
+                continue
+            items = [i.strip() for i in m[2].split(",")]
+            def has(item):
+                last = item.split(" as ")[-1].strip("«»")
+                if last in words:
+                    return True
+                if "◌" in last:
+                    return all(p in words for p in last.split("◌") if p) or last in words
+                return last == "arith" and "arith" in words or last == "rules" and "rules" in words
+            left = [i for i in items if has(i)]
+            if left:
+                out.append(f"use {m[1]}.{{{', '.join(left)}}}")
+        for test in ("not_from_true", "not_from_false"):
+            if test in words and not any(test in u for u in out):
+                out.append(f"use Rattle.std.proofs.lemmas.Bool.{{{test}}}")
+        if "rules" in words and not any("rules" in u for u in out):
+            out.append("use Rattle.std.proofs.Common.{rules}")
+        return out
+
+    result = {}
+    if invariants:
+        body = "\n\n".join(invariants)
+        result["Invariants.antt"] = "\n".join((head if not answers else []) + used(body) + [f"use Rattle.{crate}.proofs.{path}.Given as goal", "", body, ""])
+    if answers or helpers:
+        body = "\n\n".join(helpers + answers) if answers else "\n\n".join(helpers)
+        result["Answers.antt"] = "\n".join(head + used(body) + [f"use Rattle.{crate}.proofs.{path}.Goals as goal", "", body, ""])
+    return result, todos
+
+
+def main():
+    for crate in sys.argv[1:]:
+        folder = f"crates/{crate}"
+        with tempfile.TemporaryDirectory() as d:
+            r = subprocess.run(["rt", "check", "--generated", d, "--old-names"], cwd=folder, stdout=subprocess.PIPE, stderr=subprocess.STDOUT, text=True)
+            file = os.path.join(d, "names.json")
+            if not os.path.exists(file):
+                print(crate, "rt says:", r.stdout[-1500:])
+                continue
+            names = json.load(open(file))
+        for key, value in names.items():
+            m = re.fullmatch(rf"Rattle-{crate}-proofs\.(.+)\.Lts", key)
+            if not m:
+                continue
+            where = os.path.join(folder, "proofs", *m[1].split("."))
+            old = os.path.join(where, "Proof.antt")
+            if not os.path.exists(old):
+                continue
+            try:
+                result, todos = convert(crate, where, value, "Proof.antt")
+            except Exception as e:
+                print(f"{crate} {m[1]}: not turned: {e!r}")
+                continue
+            os.remove(old)
+            for name, text in result.items():
+                with open(os.path.join(where, name), "w", encoding="utf-8") as f:
+                    f.write(text)
+            if not result and not os.listdir(where):
+                os.rmdir(where)
+            for t in todos:
+                print(f"{crate} {m[1]}: {t}")
+
+
+main()
