@@ -56,11 +56,68 @@ def blocks(text):
     return head, uses, decls
 
 
+FN = re.compile(r"^( *)(?:pub )?(?:const )?(?:unsafe )?(?:extern \"C\" )?fn (\w+)")
+CLAUSE = re.compile(r"^ *(requires|ensures)\*? (\w+) \{")
+contracts = {}
+
+
+def read_contracts(crate):
+    """The names of each function's clauses, where it has several."""
+    for folder, _, files in os.walk(f"crates/{crate}/src"):
+        for f in files:
+            if not f.endswith(".rt"):
+                continue
+            inside, fn = None, None
+            for line in open(os.path.join(folder, f), encoding="utf-8"):
+                m = re.match(r"impl(?:<[^>]*>)? (?:\w+ for )?(\w+)", line)
+                if m:
+                    inside = m[1]
+                if line.startswith("}"):
+                    inside = None
+                m = FN.match(line)
+                if m:
+                    fn = (crate, (inside + "::" if inside and m[1] else "") + m[2])
+                    contracts[fn] = {"requires": [], "ensures": []}
+                m = CLAUSE.match(line)
+                if m and fn:
+                    contracts[fn][m[1]].append(m[2])
+                if line.strip() == "{":
+                    fn = None
+
+
+def clauses_of(callee, kind):
+    """callee as crate::module::Type::name"""
+    parts = callee.split("::")
+    for n in (2, 1):
+        found = contracts.get((parts[0], "::".join(parts[-n:])))
+        if found:
+            return found[kind]
+    return []
+
+
 class Places:
-    def __init__(self, names):
+    def __init__(self, names, own):
         self.of = {}
-        for old, parent, label, _, _ in names["places"]:
+        self.own = own
+        self.callee = {}
+        for old, parent, label, callee, _ in names["places"]:
             self.of[old] = (parent, label)
+            if callee:
+                self.callee[label[1]] = callee
+
+    def named(self, rest):
+        """.ensures.0 of a callee with several clauses is .ensures.NAME; so of the function's own requires."""
+        if rest[0] == "requires":
+            names, at = clauses_of(self.own, "requires"), 1
+        elif len(rest) > 1 and rest[1] in ("ensures", "requires") and rest[0] in self.callee:
+            names, at = clauses_of(self.callee[rest[0]], rest[1]), 2
+        else:
+            return rest
+        if len(names) > 1 and len(rest) > at and rest[at].isdigit() and int(rest[at]) < len(names):
+            rest = rest[:at] + [names[int(rest[at])]] + rest[at + 1 :]
+        elif len(names) > 1 and len(rest) == at:
+            rest = rest + [None, names]
+        return rest
 
     def parent(self, place):
         return self.of[place][0] if place in self.of else None
@@ -84,6 +141,8 @@ def turn_body(body, place, places, todo):
 
     def walk(head, steps):
         at = env[head]
+        if isinstance(at, tuple):
+            return walk(at[0], at[1] + steps)
         i = 0
         while i < len(steps) and steps[i] == "before":
             up = places.parent(at)
@@ -101,6 +160,10 @@ def turn_body(body, place, places, todo):
                 todo.append("no step " + rest[0] + " at " + str(at))
             else:
                 rest = [new] + rest[1:]
+        rest = places.named(rest)
+        if len(rest) > 2 and rest[-2] is None:
+            head = "c." + ".".join(rest[:-2])
+            return "(" + ", ".join(f"{head}.{n}" for n in rest[-1]) + ")", "many"
         rest = ["type_inv" if r == "type-inv" else r for r in rest]
         said = "c." + ".".join(rest)
         if re.match(r"if-not-", rest[0]) and rest[-1] in ("true", "false") and len(rest) == 2:
@@ -122,7 +185,9 @@ def turn_body(body, place, places, todo):
             head, *steps = path.split(".")
             if head in env:
                 new, at = walk(head, steps)
-                if at is not None:
+                if at == "many":
+                    env[name] = (head, steps)
+                elif at is not None:
                     env[name] = at
                 else:
                     tail = m.group(0)[m.group(0).index(" in") :]
@@ -135,13 +200,17 @@ def turn_body(body, place, places, todo):
             head, steps = m.group(3), m.group(4).lstrip(".").split(".")
             if head in env:
                 new, at = walk(head, steps)
-                if at is not None:
+                if at is not None and at != "many":
                     todo.append("a whole place is passed on: " + m.group(0))
                 out.append(new)
             else:
                 out.append(m.group(0))
         else:
             word = m.group(5)
+            if word in env and isinstance(env[word], tuple):
+                out.append(walk(word, [])[0])
+                pos = m.end()
+                continue
             if word in env:
                 if word != "c":
                     todo.append("a whole place is passed on: " + word)
@@ -152,6 +221,47 @@ def turn_body(body, place, places, todo):
                 out.append(word)
         pos = m.end()
     return "".join(out)
+
+
+def parts(text):
+    """The parts of a tuple, or None: text is (a, b, ..)."""
+    depth, out, start = 0, [], 1
+    for i, ch in enumerate(text):
+        if ch in "([{":
+            depth += 1
+        elif ch in ")]}":
+            depth -= 1
+            if depth == 0 and i != len(text) - 1:
+                return None
+        elif ch == "," and depth == 1:
+            out.append(text[start:i].strip())
+            start = i + 1
+    return out + [text[start:-1].strip()]
+
+
+def as_record(body, names, todo):
+    """A tuple that ends an answer, as a record with a field for each clause."""
+    text = body.rstrip()
+    if text.endswith(")"):
+        depth = 0
+        for i in range(len(text) - 1, -1, -1):
+            if text[i] == ")":
+                depth += 1
+            elif text[i] == "(":
+                depth -= 1
+                if depth == 0:
+                    break
+        before = text[:i].rstrip()
+        got = parts(text[i:])
+        if got and len(got) >= len(names) and (before == "" or re.search(r"(^|\s)in$", before)):
+            if len(got) > len(names):
+                got = got[: len(names) - 1] + ["(" + ", ".join(got[len(names) - 1 :]) + ")"]
+            return text[:i] + "record { " + "; ".join(f"{n} = {g}" for n, g in zip(names, got)) + " }"
+    text = text.strip()
+    if "\n" not in text and text.count(" ") == 0:
+        return " record { " + "; ".join(f"{n} = {text}.{i}" for i, n in enumerate(names)) + " }"
+    pad = "\n    "
+    return pad + "record {" + pad + "  " + (";" + pad + "  ").join(f"{n} = ({text}).{i}" for i, n in enumerate(names)) + ";" + pad + "}"
 
 
 def turn_invariant(kind, decl, loops, changed, todo):
@@ -166,7 +276,12 @@ def turn_invariant(kind, decl, loops, changed, todo):
 def convert(crate, function_folder, names, old):
     text = open(os.path.join(function_folder, old), encoding="utf-8").read()
     head, uses, decls = blocks(text)
-    places = Places(names)
+    own = crate + "::" + os.path.relpath(function_folder, f"crates/{crate}/proofs").replace("/", "::")
+    places = Places(names, own)
+    called = {}
+    for _, _, label, callee, _ in names["places"]:
+        if callee:
+            called[label[1]] = callee
     needs = {}
     for (o, n), at in zip(names["needs"], names["asked_at"]):
         needs.setdefault(plain(o), (n, at[0]))
@@ -232,6 +347,13 @@ def convert(crate, function_folder, names, old):
             new, at = found
             todo = []
             body = turn_body(clause[k.end() :], at, places, todo)
+            asked = []
+            if re.match(r"returns($|-)", new):
+                asked = clauses_of(own, "ensures")
+            elif new.endswith("-requires") and new[: -len("-requires")] in called:
+                asked = clauses_of(called[new[: -len("-requires")]], "requires")
+            if len(asked) > 1:
+                body = as_record(body, asked, todo)
             todos += [new + ": " + t for t in todo]
             answers.append("\n".join(comments + [f"pub {new} : goal.{new}"] + unfold + [f"{new} c{k[2]} ={body}"] + (["-- TODO " + "; ".join(todo)] if todo else [])))
             continue
@@ -281,6 +403,8 @@ def convert(crate, function_folder, names, old):
 
 
 def main():
+    for crate in os.listdir("crates"):
+        read_contracts(crate)
     for crate in sys.argv[1:]:
         folder = f"crates/{crate}"
         with tempfile.TemporaryDirectory() as d:

@@ -5,7 +5,7 @@ use Rattle.floors.proofs.Flooring.{not_below_law, not_past, floor_taken, floor_l
 use Rattle.floors.proofs.floor.Goals as goal
 
 pub truncating_f64_to_i64-cut-requires : goal.truncating_f64_to_i64-cut-requires
-truncating_f64_to_i64-cut-requires c = (not_below_law c.args.x c.requires, not_past c.args.x c.requires)
+truncating_f64_to_i64-cut-requires c = record { lower_bound = not_below_law c.args.x c.requires; upper_bound = not_past c.args.x c.requires }
 
 pub overflow_sub-result : goal.overflow_sub-result
 overflow_sub-result c =

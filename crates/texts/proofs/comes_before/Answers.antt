@@ -6,7 +6,7 @@ use native.Mathlib.Omega.{arith}
 use Rattle.texts.proofs.comes_before.Goals as goal
 
 pub loop-i-init : goal.loop-i-init
-loop-i-init c = c.same_front-i.ensures
+loop-i-init c = (c.same_front-i.ensures.upper_bound, c.same_front-i.ensures.b_value)
 
 pub returns-then-a-i : goal.returns-then-a-i
 returns-then-a-i c =

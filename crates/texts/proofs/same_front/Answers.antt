@@ -9,7 +9,7 @@ pub loop-i-init : goal.loop-i-init
 loop-i-init c = (omega arith, refl)
 
 pub returns-then-u64_at : goal.returns-then-u64_at
-returns-then-u64_at c = (omega arith, c.loop-i.invariant.1)
+returns-then-u64_at c = record { upper_bound = omega arith; b_value = c.loop-i.invariant.1 }
 
 pub loop-i-preserved : goal.loop-i-preserved
 loop-i-preserved c =
@@ -20,4 +20,4 @@ loop-i-preserved c =
     )
 
 pub returns : goal.returns
-returns c = (omega arith, c.loop-i.invariant.1)
+returns c = record { upper_bound = omega arith; b_value = c.loop-i.invariant.1 }

@@ -11,10 +11,10 @@ pub loop-at-init : goal.loop-at-init
 loop-at-init c = (λ k a b. absurd (omega arith), (omega arith, omega arith))
 
 pub returns-then-not-sixteen : goal.returns-then-not-sixteen
-returns-then-not-sixteen c = c.loop-at.invariant
+returns-then-not-sixteen c = record { plain = c.loop-at.invariant.0; lower_bound = c.loop-at.invariant.1 }
 
 pub returns-then-not-sixteen-2 : goal.returns-then-not-sixteen-2
-returns-then-not-sixteen-2 c = c.loop-at.invariant
+returns-then-not-sixteen-2 c = record { plain = c.loop-at.invariant.0; lower_bound = c.loop-at.invariant.1 }
 
 pub loop-at-preserved : goal.loop-at-preserved
 loop-at-preserved c =
@@ -27,4 +27,4 @@ loop-at-preserved c =
     )
 
 pub returns : goal.returns
-returns c = c.loop-at.invariant
+returns c = record { plain = c.loop-at.invariant.0; lower_bound = c.loop-at.invariant.1 }

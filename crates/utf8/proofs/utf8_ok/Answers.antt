@@ -14,13 +14,12 @@ use Rattle.utf8.proofs.utf8_ok.Goals as goal
 
 pub loop-i-init : goal.loop-i-init
 loop-i-init c =
-    let e = c.ascii_from-i.ensures in
-    (omega arith, past_plain c.args.s.now 0 c.ascii_from-i.result (omega arith) (omega arith) e.0)
+    (omega arith, past_plain c.args.s.now 0 c.ascii_from-i.result (omega arith) (omega arith) c.ascii_from-i.ensures.plain)
 
 pub returns-then-n-eq0 : goal.returns-then-n-eq0
 returns-then-n-eq0 c =
     let g = c.args in
-    sym (c.loop-i.invariant.1 ∙ c.size-n.ensures.0
+    sym (c.loop-i.invariant.1 ∙ c.size-n.ensures.s_value
     ∙ ap (λ (t : Bool). not t && utf8 [] (drop (c.loop-i.i + c.size-n.result) g.s.now)) (eq-eqb _ _ c.if-n-eq0.true))
 
 pub overflow_add-i : goal.overflow_add-i
@@ -29,11 +28,11 @@ overflow_add-i c = omega arith
 pub loop-i-preserved-then-n-eq1 : goal.loop-i-preserved-then-n-eq1
 loop-i-preserved-then-n-eq1 c =
     let g = c.args in
-    let e = c.ascii_from-i-then-n-eq1.ensures in (
+    (
       omega arith,
-      c.loop-i.invariant.1 ∙ c.size-n.ensures.0
+      c.loop-i.invariant.1 ∙ c.size-n.ensures.s_value
           ∙ ap (λ (t : Bool). not t && utf8 [] (drop (c.loop-i.i + c.size-n.result) g.s.now)) (ne_eqb _ _ c.if-n-eq0.false)
-          ∙ past_plain g.s.now (c.loop-i.i + c.size-n.result) c.ascii_from-i-then-n-eq1.result (omega arith) (omega arith) e.0,
+          ∙ past_plain g.s.now (c.loop-i.i + c.size-n.result) c.ascii_from-i-then-n-eq1.result (omega arith) (omega arith) c.ascii_from-i-then-n-eq1.ensures.plain,
     )
 
 pub loop-i-smaller : goal.loop-i-smaller
@@ -45,7 +44,7 @@ pub loop-i-preserved : goal.loop-i-preserved
 loop-i-preserved c =
     let g = c.args in (
       omega arith,
-      c.loop-i.invariant.1 ∙ c.size-n.ensures.0
+      c.loop-i.invariant.1 ∙ c.size-n.ensures.s_value
           ∙ ap (λ (t : Bool). not t && utf8 [] (drop (c.loop-i.i + c.size-n.result) g.s.now)) (ne_eqb _ _ c.if-n-eq0.false),
     )
 
