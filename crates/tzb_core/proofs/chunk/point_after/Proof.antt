@@ -30,17 +30,11 @@ add-delta-requires c κs = search rules
 enum-known-a : tie.Need-enum-known-a
 enum-known-a c = search rules
 
-refuse-requires : tie.Need-refuse-requires
-refuse-requires c κs = search rules
-
 placed-at-requires : tie.Need-placed-at-requires
 placed-at-requires c κs = search rules
 
 returns : tie.Need-returns
-returns c =
-    let r = c.before in
-    let k = r.before.before in
-    ap refused (c.placed-at.ensures ∙ ap (placed_at _) r.refuse.ensures) ∙ arrive_x _ _ _ _ _ _ (sym (ap summed k.a.given.1) ∙ x-sum k.before.before)
+returns c = let k = c.before.before in ap refused c.placed-at.ensures ∙ arrive_x _ _ _ _ _ _ (sym (ap summed k.a.given.1) ∙ x-sum k.before.before)
 
 enum-known-a-2 : tie.Need-enum-known-a-2
 enum-known-a-2 c = search rules
@@ -51,18 +45,14 @@ add-delta-requires-2 c κs = search rules
 enum-known-b : tie.Need-enum-known-b
 enum-known-b c = search rules
 
-refuse-requires-2 : tie.Need-refuse-requires-2
-refuse-requires-2 c κs = search rules
-
 placed-at-requires-2 : tie.Need-placed-at-requires-2
 placed-at-requires-2 c κs = search rules
 
 returns-2 : tie.Need-returns-2
 returns-2 c =
-    let r = c.before in
-    let k = r.before.before in
+    let k = c.before.before in
     let b = k.before.before in
-    ap refused (c.placed-at2.ensures ∙ ap (placed_at _) r.refuse2.ensures) ∙ arrive_y _ _ _ _ _ _ (x-held b.before.before) _ (sym (ap summed k.b.given.1) ∙ y-sum b)
+    ap refused c.placed-at2.ensures ∙ arrive_y _ _ _ _ _ _ (x-held b.before.before) _ (sym (ap summed k.b.given.1) ∙ y-sum b)
 
 enum-known-b-2 : tie.Need-enum-known-b-2
 enum-known-b-2 c = search rules
@@ -75,8 +65,8 @@ returns-3 c =
     let k = c.before.before in
     arrive_in _ _ _ _ _ _ (x-held k.before.before.before.before.before) _ (y-held k) (sym c.before.point-in-domain.ensures ∙ c.if1.true)
 
-refuse-requires-3 : tie.Need-refuse-requires-3
-refuse-requires-3 c κs = search rules
+refuse-requires : tie.Need-refuse-requires
+refuse-requires c κs = search rules
 
 placed-at-requires-3 : tie.Need-placed-at-requires-3
 placed-at-requires-3 c κs = search rules
@@ -85,7 +75,7 @@ returns-4 : tie.Need-returns-4
 returns-4 c =
     let r = c.before in
     let k = r.before.before.before in
-    ap refused (c.placed-at3.ensures ∙ ap (placed_at _) r.refuse3.ensures)
+    ap refused (c.placed-at3.ensures ∙ ap (placed_at _) r.refuse.ensures)
     ∙ arrive_out _ _ _ _ _ _ (x-held k.before.before.before.before.before) _ (y-held k) (sym r.before.before.point-in-domain.ensures ∙ r.before.if1.false)
 
 pub point-after-spec : {M : Type 1} → statement M
@@ -94,16 +84,14 @@ point-after-spec =
     (tie.spec
     add-delta-requires
     enum-known-a
-    refuse-requires
     placed-at-requires
     enum-known-a-2
     add-delta-requires-2
     enum-known-b
-    refuse-requires-2
     placed-at-requires-2
     enum-known-b-2
     point-in-domain-requires
-    refuse-requires-3
+    refuse-requires
     placed-at-requires-3
     returns
     returns-2

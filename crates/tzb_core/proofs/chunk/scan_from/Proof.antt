@@ -1,6 +1,6 @@
 -- `chunk::scan_from` meets its contract: with the parity so far added to what is left, the whole stays the same.
 -- Assumes nothing.
-use Rattle.std.proofs.Common.{◌≡◌, true, ℤ, sym, ap, ◌∙◌, ⊎_elim, w32, to_z, of_z, rules}
+use Rattle.std.proofs.Common.{◌≡◌, true, ℤ, sym, ap, ◌∙◌, w32, to_z, of_z, rules}
 use Rattle.answer.specs.Answers.{ok}
 use Rattle.answer.specs.Walks.{broken, add}
 use Rattle.plane.specs.Sight.{seen_told}
@@ -12,13 +12,10 @@ use Rattle.chunks.specs.Scan.{scanner}
 use Rattle.chunks.proofs.PointsLaws.{numbers_first, numbers_second, numbers_both, next_no, next_over, next_to}
 use Rattle.chunks.proofs.Turns.{turn_in, no_more, by_on, by_off}
 use Rattle.basics.specs.Signed.{back}
-use Rattle.basics.specs.Parity.{⊻_idr}
 use Rattle.tzb_core.proofs.chunk.scan_from.Statement.{statement}
 use Rattle.tzb_core.proofs.chunk.scan_from.Tie as tie
-use Rattle.answer.proofs.CheckLaws.{told_yes}
 use Rattle.answer.proofs.WalksLaws.{add_none, breaks, hits, ends, keeps}
 use Rattle.tzb_core.specs.Steps.{moved}
-use Rattle.tzb_core.proofs.Skips.{skips}
 use Rattle.chunks.proofs.AlongLaws.{along_by_law, by_left, by_end, by_no}
 use Rattle.tzb_core.specs.Reading.{read_told}
 use Rattle.chunks.specs.Steps.{along_by, onward}
@@ -100,11 +97,11 @@ returns-3 c =
 enum-known-t-2 : tie.Need-enum-known-t-2 invariant-loop decreases-loop
 enum-known-t-2 c = search rules
 
-is-aside-requires : tie.Need-is-aside-requires invariant-loop decreases-loop
-is-aside-requires c κs = search rules
-
-raycast-seg-requires : tie.Need-raycast-seg-requires invariant-loop decreases-loop
-raycast-seg-requires c κs = search rules
+segment-seen-requires : tie.Need-segment-seen-requires invariant-loop decreases-loop
+segment-seen-requires c κs =
+    let t = c.before.before.before in
+    let l = (at_x t.before).before.before.before.before.before in
+    (l.before.band-at.ensures, (l.loop.inv.0, turn_in _ _ _ _ _ (sym (ap moved c.before.t2.given.1) ∙ t.point-after.ensures)))
 
 enum_told : tie.Need-enum-told invariant-loop decreases-loop
 enum_told c = search rules
@@ -112,10 +109,9 @@ enum_told c = search rules
 returns-4 : tie.Need-returns-4 invariant-loop decreases-loop
 returns-4 c =
     let g = c.before.before in
-    let m = g.before.before.before.before in
-    let t = m.before.before in
+    let t = g.before.before.before.before in
     let l = (at_x t.before).before.before.before.before in
-    hits _ _ _ l.before.loop.inv.1 (by_on _ _ _ _ _ _ l.loop-test.taken _ _ (next_to _ _ _ _ _ _ (read t.before) _ (sym (ap moved m.t2.given.1) ∙ t.point-after.ensures)) (sym (ap seen_told c.enum_told.given.1) ∙ g.raycast-seg.ensures.0))
+    hits _ _ _ l.before.loop.inv.1 (by_on _ _ _ _ _ _ l.loop-test.taken _ _ (next_to _ _ _ _ _ _ (read t.before) _ (sym (ap moved g.before.before.t2.given.1) ∙ t.point-after.ensures)) (sym (ap seen_told c.enum_told.given.1) ∙ g.segment-seen.ensures))
 
 enum-known-e : tie.Need-enum-known-e invariant-loop decreases-loop
 enum-known-e c = search rules
@@ -129,22 +125,16 @@ sub-left c = search rules
 loop-less : tie.Need-loop-smaller invariant-loop decreases-loop
 loop-less c = search rules
 
--- what is seen of the segment counts; of one that lies aside nothing is seen
 loop-again : tie.Need-loop-preserved invariant-loop decreases-loop
 unfolding onward
 loop-again c =
-    let m = c.before.before.before in
-    let t = m.before.before in
+    let g = c.before.before.before.before in
+    let t = g.before.before.before.before in
     let l = (at_x t.before).before.before.before.before in
-    let o = l.before.loop in
-    let e = sym (ap moved m.t2.given.1) ∙ t.point-after.ensures in
-    let n = next_to _ _ _ _ _ _ (read t.before) _ e in
-    let i = turn_in _ _ _ _ _ e in (
-      i,
-      ⊎_elim
-          (λ w. keeps _ _ _ o.inv.1 _ _ _ (w.6 ∙ w.5.ensures) (ap (add _) (along_by_law _ _ _ _ _) ∙ by_off _ _ _ _ _ _ l.loop-test.taken _ _ n _ (sym (ap seen_told w.3.given.1) ∙ w.1.ensures.0)))
-          (λ w. keeps _ _ _ o.inv.1 _ _ _ (w.1 ∙ sym (⊻_idr _)) (ap (add _) (along_by_law _ _ _ _ _) ∙ by_off _ _ _ _ _ _ l.loop-test.taken _ _ n _ (skips _ _ _ _ l.before.before.band-at.ensures o.inv.0 i (told_yes _ _ c.before.is-aside.ensures w.0.left))))
-          c.if1.branch,
+    let e = sym (ap moved g.before.before.t2.given.1) ∙ t.point-after.ensures in (
+      turn_in _ _ _ _ _ e,
+      keeps _ _ _ l.before.loop.inv.1 _ _ _ c.plus.ensures
+          (ap (add _) (along_by_law _ _ _ _ _) ∙ by_off _ _ _ _ _ _ l.loop-test.taken _ _ (next_to _ _ _ _ _ _ (read t.before) _ e) _ (sym (ap seen_told c.before.before.e.given.1) ∙ g.segment-seen.ensures)),
     )
 
 at-end-requires : tie.Need-at-end-requires invariant-loop decreases-loop
@@ -153,7 +143,7 @@ at-end-requires c κs = search rules
 returns-5 : tie.Need-returns-5 invariant-loop decreases-loop
 returns-5 c =
     let l = c.before.before.before in
-    ends _ _ _ l.loop.invariant.1 _ (by_end _ _ _ _ _ _ (no_more _ c.before.before.loop-test.false) (sym c.before.at-end.ensures ∙ c.if2.true))
+    ends _ _ _ l.loop.invariant.1 _ (by_end _ _ _ _ _ _ (no_more _ c.before.before.loop-test.false) (sym c.before.at-end.ensures ∙ c.if1.true))
 
 left-over-requires : tie.Need-left-over-requires invariant-loop decreases-loop
 left-over-requires c κs = search rules
@@ -162,7 +152,7 @@ returns-6 : tie.Need-returns-6 invariant-loop decreases-loop
 returns-6 c =
     let l = c.before.before.before.before in
     ap broken c.left_over.ensures
-    ∙ breaks _ _ _ l.loop.invariant.1 _ (by_left _ _ _ _ _ _ (no_more _ c.before.before.before.loop-test.false) (sym c.before.before.at-end.ensures ∙ c.before.if2.false))
+    ∙ breaks _ _ _ l.loop.invariant.1 _ (by_left _ _ _ _ _ _ (no_more _ c.before.before.before.loop-test.false) (sym c.before.before.at-end.ensures ∙ c.before.if1.false))
 
 pub scan-from-spec : {M : Type 1} → statement M
 scan-from-spec =
@@ -184,8 +174,7 @@ scan-from-spec =
     enum-known-t
     returns-3
     enum-known-t-2
-    is-aside-requires
-    raycast-seg-requires
+    segment-seen-requires
     enum_told
     returns-4
     enum-known-e

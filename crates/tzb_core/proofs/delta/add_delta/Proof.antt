@@ -2,7 +2,7 @@
 -- Assumes nothing.
 use Rattle.std.proofs.Common.{◌≡◌, ℤ, ◌+ℤ◌, sym, ap, ◌∙◌, w32, w64, SFits, to_z, of_z, rules}
 use mir.ValLaws.{to_z-of_z}
-use Rattle.answer.specs.Answers.{ok}
+use Rattle.answer.specs.Answers.{ok, refused}
 use Rattle.chunks.specs.Delta.{fits32}
 use Rattle.chunks.proofs.Sums.{widen, wide_eq, sums_fit, fits_small}
 use Rattle.tzb_core.proofs.delta.add_delta.Statement.{statement}
@@ -30,11 +30,14 @@ returns : tie.Need-returns
 unfolding fits32
 returns c = ap ok (to_z-of_z w32 _ (fits_small _ c.if1.true)) ∙ sum_fits _ _ _ (held _ _ c.before.ranges.prev c.before.ranges.delta) c.if1.true
 
+refuse-requires : tie.Need-refuse-requires
+refuse-requires c κs = search rules
+
 returns-2 : tie.Need-returns-2
 unfolding fits32
 returns-2 c =
-    let a = c.before.ranges in
-    sum_over _ _ (sym (ap fits32 (held _ _ a.prev a.delta)) ∙ c.if1.false)
+    let a = c.before.before.ranges in
+    ap refused c.refuse.ensures ∙ sum_over _ _ (sym (ap fits32 (held _ _ a.prev a.delta)) ∙ c.before.if1.false)
 
 pub add-delta-spec : {M : Type 1} → statement M
-add-delta-spec = tie.close (tie.spec cast-x cast-x-2 add-x cast-t9 returns returns-2)
+add-delta-spec = tie.close (tie.spec cast-x cast-x-2 add-x cast-t9 returns refuse-requires returns-2)
