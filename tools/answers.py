@@ -17,7 +17,7 @@ W = r"[^\s(){}.;,@\"«»\[\]\\]+"
 
 
 def plain(name):
-    return re.sub("-+", "-", name.replace("_", "-"))
+    return re.sub("-+", "-", name.replace("_", "-")).lower()
 
 
 def blocks(text):
@@ -99,6 +99,10 @@ class Places:
     def __init__(self, names, own):
         self.of = {}
         self.own = own
+        self.arms = {}
+        for (old, *_), arm in zip(names["places"], names["arms"]):
+            if arm:
+                self.arms[old] = arm
         self.callee = {}
         for old, parent, label, callee, _ in names["places"]:
             self.of[old] = (parent, label)
@@ -121,6 +125,22 @@ class Places:
 
     def parent(self, place):
         return self.of[place][0] if place in self.of else None
+
+    def arm(self, place, rest):
+        """What a match's arm tells: t.given.1 is in-V.is."""
+        p = place
+        while p is not None and p in self.of:
+            if p in self.arms and plain(self.of[p][1][0]) == plain(rest[0]):
+                name, _, fields = self.arms[p]
+                best = None
+                for new, label, old in fields:
+                    if plain(label) == plain(rest[0]) and rest[1 : 1 + len(old)] == old and old:
+                        if best is None or len(old) > best[1]:
+                            best = (new, len(old))
+                if best:
+                    return [name, best[0]] + rest[1 + best[1] :]
+            p = self.of[p][0]
+        return None
 
     def label(self, place, word):
         """The new label of a step by its old one, at a place or above it."""
@@ -156,7 +176,10 @@ def turn_body(body, place, places, todo):
         rest = steps[i:]
         if rest[0] not in ("args", "requires", "ranges", "well_formed", "initial"):
             new = places.label(at, rest[0])
-            if new is None:
+            arm = places.arm(at, rest)
+            if arm:
+                rest = arm
+            elif new is None:
                 todo.append("no step " + rest[0] + " at " + str(at))
             else:
                 rest = [new] + rest[1:]
@@ -346,7 +369,7 @@ def convert(crate, function_folder, names, old):
                 continue
             new, at = found
             todo = []
-            body = turn_body(clause[k.end() :], at, places, todo)
+            body = turn_body(clause[k.end() :], at, places, todo).replace(".type-inv", ".type_inv")
             asked = []
             if re.match(r"returns($|-)", new):
                 asked = clauses_of(own, "ensures")
