@@ -165,18 +165,15 @@ def turn_body(body, place, places, todo):
             return walk(at[0], at[1] + steps)
         i = 0
         while i < len(steps) and steps[i] == "before":
-            up = places.parent(at)
-            if up is None:
-                todo.append("before past the start")
-                return head + "." + ".".join(steps), None
-            at = up
+            # past the start: today's walk has fewer steps
+            at = places.parent(at) or at
             i += 1
         if i == len(steps):
             return "c", at
         rest = steps[i:]
         if rest[0] not in ("args", "requires", "ranges", "well_formed", "initial"):
-            new = places.label(at, rest[0])
-            arm = places.arm(at, rest)
+            new = places.label(at, rest[0]) or places.label(place, rest[0])
+            arm = places.arm(at, rest) or places.arm(place, rest)
             if arm:
                 rest = arm
             elif new is None:
@@ -259,7 +256,7 @@ def parts(text):
         elif ch == "," and depth == 1:
             out.append(text[start:i].strip())
             start = i + 1
-    return out + [text[start:-1].strip()]
+    return [p for p in out + [text[start:-1].strip()] if p]
 
 
 def as_record(body, names, todo):

@@ -7,6 +7,7 @@ use Rattle.entries.specs.Reading.{all_unused}
 use Rattle.entries.proofs.FormsLaws.{part_is}
 use Rattle.entries.proofs.ReadLaws.{forms_many, forms_used, forms_all}
 use native.Mathlib.Omega.{arith}
+use Rattle.std.proofs.lemmas.Bool.{not_from_true}
 use Rattle.std.proofs.lemmas.Bool.{not_from_false}
 use Rattle.entry_bytes.proofs.is_of_forms.Goals as goal
 
@@ -22,7 +23,5 @@ slice_bounds-is_formed-end c = sym (length-take-le _ _ (omega arith))
 
 pub returns : goal.returns
 returns c =
-    let start = u.before.before.before.before in
-    forms_all _ _ _ _ _ (omega (arith, c.if1.false, start.requires))
-    (sym (ap all_unused (part_is start.args.held.now start.args.count)) ∙ told_yes _ _ c.all-unused.ensures c.if2.false) _ c.is_formed.ensures
--- TODO before past the start; no step if1 at After-shared_slice_known; no step all-unused at After-all_unused-arg; no step if2 at After-all_unused
+    forms_all _ _ _ _ _ (omega (arith, c.if-held-count.false, c.requires))
+    (sym (ap all_unused (part_is c.args.held.now c.args.count)) ∙ told_yes _ _ c.all_unused.ensures (not_from_true _ c.if-not-all_unused.false)) _ c.is_formed.ensures

@@ -51,4 +51,4 @@ returns c =
     let lent = c.args.zones.now in
     let h = told_yes _ _ c.is_entry.ensures (not_from_true _ c.if-not-is_entry.false) in
     let count = count_at_law s c.wide8-n.ensures.0 c.wide8.ensures.0 in
-    let room : get_or s (8 + 2 * c.args.places) 0 ≤ length lent = omega (arith, c.if-zones-n.false, count) in record { result_value = read_head c.args.places s (length lent) h room _ c.point_in.ensures _ _ (count_at_law s refl c.wide8.ensures.0) (reason_at s refl c.wide8.ensures.0); memory = (c.load_places.ensures ∙ ap (λ (k : ℕ). row_in (replicate k 2) s 8 ++ drop k lent) count ∙ read_left c.args.places s (length lent) h room lent, ) }
+    let room : get_or s (8 + 2 * c.args.places) 0 ≤ length lent = omega (arith, c.if-zones-n.false, count) in record { result_value = read_head c.args.places s (length lent) h room _ c.point_in.ensures _ _ (count_at_law s refl c.wide8.ensures.0) (reason_at s refl c.wide8.ensures.0); memory = c.load_places.ensures ∙ ap (λ (k : ℕ). row_in (replicate k 2) s 8 ++ drop k lent) count ∙ read_left c.args.places s (length lent) h room lent }
