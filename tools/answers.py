@@ -117,8 +117,14 @@ class Places:
             names, at = clauses_of(self.callee[rest[0]], rest[1]), 2
         else:
             return rest
-        if len(names) > 1 and len(rest) > at and rest[at].isdigit() and int(rest[at]) < len(names):
-            rest = rest[:at] + [names[int(rest[at])]] + rest[at + 1 :]
+        if len(names) > 1 and len(rest) > at and rest[at] in ("0", "1"):
+            # several clauses were pairs within pairs
+            i, j = 0, at
+            while j < len(rest) and rest[j] == "1" and i < len(names) - 1:
+                i, j = i + 1, j + 1
+            if j < len(rest) and rest[j] == "0" and i < len(names) - 1:
+                j += 1
+            rest = rest[:at] + [names[i]] + rest[j:]
         elif len(names) > 1 and len(rest) == at:
             rest = rest + [None, names]
         return rest
@@ -273,6 +279,8 @@ def as_record(body, names, todo):
                     break
         before = text[:i].rstrip()
         got = parts(text[i:])
+        while got and len(got) < len(names) and got[-1].startswith("(") and parts(got[-1]):
+            got = got[:-1] + parts(got[-1])
         if got and len(got) >= len(names) and (before == "" or re.search(r"(^|\s)in$", before)):
             if len(got) > len(names):
                 got = got[: len(names) - 1] + ["(" + ", ".join(got[len(names) - 1 :]) + ")"]

@@ -10,15 +10,12 @@ use Rattle.tzb_core.proofs.chunk.is_beyond.Goals as goal
 three : (f : ℤ → ℤ → ℤ → Bool) (a b c : ℤ) → SFits w32 a → SFits w32 b → SFits w32 c → f (to_z w32 (of_z w32 a)) (to_z w32 (of_z w32 b)) (to_z w32 (of_z w32 c)) ≡ f a b c
 three f a b c h i j = rw (to_z-of_z w32 a h, to_z-of_z w32 b i, to_z-of_z w32 c j)
 
--- TODO
-below : (c : tie.After-both-below) → both_below c.before.args.u c.before.args.v c.before.args.lo ≡ c.both_below.result
-below c = let a = c.before in sym (three both_below _ _ _ a.ranges.u a.ranges.v a.ranges.lo) ∙ sym c.both_below.ensures
-
 pub returns-then-both_below : goal.returns-then-both_below
-returns-then-both_below c = or_yes _ _ (below c ∙ c.if-both_below.true)
--- TODO a whole place is passed on: c.before
+returns-then-both_below c =
+    or_yes _ _ (sym (three both_below _ _ _ c.ranges.u c.ranges.v c.ranges.lo) ∙ sym c.both_below.ensures ∙ c.if-both_below.true)
 
 pub returns : goal.returns
 returns c =
-    or_no _ _ _ (below c ∙ c.if-both_below.false) (c.both_above.ensures ∙ three both_above _ _ _ c.ranges.u c.ranges.v c.ranges.hi)
--- TODO a whole place is passed on: c.before.before
+    or_no _ _ _
+    (sym (three both_below _ _ _ c.ranges.u c.ranges.v c.ranges.lo) ∙ sym c.both_below.ensures ∙ c.if-both_below.false)
+    (c.both_above.ensures ∙ three both_above _ _ _ c.ranges.u c.ranges.v c.ranges.hi)

@@ -1,6 +1,6 @@
 -- `chunk::numbers` meets its contract: one number after the other.
 -- Assumes nothing.
-use Rattle.std.proofs.Common.{ℤ, sym, ap, ◌∙◌, ap₂, w32}
+use Rattle.std.proofs.Common.{ℤ, sym, ap, ◌∙◌, ap₂, w32, rules}
 use Rattle.answer.specs.Answers.{ok}
 use Rattle.basics.specs.Signed.{back}
 use Rattle.plane.specs.Places.{point}
@@ -17,5 +17,5 @@ returns-in-Refused-b c =
 
 pub returns-in-Number-b : goal.returns-in-Number-b
 returns-in-Number-b c =
-    ap₂ (λ (x y : ℤ). ok (point x y, c.in-Number.n.at, c.in-Number-b.m.at)) (back w32 _ c.known_told-in-Number-1.given.0.1) (back w32 _ c.known_told-in-Number-b-1.given.0.1)
+    ap₂ (λ (x y : ℤ). ok (point x y, c.in-Number.n.at, c.in-Number-b.m.at)) (back w32 c.in-Number.x (search rules)) (back w32 c.in-Number-b.y (search rules))
     ∙ numbers_both _ _ _ _ _ _ (sym (ap read_told c.in-Number.is) ∙ c.varint-a.ensures) (sym (ap read_told c.in-Number-b.is) ∙ c.varint-b.ensures)

@@ -19,8 +19,7 @@ unfolding next_up
 returns-then-b-eq9218868437227405312 c = no_is _ _ _ _ c.if-x.false (yes_is _ _ _ _ (eq-eqb _ _ c.if-b-eq9218868437227405312.true) refl)
 
 pub float_from_bits-result : goal.float_from_bits-result
-float_from_bits-result c = subst (λ (b : ℕ). T (not (nan_bits binary64 b))) (sym c.step.ensures) (step_not_nan c.args.x (subst T (sym c.well-formed.0.1) tt) c.if-x.false (ne_eqb _ _ c.if-b-eq9218868437227405312.false))
--- TODO no step well-formed at Start
+float_from_bits-result c = subst (λ (b : ℕ). T (not (nan_bits binary64 b))) (sym c.step.ensures) (step_not_nan c.args.x (subst T (sym c.well_formed.0.1) tt) c.if-x.false (ne_eqb _ _ c.if-b-eq9218868437227405312.false))
 
 pub returns : goal.returns
 unfolding next_up
