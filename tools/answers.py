@@ -17,7 +17,7 @@ W = r"[^\s(){}.;,@\"«»\[\]\\]+"
 
 
 def plain(name):
-    return re.sub("-+", "-", name.replace("_", "-")).lower()
+    return re.sub("-+", "-", re.sub("_lem$", "", name).replace("_", "-")).lower()
 
 
 def blocks(text):
@@ -104,6 +104,7 @@ class Places:
             if arm:
                 self.arms[old] = arm
         self.callee = {}
+        self.params = names["params"]
         for old, parent, label, callee, _ in names["places"]:
             self.of[old] = (parent, label)
             if callee:
@@ -115,6 +116,15 @@ class Places:
             names, at = clauses_of(self.own, "requires"), 1
         elif len(rest) > 1 and rest[1] in ("ensures", "requires") and rest[0] in self.callee:
             names, at = clauses_of(self.callee[rest[0]], rest[1]), 2
+        elif len(rest) > 2 and rest[1] in ("auto", "new") and rest[2] in ("0", "1") and rest[0] in self.callee:
+            # what is lent to a call went by its place among the arguments
+            params = self.params.get(self.callee[rest[0]], [])
+            i, j = 0, 2
+            while j < len(rest) and rest[j] == "1" and i < len(params) - 1:
+                i, j = i + 1, j + 1
+            if j < len(rest) and rest[j] == "0" and i < len(params) - 1:
+                j += 1
+            return rest[:2] + [params[i]] + rest[j:] if params else rest
         else:
             return rest
         if len(names) > 1 and len(rest) > at and rest[at] in ("0", "1"):
@@ -177,7 +187,8 @@ def turn_body(body, place, places, todo):
         if i == len(steps):
             return "c", at
         rest = steps[i:]
-        if rest[0] not in ("args", "requires", "ranges", "well_formed", "initial"):
+        rest[0] = {"well-formed": "well_formed", "type-inv": "type_inv"}.get(rest[0], rest[0])
+        if rest[0] not in ("type_inv", "args", "requires", "ranges", "well_formed", "initial"):
             new = places.label(at, rest[0]) or places.label(place, rest[0])
             arm = places.arm(at, rest) or places.arm(place, rest)
             if arm:
