@@ -26,13 +26,8 @@ returns-in-Refused-t c =
     (by_no _ _ _ _ _ _ c.loop-left-test.true _
     (read_over _ _ _ c.in-Number.x _ c.in-Number.ensures c.in-Number-d.y _ c.in-Number-d.ensures (search rules) (search rules) _ c.in-Refused-t.ensures))
 
-pub segment_seen-e-requires : goal.segment_seen-e-requires
-segment_seen-e-requires c =
-    record {
-      around = c.band_at-b.ensures;
-      u_value = c.loop-left.invariant.0;
-      v_value = turn_in _ _ _ _ _ c.in-To.ensures;
-    }
+pub segment_seen-e-requires-clause-v_value : goal.segment_seen-e-requires-clause-v_value
+segment_seen-e-requires-clause-v_value c = turn_in _ _ _ _ _ c.in-To.ensures
 
 pub returns-in-On : goal.returns-in-On
 returns-in-On c =
