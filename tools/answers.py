@@ -17,7 +17,7 @@ W = r"[^\s(){}.;,@\"«»\[\]\\]+"
 
 
 def plain(name):
-    return re.sub("-+", "-", name.replace("_", "-"))
+    return re.sub("-+", "-", re.sub("_lem$", "", name).replace("_", "-")).lower()
 
 
 def blocks(text):
@@ -99,7 +99,12 @@ class Places:
     def __init__(self, names, own):
         self.of = {}
         self.own = own
+        self.arms = {}
+        for (old, *_), arm in zip(names["places"], names["arms"]):
+            if arm:
+                self.arms[old] = arm
         self.callee = {}
+        self.params = names["params"]
         for old, parent, label, callee, _ in names["places"]:
             self.of[old] = (parent, label)
             if callee:
@@ -111,16 +116,47 @@ class Places:
             names, at = clauses_of(self.own, "requires"), 1
         elif len(rest) > 1 and rest[1] in ("ensures", "requires") and rest[0] in self.callee:
             names, at = clauses_of(self.callee[rest[0]], rest[1]), 2
+        elif len(rest) > 2 and rest[1] in ("auto", "new") and rest[2] in ("0", "1") and rest[0] in self.callee:
+            # what is lent to a call went by its place among the arguments
+            params = self.params.get(self.callee[rest[0]], [])
+            i, j = 0, 2
+            while j < len(rest) and rest[j] == "1" and i < len(params) - 1:
+                i, j = i + 1, j + 1
+            if j < len(rest) and rest[j] == "0" and i < len(params) - 1:
+                j += 1
+            return rest[:2] + [params[i]] + rest[j:] if params else rest
         else:
             return rest
-        if len(names) > 1 and len(rest) > at and rest[at].isdigit() and int(rest[at]) < len(names):
-            rest = rest[:at] + [names[int(rest[at])]] + rest[at + 1 :]
+        if len(names) > 1 and len(rest) > at and rest[at] in ("0", "1"):
+            # several clauses were pairs within pairs
+            i, j = 0, at
+            while j < len(rest) and rest[j] == "1" and i < len(names) - 1:
+                i, j = i + 1, j + 1
+            if j < len(rest) and rest[j] == "0" and i < len(names) - 1:
+                j += 1
+            rest = rest[:at] + [names[i]] + rest[j:]
         elif len(names) > 1 and len(rest) == at:
             rest = rest + [None, names]
         return rest
 
     def parent(self, place):
         return self.of[place][0] if place in self.of else None
+
+    def arm(self, place, rest):
+        """What a match's arm tells: t.given.1 is in-V.is."""
+        p = place
+        while p is not None and p in self.of:
+            if p in self.arms and plain(self.of[p][1][0]) == plain(rest[0]):
+                name, _, fields = self.arms[p]
+                best = None
+                for new, label, old in fields:
+                    if plain(label) == plain(rest[0]) and rest[1 : 1 + len(old)] == old and old:
+                        if best is None or len(old) > best[1]:
+                            best = (new, len(old))
+                if best:
+                    return [name, best[0]] + rest[1 + best[1] :]
+            p = self.of[p][0]
+        return None
 
     def label(self, place, word):
         """The new label of a step by its old one, at a place or above it."""
@@ -145,18 +181,19 @@ def turn_body(body, place, places, todo):
             return walk(at[0], at[1] + steps)
         i = 0
         while i < len(steps) and steps[i] == "before":
-            up = places.parent(at)
-            if up is None:
-                todo.append("before past the start")
-                return head + "." + ".".join(steps), None
-            at = up
+            # past the start: today's walk has fewer steps
+            at = places.parent(at) or at
             i += 1
         if i == len(steps):
             return "c", at
         rest = steps[i:]
-        if rest[0] not in ("args", "requires", "ranges", "well_formed", "initial"):
-            new = places.label(at, rest[0])
-            if new is None:
+        rest[0] = {"well-formed": "well_formed", "type-inv": "type_inv"}.get(rest[0], rest[0])
+        if rest[0] not in ("type_inv", "args", "requires", "ranges", "well_formed", "initial"):
+            new = places.label(at, rest[0]) or places.label(place, rest[0])
+            arm = places.arm(at, rest) or places.arm(place, rest)
+            if arm:
+                rest = arm
+            elif new is None:
                 todo.append("no step " + rest[0] + " at " + str(at))
             else:
                 rest = [new] + rest[1:]
@@ -236,7 +273,7 @@ def parts(text):
         elif ch == "," and depth == 1:
             out.append(text[start:i].strip())
             start = i + 1
-    return out + [text[start:-1].strip()]
+    return [p for p in out + [text[start:-1].strip()] if p]
 
 
 def as_record(body, names, todo):
@@ -253,6 +290,8 @@ def as_record(body, names, todo):
                     break
         before = text[:i].rstrip()
         got = parts(text[i:])
+        while got and len(got) < len(names) and got[-1].startswith("(") and parts(got[-1]):
+            got = got[:-1] + parts(got[-1])
         if got and len(got) >= len(names) and (before == "" or re.search(r"(^|\s)in$", before)):
             if len(got) > len(names):
                 got = got[: len(names) - 1] + ["(" + ", ".join(got[len(names) - 1 :]) + ")"]
@@ -346,7 +385,7 @@ def convert(crate, function_folder, names, old):
                 continue
             new, at = found
             todo = []
-            body = turn_body(clause[k.end() :], at, places, todo)
+            body = turn_body(clause[k.end() :], at, places, todo).replace(".type-inv", ".type_inv")
             asked = []
             if re.match(r"returns($|-)", new):
                 asked = clauses_of(own, "ensures")

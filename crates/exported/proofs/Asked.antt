@@ -2,7 +2,7 @@
 -- Assumes nothing.
 use Prim.Native.Nat.{ℕ, zero, suc, ◌+◌, ◌-◌, ◌*◌, ◌%◌}
 use mathlib.Core.Path.{◌≡◌, refl, sym, ap, subst, ◌∙◌}
-use mathlib.Core.Logic.{inl, inr}
+use mathlib.Core.Logic.{◌⊎◌, inl, inr}
 use native.Mathlib.Omega.{arith}
 use mathlib.Core.Bool.{Bool, true, false, ◌&&◌, ◌||◌}
 use mathlib.Core.List.{List, [], ◌∷◌}
@@ -26,8 +26,8 @@ use Rattle.answer.proofs.AnswersLaws.{then_inv}
 use Rattle.answer.proofs.RefusalsLaws.{counted_plain}
 use Rattle.answer.specs.Walks.{Walk, broken, on, off, add, ◌go◌, ◌yields◌, done, walk_behind}
 use Rattle.chunks.specs.Points.{first_of}
-use Rattle.chunks.specs.Broken.{Broken, Asks}
-use Rattle.chunks.proofs.Breaking.{Stopped, first_no, first_told, walk_so}
+use Rattle.chunks.specs.Broken.{Broken}
+use Rattle.chunks.proofs.Breaking.{Stopped, first_no, walk_so}
 use Rattle.chunks.specs.Scan.{scanner, scan_of}
 use Rattle.chunks.specs.Decode.{decoder, points_of}
 use Rattle.rays.specs.Ray.{ray_of}
@@ -167,7 +167,7 @@ module _ (s : List ℕ) (P : Refusal → Type 0) (plainly : (n : ℕ) → Plain 
 
   module _
       (o : Opened)
-      (breaks : (i : ℕ) (v : ChunkRecord) → ok v ≡ chunk_at o s i → (e : ℕ) → ok e ≡ end_of o s i → (b : List ℕ) → ok b ≡ span s (start_of o v) e → (c : ℕ) (r : Refusal) → Asks v.count c r.number → Broken b 0 c r → P (counted_from (start_of o v) r))
+      (breaks : (i : ℕ) (v : ChunkRecord) → ok v ≡ chunk_at o s i → (e : ℕ) → ok e ≡ end_of o s i → (b : List ℕ) → ok b ≡ span s (start_of o v) e → (c : ℕ) → (c ≡ v.count) ⊎ (c ≡ 1) → (r : Refusal) → Broken b 0 c r → P (counted_from (start_of o v) r))
     where
       end_q : (i : ℕ) → Q (end_of o s i)
       unfolding end_of
@@ -178,14 +178,14 @@ module _ (s : List ℕ) (P : Refusal → Type 0) (plainly : (n : ℕ) → Plain 
         module _ (b : List ℕ) (h : ok b ≡ span s (start_of o v) e) where
           stopped : (r : Refusal) → Stopped b 0 v.count r → Own (start_of o v) r
           stopped r (inl k) = subst P (counted_plain (start_of o v) 32 ∙ ap (counted_from (start_of o v)) (sym k)) (plainly 32 refl)
-          stopped r (inr k) = breaks i v f e g b h v.count r (inl refl) k
+          stopped r (inr k) = breaks i v f e g b h v.count (inl refl) r k
 
           alone_q : Q (behind (start_of o v) (first_of b))
           alone_q = lifted (start_of o v) (first_of b) (own (first_of b) refl)
             where
               own : (x : Answer (I32Point × ℕ)) → x ≡ first_of b → Only (Own (start_of o v)) x
               own (ok t) k = given t
-              own (refused r) k = record { by = breaks i v f e g b h 1 r (inr (refl, first_told b 0 r k)) (first_no b 0 1 (omega arith) r k) }
+              own (refused r) k = record { by = breaks i v f e g b h 1 (inr refl) r (first_no b 0 1 (omega arith) r k) }
 
           points_q : Q (behind (start_of o v) (points_of b v.count))
           unfolding points_of

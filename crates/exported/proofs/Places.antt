@@ -20,7 +20,7 @@ use Rattle.answer.specs.Refusals.{no_place, refusal, placed_at, counted_from}
 use Rattle.answer.specs.Answers.{Answer, ok, refused, ◌then◌, how_many}
 use Rattle.answer.specs.Checks.{same}
 use Rattle.answer.proofs.AnswersLaws.{need_inv, ok_inv}
-use Rattle.chunks.specs.Broken.{Broken, Asks}
+use Rattle.chunks.specs.Broken.{Broken}
 use Rattle.chunks.proofs.Breaking.{told}
 use Rattle.opened.specs.declared.Opened.{Opened}
 use Rattle.reader_records.specs.declared.ChunkRecord.{ChunkRecord}
@@ -74,10 +74,10 @@ by_plain o file n h =
 
 module _ (file : List ℕ) (few : length file < 0x8000_0000_0000_0000) where
   -- of a record that is the one meant
-  by_broken : (base o : Opened) → o ≡ base → (i : ℕ) (v : ChunkRecord) → ok v ≡ chunk_at o file i → (e : ℕ) → ok e ≡ end_of o file i → (b : List ℕ) → ok b ≡ span file (start_of o v) e → (c : ℕ) (r : Refusal) → Asks v.count c r.number → Broken b 0 c r
+  by_broken : (base o : Opened) → o ≡ base → (i : ℕ) (v : ChunkRecord) → ok v ≡ chunk_at o file i → (e : ℕ) → ok e ≡ end_of o file i → (b : List ℕ) → ok b ≡ span file (start_of o v) e → (c : ℕ) → (c ≡ v.count) ⊎ (c ≡ 1) → (r : Refusal) → Broken b 0 c r
       → Placed base file (counted_from (start_of o v) r)
   unfolding counted_from
-  by_broken base o same i v f e g b h c r w k =
+  by_broken base o same i v f e g b h c w r k =
       let s = span_in file (start_of o v) e b h in
       let n : length (take e file) ≡ e = length-take-le e file s.1 in
       let j = broken_file file (omega (arith, few)) (start_of o v) e b h c r k in

@@ -5,6 +5,7 @@ use native.Mathlib.Omega.{arith}
 use mathlib.Core.Path.{◌≡◌}
 use mathlib.Core.Bool.{◌&&◌, ◌||◌}
 use mathlib.Core.List.{List, []}
+use mathlib.Core.Logic.{◌⊎◌}
 use lib.Dec.{leb}
 use lib.IntN.{ℤ}
 use lib.Ieee.{Float}
@@ -13,7 +14,7 @@ use Rattle.plane.specs.declared.I32Point.{I32Point}
 use Rattle.answer.specs.declared.Refusal.{Refusal}
 use Rattle.answer.specs.Refusals.{refusal, counted_from}
 use Rattle.answer.specs.Answers.{ok}
-use Rattle.chunks.specs.Broken.{Broken, Asks}
+use Rattle.chunks.specs.Broken.{Broken}
 use Rattle.chunks.proofs.Breaking.{told}
 use Rattle.opened.specs.declared.Opened.{Opened}
 use Rattle.reader_named.specs.Asked.{bounds_at}
@@ -35,9 +36,9 @@ by_plain : (n : ℕ) → Plain n → Numbered 46 (refusal n)
 by_plain n h = numbered 46 n (and_l (leb 1 n && leb n 46) (leb n 37 || leb 44 n) h)
 
 module _ (o : Opened) (s : List ℕ) where
-  by_broken : (i : ℕ) (v : ChunkRecord) → ok v ≡ chunk_at o s i → (e : ℕ) → ok e ≡ end_of o s i → (b : List ℕ) → ok b ≡ span s (start_of o v) e → (c : ℕ) (r : Refusal) → Asks v.count c r.number → Broken b 0 c r → Numbered 46 (counted_from (start_of o v) r)
+  by_broken : (i : ℕ) (v : ChunkRecord) → ok v ≡ chunk_at o s i → (e : ℕ) → ok e ≡ end_of o s i → (b : List ℕ) → ok b ≡ span s (start_of o v) e → (c : ℕ) → (c ≡ v.count) ⊎ (c ≡ 1) → (r : Refusal) → Broken b 0 c r → Numbered 46 (counted_from (start_of o v) r)
   unfolding counted_from
-  by_broken i v f e g b h c r w k = let t = told b 0 c (omega arith) r k in record { least = omega (arith, t.least); greatest = omega (arith, t.greatest) }
+  by_broken i v f e g b h c w r k = let t = told b 0 c (omega arith) r k in record { least = omega (arith, t.least); greatest = omega (arith, t.greatest) }
 
 pub record-q : (held : List ℕ) → Tabled 46 (record_of held)
 record-q held = A.record-q [] (Numbered 46) by_plain held

@@ -5,10 +5,9 @@
 --   a call and its answer     `TzbAsk`, `TzbAskPlace`, .., specs/Calls: what the export's contract allows. What is lent to the second is lent as `&`: nobody can write to it
 --   the record                `opened_is file`, the only record that a file can open to (tzb/specs/Opening); `opened_in held`, what 84 bytes are read as (tzb_record/specs/Layout)
 --   a chunk                   `chunk_at`, its record by its number (reader_records/specs/Records); `start_of`, `end_of`, from where up to where it stands (reader_chunks/specs/Chunks)
---   all points or the first   `Asks`, chunks/specs/Broken
---   where it is broken        `Broken`, there too, row by row: the place is that of the number that was being read, of the number whose sum left i32, of the y number, or of the first byte left over
+--   where it is broken        `Broken`, chunks/specs/Broken, row by row: the place is that of the number that was being read, of the number whose sum left i32, of the y number, or of the first byte left over
 -- Assumes nothing.
-use Rattle.std.specs.Prelude.{ℕ, ◌≤◌, ◌<◌, ◌≡◌, List, ℤ, pos, Float, length, take}
+use Rattle.std.specs.Prelude.{ℕ, ◌≤◌, ◌<◌, ◌≡◌, List, ◌⊎◌, ℤ, pos, Float, length, take}
 use Rattle.answer.specs.Refusals.{refusal, placed_at}
 use Rattle.answer.specs.Answers.{ok}
 use Rattle.opened.specs.declared.Opened.{Opened}
@@ -17,7 +16,7 @@ use Rattle.reader_records.specs.Records.{chunk_at}
 use Rattle.reader_chunks.specs.Chunks.{start_of, end_of}
 use Rattle.tzb_record.specs.Layout.{opened_in}
 use Rattle.tzb.specs.Opening.{opened_is}
-use Rattle.chunks.specs.Broken.{Broken, Asks}
+use Rattle.chunks.specs.Broken.{Broken}
 use Rattle.exported.specs.Calls.{TzbContains, TzbLookup, TzbAsk, TzbAskAll, TzbDecode, TzbContainsStriped, TzbAskStriped, TzbAskAllStriped, TzbContainsPlace, TzbLookupPlace, TzbAskPlace, TzbAskAllPlace, TzbDecodePlace, TzbContainsStripedPlace, TzbAskStripedPlace, TzbAskAllStripedPlace}
 use Rattle.exported.specs.Words.{none, refusing}
 
@@ -29,9 +28,9 @@ pub record ChunkBroken (o : Opened) (file : List ℕ) (n p : ℕ) : Type 0 where
   pub end : ℕ
   pub ends : ok end ≡ end_of o file chunk
   pub inside : end ≤ length file
-  -- all its points are asked, or its first alone, which 41 and 43 never refuse
+  -- all its points are asked, or its first alone
   pub points : ℕ
-  pub asked : Asks entry.count points n
+  pub asked : (points ≡ entry.count) ⊎ (points ≡ 1)
   pub broken : Broken (take end file) (start_of o entry) points (placed_at p (refusal n))
   -- the place of a byte of the chunk, or its end
   pub least : start_of o entry ≤ p

@@ -1,13 +1,16 @@
 -- What follows from the definitions of stripes: the cases of the code; a height's stripe is one of the group's, and the greater height has no lesser one; a box stands in the stripe of each of its heights.
 -- Assumes nothing.
-use Prim.Native.Nat.{ℕ, zero, suc, ◌+◌, ◌-◌, ◌*◌, ◌/◌, ◌≤◌, ◌<◌, min, max}
+use Prim.Native.Nat.{ℕ, zero, suc, ◌+◌, ◌-◌, ◌*◌, ◌/◌, ◌^◌, ◌≤◌, ◌<◌, min, max}
 use native.Mathlib.Omega.{arith}
 use native.Mathlib.Nat.{div-zero, div-mul-le_self, le-div_iff_mul-le, div-lt_iff_lt-mul, mul-le-mul_right, mul-lt-mul_of_pos_right, min-eq_left, min-eq_right, mul_comm, mul-le-mul}
 use mathlib.Core.Path.{◌≡◌, refl, sym, ap₂, ◌∙◌}
 use mathlib.Core.Bool.{true}
 use borrow.Author.Tests.{lt-ltb, le-ltb, le-leb}
 use lib.IntN.{ℤ}
-use lib.Signed.{le_z}
+use lib.Signed.{le_z, mag}
+use mir.Syntax.{w32}
+use mir.Val.{to_z, of_z, hbits}
+use Rattle.basics.specs.Signed.{back}
 use Rattle.basics.specs.Truth.{and_i}
 use Rattle.boxes.specs.declared.BBox.{BBox}
 use Rattle.stripes.specs.declared.Striping.{Striping}
@@ -21,6 +24,10 @@ div_rises a b (suc d) h = (le-div_iff_mul-le {k = suc d} {x = a / suc d} {y = b}
 
 min_rises : (a b c : ℕ) → a ≤ b → min a c ≤ min b c
 min_rises a b c h = omega arith
+
+-- how far a height lies above the least, where the code has both by their bits
+pub above_back : (least y : ℤ) (n : ℕ) → n ≡ above (to_z w32 (of_z w32 least)) (to_z w32 (of_z w32 y)) → mag least < 2 ^ hbits w32 → mag y < 2 ^ hbits w32 → n ≡ above least y
+above_back least y n e h k = e ∙ ap₂ above (back w32 least h) (back w32 y k)
 
 -- ---- the stripe of a height
 module _ (t : Striping) (y : ℤ) where

@@ -3,7 +3,6 @@
 use Rattle.std.proofs.Common.{◌≡◌, ℕ, ℤ, sym, refl, ◌∙◌}
 use Rattle.basics.specs.Determined.{Determined}
 use Rattle.answer.proofs.AnswersLaws.{read_back, one_answer}
-use Rattle.answer.specs.declared.Refusal.{Refusal}
 use Rattle.answer.specs.Answers.{Answer}
 use Rattle.tzb_core.specs.declared.delta.Sum.{Sum}
 use Rattle.tzb_core.specs.declared.delta.Sum.TheVariants as S
@@ -16,13 +15,9 @@ use Rattle.tzb_core.proofs.varint.Place.varint.Reads as varint-reads
 use Rattle.tzb_core.specs.Reading.{read_told, summed}
 
 one_sum : (a b : Sum) (x : Answer ℤ) → summed a ≡ x → summed b ≡ x → a ≡ b
-one_sum = one_answer summed S.Of number back
+one_sum = one_answer summed S.Of S.Refused back
   where
-    -- the number alone
-    number : Refusal → Sum
-    number r = S.Refused r.number
-
-    back : (a : Sum) → read_back S.Of number (summed a) ≡ a
+    back : (a : Sum) → read_back S.Of S.Refused (summed a) ≡ a
     back (S.Of n) = refl
     back (S.Refused k) = refl
 

@@ -1,7 +1,7 @@
 -- What the enums of the code say: of a number, of a sum, of a point, of a scan, of a trace and of a count, and of the place after it. What each is stands in varints and in chunks.
 -- Assumes nothing.
 use Rattle.std.specs.Prelude.{ℕ, Bool, ℤ}
-use Rattle.answer.specs.Answers.{Answer, ok, refused, no}
+use Rattle.answer.specs.Answers.{Answer, ok, refused}
 use Rattle.tzb_core.specs.declared.varint.Read.{Read}
 use Rattle.tzb_core.specs.declared.varint.Read.TheVariants as R
 use Rattle.tzb_core.specs.declared.delta.Sum.{Sum}
@@ -25,7 +25,7 @@ read_told (R.Refused r) = refused r
 
 abbrev pub summed : Sum → Answer ℤ
 summed (D.Of z) = ok z
-summed (D.Refused n) = no n
+summed (D.Refused r) = refused r
 
 abbrev pub spotted : Spotted → Answer (I32Point × ℕ)
 spotted (S.At q n) = ok (q, n.at)

@@ -1,5 +1,5 @@
 // Chunk code: the points of one chunk's bytes, the scan of its segments, their count, and the trace of a box. The bytes s are that chunk's own.
-ghost use Rattle.std.specs.Prelude.{◌≡◌, ◌+◌, ◌*◌, ◌<◌, ◌≤◌, true, ◌||◌, ◌∷◌, ◌++◌, length, take, drop, set, slice_set};
+ghost use Rattle.std.specs.Prelude.{◌≡◌, ◌+◌, ◌*◌, ◌<◌, ◌≤◌, true, ◌||◌, ◌∷◌, ◌++◌, length, take, drop, slice_set};
 ghost use Rattle.answer.specs.Refusals.{refusal, placed_at};
 ghost use Rattle.answer.specs.Answers.{about, checked_told, outcome};
 ghost use Rattle.answer.specs.Checks.{claim};
@@ -105,11 +105,11 @@ fn point_after(q: I32Point, x: i32, y: i32, i: Place, j: Place) -> Moved
 {
     let a = delta::add_delta(q.x, x);
     match a {
-        Sum::Refused(n) => Moved::Refused(answer::placed_at(answer::refuse(n), i.at)),
+        Sum::Refused(k) => Moved::Refused(answer::placed_at(k, i.at)),
         Sum::Of(u) => {
             let b = delta::add_delta(q.y, y);
             match b {
-                Sum::Refused(n) => Moved::Refused(answer::placed_at(answer::refuse(n), j.at)),
+                Sum::Refused(k) => Moved::Refused(answer::placed_at(k, j.at)),
                 Sum::Of(v) => {
                     let t = I32Point { x: u, y: v };
                     if boxes::point_in_domain(t) {
@@ -239,6 +239,19 @@ fn is_aside(b: Band, u: I32Point, v: I32Point) -> bool
     false
 }
 
+// What the point sees of the segment from u to v.
+fn segment_seen(b: Band, u: I32Point, v: I32Point, p: Point) -> Seen
+    requires around { Around b p.y }
+    requires u_value { in_domain u ≡ true }
+    requires v_value { in_domain v ≡ true }
+    ensures { seen_told result ≡ ray_of u v p }
+{
+    if is_aside(b, u, v) {
+        return Seen::Off(false);
+    }
+    raycast::raycast_seg(u, v, p)
+}
+
 // From the first point on, over that many points more.
 fn scan_from(s: &[u8], p: Point, count: u16, first: I32Point, from: Place) -> Scan
     requires { in_domain first ≡ true }
@@ -268,15 +281,13 @@ fn scan_from(s: &[u8], p: Point, count: u16, first: I32Point, from: Place) -> Sc
                                 return Scan::Refused(k);
                             }
                             Moved::To(n) => {
-                                if !is_aside(b, q, n) {
-                                    let e = raycast::raycast_seg(q, n, p);
-                                    match e {
-                                        Seen::On => {
-                                            return Scan::On;
-                                        }
-                                        Seen::Off(c) => {
-                                            odd = answer::plus(odd, c);
-                                        }
+                                let e = segment_seen(b, q, n, p);
+                                match e {
+                                    Seen::On => {
+                                        return Scan::On;
+                                    }
+                                    Seen::Off(c) => {
+                                        odd = answer::plus(odd, c);
                                     }
                                 }
                                 q = n;

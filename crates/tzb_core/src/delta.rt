@@ -3,11 +3,13 @@ ghost use Rattle.std.specs.Prelude.{◌≡◌};
 ghost use Rattle.chunks.specs.Delta.{add_delta};
 ghost use Rattle.tzb_core.specs.Reading.{summed};
 
-// A coordinate moved by a delta; or the number of the refusal, which gets its place where the delta's is known.
+use answer::Refusal;
+
+// A coordinate moved by a delta.
 #[derive(Clone, Copy)]
 pub enum Sum {
     Of(i32),
-    Refused(u32),
+    Refused(Refusal),
 }
 
 // Adds a delta to the coordinate before it; a sum that i32 does not hold is refused.
@@ -18,5 +20,5 @@ pub fn add_delta(prev: i32, delta: i32) -> Sum
     if (-2_147_483_648 <= x) & (x <= 2_147_483_647) {
         return Sum::Of(x as i32);
     }
-    Sum::Refused(41)
+    Sum::Refused(answer::refuse(41))
 }
