@@ -1,2 +1,3 @@
 -- What the journal's program makes of its input.
 pub mod Answered
+pub mod Counts
