@@ -16,7 +16,7 @@ returns-in-Refused-b c = met_by _ _ _ (sym c.placed-a.ensures ∙ ap checked_tol
 
 pub returns-then-i-n : goal.returns-then-i-n
 unfolding entry_check
-returns-then-i-n c = met_by _ _ _ (sym c.placed-a.ensures ∙ ap checked_told c.in_default.is) (met_by _ _ _ (sym c.typed-b.ensures ∙ ap checked_told c.in_default-b.is) (sym (c.requires.2.apart-each _ c.if-i-n.true) ∙ none_left _))
+returns-then-i-n c = met_by _ _ _ (sym c.placed-a.ensures ∙ ap checked_told c.in_default.is) (met_by _ _ _ (sym c.typed-b.ensures ∙ ap checked_told c.in_default-b.is) (sym (c.requires.2.apart_each _ c.if-i-n.true) ∙ none_left _))
 
 pub returns : goal.returns
 unfolding entry_check

@@ -4,12 +4,8 @@ use mathlib.Core.Path.{ap₂}
 use mathlib.Core.Bool.{◌&&◌}
 use Rattle.reader_cells.specs.Asked.{on_earth}
 use Rattle.reader_cells.proofs.Bounds.{within_180, within_90}
-use Rattle.reader_cells.proofs.on_earth.Statement.{statement}
-use Rattle.reader_cells.proofs.on_earth.Tie as tie
+use Rattle.reader_cells.proofs.on_earth.Goals as goal
 
-returns : tie.Need-returns
+pub returns : goal.returns
 unfolding on_earth
 returns c = ap₂ ◌&&◌ (within_180 c.args.lng) (within_90 c.args.lat)
-
-pub on-earth-spec : {M : Type 1} → statement M
-on-earth-spec = tie.close (tie.spec returns)
