@@ -5,6 +5,9 @@ use Rattle.reader_named.proofs.Places.{name_given, name_none, place_given, place
 use Rattle.replies.specs.Replies.{bounds_told}
 use Rattle.reader_named.proofs.name.Goals as goal
 
+pub slice_bounds-result-count : goal.slice_bounds-result-count
+slice_bounds-result-count c = (bounds_good _ _ _ _ _ _ (sym (ap bounds_told c.in-At.is) ∙ c.name_bounds-b.ensures)).0
+
 pub slice_bounds-result-start : goal.slice_bounds-result-start
 slice_bounds-result-start c = (bounds_good _ _ _ _ _ _ (sym (ap bounds_told c.in-At.is) ∙ c.name_bounds-b.ensures)).0
 
