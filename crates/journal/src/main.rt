@@ -4,12 +4,15 @@
 // and the program ends with status 1; the entries of the positions before it are written.
 #![tactic(auto)]
 
-ghost use Rattle.std.specs.Prelude.{◌≡◌, ◌++◌, ◌+◌, ◌*◌, ◌/◌, ◌≤◌, length, drop};
+ghost use Rattle.std.specs.Prelude.{◌≡◌, ◌++◌, ◌+◌, ◌*◌, ◌/◌, ◌<◌, ◌≤◌, length, take, drop, IsNone, OnOk};
+ghost use Rattle.std.specs.Io.KnownBytes.{Consumes, Appends, IsAtEnd};
 ghost use Rattle.entries.specs.Entry.{entry_wide, bytes_of};
 ghost use Rattle.replies.specs.Replies.{opening_told};
 ghost use Rattle.tzb_journal.specs.Journal.{entry_for};
 ghost use Rattle.journal.specs.Answered.{places, position_at, entries_of};
 ghost use Rattle.journal.specs.Counts.{IsPrefixLen};
+ghost use Rattle.journal.specs.Runs.{TurnEnds, RunEnds, AllAnswered};
+ghost use Rattle.tzb.specs.Opening.{open_of};
 
 use plane::I32Point;
 use replies::Opening;
@@ -74,19 +77,22 @@ fn note_all(opening: Opening, file: &[u8], input: &[u8], out: &mut [u8]) -> usiz
 #[derive(Drop)]
 enum Stop<'a> {
     Usage,
-    // What could not be read or written.
-    Failed(&'a str, io::Error),
+    Index(&'a str, io::Error),
     TooLong(&'a str),
+    Input(io::Error),
     WithinPosition,
+    Output(io::Error),
 }
 
 impl fmt::Display for Stop<'_> {
     fn fmt<W: fmt::Write>(&self, f: &mut fmt::Formatter<W>) -> fmt::Result {
         match self {
             Stop::Usage => write!(f, "usage: journal INDEX <POSITIONS >ENTRIES"),
-            Stop::Failed(what, why) => write!(f, "{what}: {why}"),
+            Stop::Index(name, why) => write!(f, "{name}: {why}"),
             Stop::TooLong(name) => write!(f, "{name}: more than 65,536 bytes"),
+            Stop::Input(why) => write!(f, "standard input: {why}"),
             Stop::WithinPosition => write!(f, "standard input: it ends within a position"),
+            Stop::Output(why) => write!(f, "standard output: {why}"),
         }
     }
 }
@@ -104,7 +110,9 @@ struct Came {
 
 // One read into the bytes. Where it fails, none came.
 fn read_some<R: Read>(from: &mut R, buf: &mut [u8]) -> Came
-    ensures { IsPrefixLen result.count buf.new }
+    ensures within { IsPrefixLen result.count buf.new }
+    ensures bytes { Consumes (R.remaining from.old) (R.remaining from.new) (take result.count buf.new) }
+    ensures end { result.count ≡ 0 → 0 < length buf.new → IsNone result.failed → IsAtEnd (R.remaining from.new) }
 {
     match from.read(buf) {
         Ok(count) => Came {
@@ -120,7 +128,9 @@ fn read_some<R: Read>(from: &mut R, buf: &mut [u8]) -> Came
 
 // Reads until the bytes are full, the input ends, or a read fails.
 fn read<R: Read>(from: &mut R, buf: &mut [u8]) -> Came
-    ensures { IsPrefixLen result.count buf.new }
+    ensures within { IsPrefixLen result.count buf.new }
+    ensures bytes { Consumes (R.remaining from.old) (R.remaining from.new) (take result.count buf.new) }
+    ensures end { result.count < length buf.new → IsNone result.failed → IsAtEnd (R.remaining from.new) }
 {
     let mut n = 0;
     while n < buf.len() {
@@ -142,6 +152,7 @@ fn read<R: Read>(from: &mut R, buf: &mut [u8]) -> Came
 // Writes the entries of all whole positions.
 fn write<W: Write>(to: &mut W, opening: Opening, file: &[u8], input: &[u8]) -> io::Result<()>
     requires { length input.now ≤ 4096 }
+    ensures { OnOk result (Appends (W.contents to.old) (W.contents to.new) (entries_of (opening_told opening) file.now input.now (length input.now / 8))) }
 {
     let mut out = [0u8; MANY * ENTRY];
     let n = note_all(opening, file, input, &mut out);
@@ -154,15 +165,17 @@ fn turn<R: Read, W: Write>(
     to: &mut W,
     opening: Opening,
     file: &[u8],
-) -> Result<bool, Stop<'static>> {
+) -> Result<bool, Stop<'static>>
+    ensures { TurnEnds (opening_told opening) file.now (R.remaining from.old) (R.remaining from.new) (W.contents to.old) (W.contents to.new) result }
+{
     let mut input = [0u8; MANY * POSITION];
     let came = read(from, &mut input);
     let n = came.count;
     if let Err(why) = write(to, opening, file, &input[..n]) {
-        return Err(Stop::Failed("standard output", why));
+        return Err(Stop::Output(why));
     }
     if let Some(why) = came.failed {
-        return Err(Stop::Failed("standard input", why));
+        return Err(Stop::Input(why));
     }
     if n % POSITION != 0 {
         return Err(Stop::WithinPosition);
@@ -171,11 +184,14 @@ fn turn<R: Read, W: Write>(
 }
 
 // Nothing says that the input ends, so the loop counts its turns, up to a number that no run uses up.
-fn answer<R: Read, W: Write>(from: &mut R, to: &mut W, file: &[u8]) -> Result<(), Stop<'static>> {
+fn answer<R: Read, W: Write>(from: &mut R, to: &mut W, file: &[u8]) -> Result<(), Stop<'static>>
+    ensures ends { RunEnds (open_of file.now) file.now (R.remaining from.old) (R.remaining from.new) (W.contents to.old) (W.contents to.new) result }
+    ensures all { OnOk result (AllAnswered (open_of file.now) file.now (R.remaining from.old) (R.remaining from.new) (W.contents to.old) (W.contents to.new)) }
+{
     let opening = tzb::open(file);
-    for _ in 0..u64::MAX {
+    for _turn in 0..u64::MAX {
         if !turn(from, to, opening, file)? {
-            break;
+            return Ok(());
         }
     }
     Ok(())
@@ -185,11 +201,11 @@ fn answer<R: Read, W: Write>(from: &mut R, to: &mut W, file: &[u8]) -> Result<()
 fn read_file<'a>(rt: &impl Files, name: &'a str, file: &mut [u8]) -> Result<usize, Stop<'a>> {
     let mut from = match File::open(rt, name) {
         Ok(from) => from,
-        Err(why) => return Err(Stop::Failed(name, why)),
+        Err(why) => return Err(Stop::Index(name, why)),
     };
     let came = read(&mut from, file);
     match came.failed {
-        Some(why) => Err(Stop::Failed(name, why)),
+        Some(why) => Err(Stop::Index(name, why)),
         None => Ok(came.count),
     }
 }
