@@ -12,11 +12,11 @@ move_up-requires c =
 
 pub offset_bounds-zones-place : goal.offset_bounds-zones-place
 offset_bounds-zones-place c =
-    omega (arith, place_inside _ _ _ _ (le_of_lt c.requires.k_in_bounds) _ c.place_for-place.ensures, (c.requires.k_in_bounds, c.requires.zones_value), c.well_formed)
+    omega (arith, place_inside _ _ _ _ (le_of_lt c.requires.k_in_bounds) _ c.place_for-place.ensures, c.requires.k_in_bounds, c.well_formed)
 
 pub bounds-zones-place : goal.bounds-zones-place
 bounds-zones-place c =
-    omega (arith, place_inside _ _ _ _ (le_of_lt c.requires.k_in_bounds) _ c.place_for-place.ensures, (c.requires.k_in_bounds, c.requires.zones_value))
+    omega (arith, place_inside _ _ _ _ (le_of_lt c.requires.k_in_bounds) _ c.place_for-place.ensures, c.requires.k_in_bounds)
 
 pub returns : goal.returns
 returns c =
