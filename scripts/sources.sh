@@ -1,6 +1,6 @@
 #!/bin/sh
 # What the archive libtzb_c.a is made of: the static library tzb_c_c and all crates that it depends on.
-#   sh scripts/sources.sh crates    their lines of crates.txt, sorted
+#   sh scripts/sources.sh crates    their lines of crates.txt, each after those that it depends on
 #   sh scripts/sources.sh sum       one SHA-256 over these lines and over every .rt and .antt file of these crates, whatever its time
 cd "$(dirname "$0")/.." || exit 2
 
@@ -19,12 +19,15 @@ crates() {
       line[head[1]] = half[2]
       for (i = 2; i <= words; i++) kind[head[1]] = kind[head[1]] " " head[i]
     }
-    END { visit("tzb_c_c") }' crates.txt | LC_ALL=C sort
+    END { visit("tzb_c_c") }' crates.txt
 }
 
 sum() {
-  lines=$(crates) && [ -n "$lines" ] || return 2
-  folders=$(printf '%s\n' "$lines" | sed 's|[: ].*||; s|^|crates/|')
+  lines=$(crates | LC_ALL=C sort) && [ -n "$lines" ] || return 2
+  # (not what rt keeps in out/)
+  folders=$(printf '%s\n' "$lines" | sed 's|[: ].*||' | while read -r crate; do
+    for part in src specs proofs; do [ -d "crates/$crate/$part" ] && echo "crates/$crate/$part"; done
+  done)
   {
     printf '%s\n' "$lines"
     # shellcheck disable=SC2086
