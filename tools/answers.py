@@ -17,7 +17,7 @@ W = r"[^\s(){}.;,@\"«»\[\]\\]+"
 
 
 def plain(name):
-    return re.sub("-+", "-", name.replace("_", "-")).lower()
+    return re.sub("-+", "-", re.sub("_lem$", "", name).replace("_", "-")).lower()
 
 
 def blocks(text):
@@ -104,6 +104,7 @@ class Places:
             if arm:
                 self.arms[old] = arm
         self.callee = {}
+        self.params = names["params"]
         for old, parent, label, callee, _ in names["places"]:
             self.of[old] = (parent, label)
             if callee:
@@ -115,6 +116,15 @@ class Places:
             names, at = clauses_of(self.own, "requires"), 1
         elif len(rest) > 1 and rest[1] in ("ensures", "requires") and rest[0] in self.callee:
             names, at = clauses_of(self.callee[rest[0]], rest[1]), 2
+        elif len(rest) > 2 and rest[1] in ("auto", "new") and rest[2] in ("0", "1") and rest[0] in self.callee:
+            # what is lent to a call went by its place among the arguments
+            params = self.params.get(self.callee[rest[0]], [])
+            i, j = 0, 2
+            while j < len(rest) and rest[j] == "1" and i < len(params) - 1:
+                i, j = i + 1, j + 1
+            if j < len(rest) and rest[j] == "0" and i < len(params) - 1:
+                j += 1
+            return rest[:2] + [params[i]] + rest[j:] if params else rest
         else:
             return rest
         if len(names) > 1 and len(rest) > at and rest[at] in ("0", "1"):
@@ -177,7 +187,8 @@ def turn_body(body, place, places, todo):
         if i == len(steps):
             return "c", at
         rest = steps[i:]
-        if rest[0] not in ("args", "requires", "ranges", "well_formed", "initial"):
+        rest[0] = {"well-formed": "well_formed", "type-inv": "type_inv", "pre": "requires"}.get(rest[0], rest[0])
+        if rest[0] not in ("type_inv", "args", "requires", "ranges", "well_formed", "initial"):
             new = places.label(at, rest[0]) or places.label(place, rest[0])
             arm = places.arm(at, rest) or places.arm(place, rest)
             if arm:
@@ -199,7 +210,7 @@ def turn_body(body, place, places, todo):
     # aliases first, in order
     out = []
     pos = 0
-    token = re.compile(r"let (" + W + r") = (" + W + r"(?:\." + W + r")*) in[ \n]+ *|" + PATH.pattern)
+    token = re.compile(r"let (" + W + r") = (" + W + r"(?:\." + W + r")*) in[ \n]+ *|" + r"let (?P<bound>" + W + r")(?= [:=])|" + PATH.pattern)
     while True:
         m = token.search(body, pos)
         if not m:
@@ -222,8 +233,11 @@ def turn_body(body, place, places, todo):
             else:
                 out.append(m.group(0))
                 env.pop(name, None)
-        elif m.group(3):
-            head, steps = m.group(3), m.group(4).lstrip(".").split(".")
+        elif m.group("bound"):
+            env.pop(m.group("bound"), None)
+            out.append(m.group(0))
+        elif m.group(4):
+            head, steps = m.group(4), m.group(5).lstrip(".").split(".")
             if head in env:
                 new, at = walk(head, steps)
                 if at is not None and at != "many":
@@ -232,7 +246,7 @@ def turn_body(body, place, places, todo):
             else:
                 out.append(m.group(0))
         else:
-            word = m.group(5)
+            word = m.group(6)
             if word in env and isinstance(env[word], tuple):
                 out.append(walk(word, [])[0])
                 pos = m.end()
@@ -333,7 +347,7 @@ def convert(crate, function_folder, names, old):
                 todos.append("loop " + loop)
                 continue
             new, live, ch = loop_names[loop]
-            k = re.search(r"^(?:invariant|decreases)-" + W + r"((?: " + W + r")*) =", body_text, re.M)
+            k = re.search(r"^(?:invariant|decreases)-" + W + r"((?: " + W + r")*?) =", body_text, re.M)
             args = k[1].split()
             body = body_text[k.end() :]
             table = {}
@@ -365,9 +379,13 @@ def convert(crate, function_folder, names, old):
             while rest and rest[0].startswith("unfolding"):
                 unfold.append(rest.pop(0))
             clause = "\n".join(rest)
-            k = re.match(re.escape(name) + r" c( κs)?((?: " + W + r")*) =", clause)
+            k = re.match(re.escape(name) + r" c( κs)?((?: " + W + r")*?) =", clause)
             if k and clause[k.end() :].strip() == "search rules" and not unfold:
                 continue
+            m2 = re.match(r"slice-bounds-(.*)-(start|end)$", old_need)
+            for new, at in needs.values():
+                if m2 and not found and plain(new) == f"slice-bounds-{m2[1]}-count":
+                    found = (re.sub("-count$", "-" + m2[2], new), at)
             if not found or not k:
                 helpers.append("-- TODO no goal for " + n[1] + "\n" + body_text)
                 todos.append("goal " + n[1])

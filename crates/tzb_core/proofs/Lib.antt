@@ -8,3 +8,4 @@ pub mod DeterminedRay
 pub mod Skips
 pub mod Copied
 pub mod DeterminedChunk
+pub mod NextRead

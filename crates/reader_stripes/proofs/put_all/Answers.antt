@@ -31,7 +31,7 @@ loop-i-preserved c =
 
 pub shape_of-numbers : goal.shape_of-numbers
 shape_of-numbers c =
-    going_same _ _ _ _ _ _ c.loop-i.invariant ∙ c.put_groups.auto.numbers.1.0
+    going_same _ _ _ _ _ _ c.loop-i.invariant ∙ c.put_groups.auto.numbers
 
 pub returns : goal.returns
 returns c =

@@ -12,7 +12,7 @@ put_chunks-to-requires c =
 pub put_stripe-requires : goal.put_stripe-requires
 put_stripe-requires c =
     let r = room_one _ _ _ c.requires.2 in
-    (omega (arith, r, c.put_chunks-to.auto.1.1.1.1.0), omega (arith, c.put_chunks-to.ensures.0), c.put_chunks-to.ensures.1)
+    (omega (arith, r, c.put_chunks-to.auto.numbers), omega (arith, c.put_chunks-to.ensures.0), c.put_chunks-to.ensures.1)
 
 pub returns : goal.returns
 returns c =

@@ -26,7 +26,6 @@ returns-in-Refused c =
 pub returns-else-numbers-n : goal.returns-else-numbers-n
 returns-else-numbers-n c =
     record {
-      result_value = (build_is _ _ _ (sym (ap needed_told c.in-Numbers.is) ∙ c.stripes_need-a.ensures) _ c.if-numbers-n.false _ c.put_all_lem.ensures).0;
-      memory = (build_is _ _ _ (sym (ap needed_told c.in-Numbers.is) ∙ c.stripes_need-a.ensures) _ c.if-numbers-n.false _ c.put_all_lem.ensures).1;
+      result_value = (build_is _ _ _ (sym (ap needed_told c.in-Numbers.is) ∙ c.stripes_need-a.ensures) _ c.if-numbers-n.false _ c.put_all.ensures).0;
+      memory = (build_is _ _ _ (sym (ap needed_told c.in-Numbers.is) ∙ c.stripes_need-a.ensures) _ c.if-numbers-n.false _ c.put_all.ensures).1;
     }
--- TODO no step put_all_lem at After-put_all

@@ -12,15 +12,12 @@ returns-in-Refused c = unmet_by _ _ _ (sym c.placed-a.ensures ∙ ap checked_tol
 
 pub returns-in-Refused-b : goal.returns-in-Refused-b
 unfolding entry_check
-returns-in-Refused-b c = met_by _ _ _ (sym c.placed-a.ensures ∙ ap checked_told c.in_default.is) (unmet_by _ _ _ (sym c.type_inv.ensures ∙ ap checked_told c.in-Refused-b.is))
--- TODO no step type-inv at After-typed
+returns-in-Refused-b c = met_by _ _ _ (sym c.placed-a.ensures ∙ ap checked_told c.in_default.is) (unmet_by _ _ _ (sym c.typed-b.ensures ∙ ap checked_told c.in-Refused-b.is))
 
 pub returns-then-i-n : goal.returns-then-i-n
 unfolding entry_check
-returns-then-i-n c = met_by _ _ _ (sym c.placed-a.ensures ∙ ap checked_told c.in_default.is) (met_by _ _ _ (sym c.type_inv.ensures ∙ ap checked_told c.in_default-b.is) (sym (c.requires.2.apart-each _ c.if-i-n.true) ∙ none_left _))
--- TODO no step type-inv at After-typed
+returns-then-i-n c = met_by _ _ _ (sym c.placed-a.ensures ∙ ap checked_told c.in_default.is) (met_by _ _ _ (sym c.typed-b.ensures ∙ ap checked_told c.in_default-b.is) (sym (c.requires.2.apart_each _ c.if-i-n.true) ∙ none_left _))
 
 pub returns : goal.returns
 unfolding entry_check
-returns c = c.apart_before.ensures ∙ met_by _ _ _ (sym c.placed-a.ensures ∙ ap checked_told c.in_default.is) (met_by _ _ _ (sym c.type_inv.ensures ∙ ap checked_told c.in_default-b.is) (none_left _))
--- TODO no step type-inv at After-typed
+returns c = c.apart_before.ensures ∙ met_by _ _ _ (sym c.placed-a.ensures ∙ ap checked_told c.in_default.is) (met_by _ _ _ (sym c.typed-b.ensures ∙ ap checked_told c.in_default-b.is) (none_left _))

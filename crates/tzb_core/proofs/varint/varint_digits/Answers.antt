@@ -1,37 +1,17 @@
 -- `varint::varint_digits` meets its contract: where two bytes are at hand and both have a digit to follow it is the loop's number; else one law tells one byte and two, or that the second is zero. Where no two are left it is the last byte's.
 -- Assumes nothing.
 use Rattle.std.proofs.Common.{◌∙◌, arith}
-use Rattle.varints.proofs.Digits.{more_fits, longer_first, longer_second, longer_from, direct_zero, direct}
+use Rattle.varints.proofs.Digits.{longer_from, direct_zero, direct}
 use Rattle.tzb_core.proofs.varint.varint_digits.Goals as goal
-
-pub overflow_sub-b0 : goal.overflow_sub-b0
-overflow_sub-b0 c = let second = c in omega (arith, longer_first second.before.before.wide.result second.wide2.result c.if-b0-b1.true)
--- TODO a whole place is passed on: c.before
-
-pub overflow_sub-b1 : goal.overflow_sub-b1
-overflow_sub-b1 c = let second = c in omega (arith, longer_second second.before.before.wide.result second.wide2.result c.if-b0-b1.true)
--- TODO a whole place is passed on: c.before
 
 pub returns-then-b0-b1 : goal.returns-then-b0-b1
 returns-then-b0-b1 c =
     c.varint_slow.ensures ∙ longer_from _ _ _ _ (omega arith) c.wide-b0.ensures.0 c.wide-b1.ensures.0 c.if-b0-b1.true
 
-pub overflow_mul-second : goal.overflow_mul-second
-overflow_mul-second c = let second = c in omega (arith, more_fits _ _ second.before.before.wide.ensures.1 second.wide2.ensures.1)
--- TODO a whole place is passed on: c.before
-
 pub returns-then-second-more : goal.returns-then-second-more
 returns-then-second-more c =
     c.refused.ensures
     ∙ direct_zero _ _ _ _ (omega arith) c.wide-b0.ensures.0 c.wide-b1.ensures.0 c.wide-b0.ensures.1 c.if-b0-b1.false c.if-second-more.true
-
-pub overflow_mul-second-then-from-less_one : goal.overflow_mul-second-then-from-less_one
-overflow_mul-second-then-from-less_one c = let second = c in omega (arith, more_fits _ _ second.before.before.wide.ensures.1 second.wide2.ensures.1)
--- TODO a whole place is passed on: c.before.before
-
-pub overflow_add-b0-then-from-less_one : goal.overflow_add-b0-then-from-less_one
-overflow_add-b0-then-from-less_one c = let second = c in omega (arith, more_fits _ _ second.before.before.wide.ensures.1 second.wide2.ensures.1)
--- TODO a whole place is passed on: c.before.before
 
 pub returns-then-from-less_one : goal.returns-then-from-less_one
 returns-then-from-less_one c =
