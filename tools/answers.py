@@ -340,7 +340,7 @@ def convert(crate, function_folder, names, old):
             continue
         m = re.search(r"tie\.(invariant|decreases)-(" + W + ")", body_text)
         n = re.search(r"^(?:pub )?" + re.escape(name) + r" : tie\.Need-(" + W + ")", body_text, re.M)
-        if body_text.lstrip().startswith("abbrev") or re.search(r"^abbrev .*: tie\.", body_text, re.M):
+        if m and re.search(r"^abbrev .*: tie\.", body_text, re.M):
             kind, loop = m[1], plain(m[2])
             if loop not in loop_names:
                 helpers.append("-- TODO no loop " + loop + "\n" + body_text)

@@ -1,4 +1,6 @@
 // What a question or a check answers. A refusal is made here and nowhere else, and every caller passes it on unopened.
+#![tactic(auto)]
+
 ghost use Rattle.std.specs.Prelude.{◌≡◌};
 ghost use Rattle.basics.specs.Parity.{◌⊻◌};
 ghost use Rattle.answer.specs.Refusals.{refusal, placed_at, counted_from};

@@ -1,1 +1,2 @@
 // Only laws: see specs/.
+#![tactic(auto)]

@@ -1,4 +1,6 @@
 // A box of whole numbers, asked about a point of floats or of whole numbers; the domain of points.
+#![tactic(auto)]
+
 ghost use Rattle.std.specs.Prelude.{◌≡◌};
 ghost use Rattle.plane.specs.Domain.{in_domain};
 ghost use Rattle.boxes.specs.Box.{spans, ordered, box_in_domain, in_box, contains, relevant, right};

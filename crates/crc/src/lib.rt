@@ -1,4 +1,6 @@
 // CRC-32 of IEEE 802.3, sixteen bytes at a time by sixteen tables. The tables are made by code, and lent by reference.
+#![tactic(auto)]
+
 ghost use Rattle.std.specs.Prelude.{◌≡◌, ◌+◌, ◌*◌, ◌%◌, ◌<◌, ◌≤◌, length, drop, take};
 ghost use Rattle.checksum.specs.Crc32.{step, steps, bytes, crc32, Filled};
 ghost use Rattle.crc.specs.Steps.{First, Power};

@@ -1,1 +1,2 @@
 // Only worked files and what the full check and the demands say of them: see specs/ and proofs/.
+#![tactic(auto)]

@@ -1,1 +1,2 @@
 // Only definitions and theorems: see specs/ and proofs/.
+#![tactic(auto)]

@@ -1,4 +1,6 @@
 // The floor of a float.
+#![tactic(auto)]
+
 ghost use Rattle.std.specs.Prelude.{◌≡◌, ◌≤◌, unsigned_abs};
 ghost use Rattle.floors.specs.Floor.{floor_of};
 ghost use Rattle.floors.specs.Steps.{Small};

@@ -1,5 +1,7 @@
 // The text of a MultiPolygon (RFC 7946), laid into lent bytes as far as there is room. Each function answers the place behind what
 // it lays: where the bytes do not suffice, that place still says how many it takes.
+#![tactic(auto)]
+
 ghost use Rattle.std.specs.Prelude.{◌≡◌, [], ◌∷◌, ◌+◌, ◌≤◌, ◌<◌, length};
 ghost use Rattle.plane.specs.Places.{point};
 ghost use Rattle.geojson.specs.Decimals.{last_digit, digits, places, hundred_thousandths, decimal};

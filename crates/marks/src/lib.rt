@@ -1,1 +1,2 @@
 // Only the marked points: see specs/.
+#![tactic(auto)]

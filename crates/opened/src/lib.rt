@@ -1,5 +1,7 @@
 // What is kept of an opened file, by value: all that a question needs beside the file's bytes. It stands below opening, which makes it, and below every question, so that neither knows the other.
 // A section's place in the file.
+#![tactic(auto)]
+
 #[derive(Clone, Copy)]
 pub struct Section {
     pub off: u32,

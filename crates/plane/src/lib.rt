@@ -1,4 +1,6 @@
 // The plain types that geometry speaks of: a point of floats, a point of whole numbers, and what a point sees of segments.
+#![tactic(auto)]
+
 #[derive(Clone, Copy)]
 pub struct Point {
     pub x: f64,

@@ -1,4 +1,6 @@
 // Which zones are candidates for a position, and which zone stands at a place of the candidate list: what is asked of GRID, for any record and any bytes.
+#![tactic(auto)]
+
 ghost use Rattle.std.specs.Prelude.{◌≡◌, true, ◌+◌, ◌*◌, pos, nat_abs, ◌-ℤ◌};
 ghost use Rattle.std.specs.Int.Signed.{le_z};
 ghost use Rattle.floors.specs.Floor.{floor_of};

@@ -1,4 +1,6 @@
 // The full check after opening: F2 to F6, demand by demand, over every record of every directory.
+#![tactic(auto)]
+
 ghost use Rattle.std.specs.Prelude.{◌≡◌, true};
 ghost use Rattle.reader_records.specs.Records.{poly_at, ring_at, op_at, group_at, tz_at};
 ghost use Rattle.reader_chunks.specs.Chunks.{chunk_points};

@@ -1,4 +1,6 @@
 // A chunk's bytes in the file: its range, and a refusal's place in the file; its first point, the scan of its segments, their count, the trace of a box, and its points decoded into lent numbers.
+#![tactic(auto)]
+
 ghost use Rattle.std.specs.Prelude.{◌≡◌, ◌+◌, ◌*◌, ◌≤◌, ◌<◌, length};
 ghost use Rattle.answer.specs.Answers.{checked_told, outcome};
 ghost use Rattle.chunks.specs.Decode.{filled};

@@ -1,4 +1,6 @@
 // What the full check asks of one record: a ring's point count, a group's joints and ends, a box and those below it.
+#![tactic(auto)]
+
 ghost use Rattle.std.specs.Prelude.{◌≡◌, ◌+◌, ◌<◌};
 ghost use Rattle.plane.specs.Lines.{last_of};
 ghost use Rattle.boxes.specs.Box.{in_box};

@@ -1,4 +1,6 @@
 // Opening, 32 to 34: the chunk and the group directory, each record by the one record rule.
+#![tactic(auto)]
+
 ghost use Rattle.std.specs.Prelude.{◌≡◌, ◌+◌, ◌-◌, ◌≤◌, ◌<◌};
 ghost use Rattle.answer.specs.Answers.{checked_told};
 ghost use Rattle.answer.specs.Checks.{each};

@@ -1,4 +1,6 @@
 // GRID: opening's checks of it, 27 to 31.
+#![tactic(auto)]
+
 ghost use Rattle.std.specs.Prelude.{◌≡◌, ◌+◌, ◌*◌, ◌≤◌, ◌<◌, length};
 ghost use Rattle.answer.specs.Answers.{checked_told};
 ghost use Rattle.answer.specs.Checks.{each};

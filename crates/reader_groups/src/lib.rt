@@ -1,4 +1,6 @@
 // Containment: the walk over a group's chunks.
+#![tactic(auto)]
+
 ghost use Rattle.std.specs.Prelude.{◌≡◌, ◌-◌, ◌<◌};
 ghost use Rattle.answer.specs.Answers.{ok};
 ghost use Rattle.answer.specs.Walks.{add};

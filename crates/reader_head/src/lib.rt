@@ -1,4 +1,6 @@
 // Opening, 1 to 11: the header, the table's bounds, the checksum.
+#![tactic(auto)]
+
 ghost use Rattle.std.specs.Prelude.{◌≡◌, ◌+◌, ◌-◌, ◌*◌, ◌≤◌, ◌<◌, length};
 ghost use Rattle.answer.specs.Answers.{checked_told};
 ghost use Rattle.answer.specs.Checks.{seek};

@@ -1,4 +1,6 @@
 // The first question for a position: the zone that contains it, which is the first of its candidates that does.
+#![tactic(auto)]
+
 ghost use Rattle.std.specs.Prelude.{◌≡◌, ◌+◌, ◌<◌};
 ghost use Rattle.reader_lookup.specs.Asking.{scaled, candidate_of, hit_at, first_hit, unlooked, lookup_among, lookup_by, lookup_of};
 ghost use Rattle.answer.specs.Answers.{ok, ◌then◌, left};

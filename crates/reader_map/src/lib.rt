@@ -1,6 +1,8 @@
 // A zone as GeoJSON text in lent memory. Asked only of a file that the full check accepts.
 // One walk measures and writes: what finds no room is counted all the same.
 // A position takes at most 27 bytes and a mark, so a ring of 10,000 takes at most 280,001, a polygon of 65,535 rings at most 18,349,931,071, and a zone of 65,535 polygons at most 1,202,562,732,803,559: no place wraps.
+#![tactic(auto)]
+
 ghost use Rattle.std.specs.Prelude.{◌≡◌, ◌+◌, ◌*◌, ◌≤◌, ◌<◌, length};
 ghost use Rattle.plane.specs.Lines.{every};
 ghost use Rattle.plane.specs.Runs.{run};

@@ -1,4 +1,6 @@
 // The question for a zone's name, for any record, any bytes and any zone number.
+#![tactic(auto)]
+
 ghost use Rattle.std.specs.Prelude.{◌≡◌, ◌+◌, ◌<◌};
 ghost use Rattle.reader_named.specs.Asked.{bounds_at, name_or, name_from, behind, refusal_of, name_at};
 ghost use Rattle.replies.specs.Replies.{bounds_told};

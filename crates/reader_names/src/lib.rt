@@ -1,4 +1,6 @@
 // Names, 21 to 26: n names in the `len` bytes from `at` on, as blob length, n + 1 offsets, blob.
+#![tactic(auto)]
+
 ghost use Rattle.std.specs.Prelude.{◌≡◌, ◌+◌, ◌≤◌, ◌<◌, length};
 ghost use Rattle.answer.specs.Answers.{checked_told};
 ghost use Rattle.answer.specs.Checks.{each};

@@ -1,4 +1,6 @@
 // Opening, 17 to 20, and how the opened record is made: of numbers of 32 bits or fewer, so that no sum of a question wraps in 64.
+#![tactic(auto)]
+
 ghost use Rattle.std.specs.Prelude.{◌≡◌, ◌+◌, ◌-◌, ◌*◌, ◌<◌};
 ghost use Rattle.answer.specs.Answers.{checked_told};
 ghost use Rattle.reader_head.specs.Head.{Headed};

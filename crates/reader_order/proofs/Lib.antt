@@ -5,3 +5,4 @@ pub mod Shift
 pub mod Halving
 pub mod Merged
 pub mod Determined
+pub mod Holding

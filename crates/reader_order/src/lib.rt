@@ -1,4 +1,6 @@
 // Zones in the order of their names: the sort, in lent memory.
+#![tactic(auto)]
+
 ghost use Rattle.std.specs.Prelude.{◌≡◌, true, ◌++◌, ◌+◌, ◌<◌, ◌≤◌, length, take, drop, get_or};
 ghost use Rattle.reader_named.specs.Asked.{name_or};
 ghost use Rattle.reader_order.specs.Order.{insert, insert_all, ordered, in_order};

@@ -1,4 +1,6 @@
 // A ring's positions read from the file into lent numbers, two a position, and its outline. Asked only of a file that the full check accepts.
+#![tactic(auto)]
+
 ghost use Rattle.std.specs.Prelude.{◌≡◌, true, [], ◌++◌, ◌+◌, ◌*◌, ◌≤◌, ◌<◌, length, set, get_or, nat_abs, ◌*ℤ◌};
 ghost use Rattle.plane.specs.Domain.{in_domain};
 ghost use Rattle.plane.specs.Lines.{every, origin};

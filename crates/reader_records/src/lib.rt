@@ -1,4 +1,6 @@
 // Directory records, by index: of any opened record and any bytes.
+#![tactic(auto)]
+
 ghost use Rattle.std.specs.Prelude.{◌≡◌, ◌+◌, ◌≤◌, ◌<◌, length};
 ghost use Rattle.reader_records.specs.Records.{told_place, told_list, told_ring, told_op, told_group, told_chunk, directory, record_at, box_in, point_in, list_in, list_rule, list_at, poly_at, ring_in, ring_rule, ring_at, count_rule, op_rule, op_at, group_in, group_rule, group_place, group_at, chunk_in, chunk_rule, chunk_at, fits_below, tz_at};
 ghost use Rattle.opened.specs.Widths.{list_wide, ring_wide, group_wide, chunk_wide};

@@ -1,4 +1,6 @@
 // Containment: the walk round a ring, over its groups.
+#![tactic(auto)]
+
 ghost use Rattle.std.specs.Prelude.{◌≡◌, false, List, ℕ, ◌+◌, ◌-◌, ◌≤◌, ◌<◌, length};
 ghost use Rattle.answer.specs.Walks.{verdict};
 ghost use Rattle.reader_groups.specs.Groups.{went};

@@ -1,4 +1,6 @@
 // A ring with room in it: three segments that are not degenerate, counted as its groups are read. The third ends the reading.
+#![tactic(auto)]
+
 ghost use Rattle.std.specs.Prelude.{◌≡◌, ◌<◌};
 ghost use Rattle.answer.specs.Answers.{holds};
 ghost use Rattle.tzb_core.specs.Reading.{told_count};

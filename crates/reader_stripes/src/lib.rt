@@ -1,5 +1,7 @@
 // The stripes of an opened file, built into lent numbers. First all is read and the numbers needed are added up, with every refusal; then it is read again and written.
 // A group takes at most 16,777,733 numbers (5, 3 for each of 256 stripes, and each of 65,535 chunks in each of them), and there are fewer than 2^32 groups: no sum and no place wraps.
+#![tactic(auto)]
+
 ghost use Rattle.std.specs.Prelude.{◌≡◌, [], ◌∷◌, ◌+◌, ◌*◌, ◌≤◌, ◌<◌, length};
 ghost use Rattle.std.specs.Int.{w32};
 ghost use Rattle.std.proofs.Common.{of_z};

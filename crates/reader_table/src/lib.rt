@@ -1,4 +1,6 @@
 // Opening, 12 to 16: the section table.
+#![tactic(auto)]
+
 ghost use Rattle.std.specs.Prelude.{◌≡◌, ◌+◌, ◌-◌, ◌*◌, ◌≤◌, ◌<◌};
 ghost use Rattle.answer.specs.Answers.{checked_told};
 ghost use Rattle.reader_head.specs.Head.{Headed};

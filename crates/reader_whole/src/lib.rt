@@ -1,4 +1,6 @@
 // All zones of a whole-number point, in the order of their names, into lent places: every zone is asked in turn, without GRID.
+#![tactic(auto)]
+
 ghost use Rattle.std.specs.Prelude.{◌≡◌, length};
 ghost use Rattle.answer.specs.Answers.{how_many, left};
 ghost use Rattle.replies.specs.Replies.{listing_told};

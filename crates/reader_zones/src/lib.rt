@@ -1,4 +1,6 @@
 // Containment: polygons and zones over their rings, and a whole-number point in one zone.
+#![tactic(auto)]
+
 ghost use Rattle.std.specs.Prelude.{◌≡◌, true, false, ◌+◌, ◌-◌, ◌<◌};
 ghost use Rattle.reader_zones.specs.Zones.{holes_out, poly_inside, poly_of, zone_by, contains_by, contains_at, first_so};
 ghost use Rattle.reader_ways.specs.Ways.{way_of};

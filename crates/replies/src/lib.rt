@@ -1,4 +1,6 @@
 // What each question answers, as an enum of its own. They stand below the questions, so that what tells them as numbers need not know who asks.
+#![tactic(auto)]
+
 use answer::Refusal;
 use opened::Opened;
 

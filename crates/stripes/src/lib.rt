@@ -1,4 +1,6 @@
 // How a group is cut into stripes, and which stripes a height and a box lie in: over heights and boxes alone.
+#![tactic(auto)]
+
 ghost use Rattle.std.specs.Prelude.{◌≡◌, ◌≤◌, ◌<◌, max};
 ghost use Rattle.stripes.specs.Stripes.{stripe_count, above, striping_of, stripe_of, stands_in, within_height};
 ghost use Rattle.stripes.specs.Numbers.{depth};

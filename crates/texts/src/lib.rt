@@ -1,4 +1,6 @@
 // The order of texts by their bytes: eight at a time as long as they agree, then byte by byte. It knows of no file.
+#![tactic(auto)]
+
 ghost use Rattle.std.specs.Prelude.{◌≡◌, true, ◌+◌, ◌<◌, ◌≤◌, length, drop};
 ghost use Rattle.texts.specs.Spelled.{comes_before};
 

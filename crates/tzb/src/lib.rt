@@ -1,4 +1,6 @@
 // The reader. Opening answers an opened record, by value; every question takes it beside the file's bytes.
+#![tactic(auto)]
+
 ghost use Rattle.std.specs.Prelude.{◌≡◌};
 ghost use Rattle.answer.specs.Answers.{checked_told};
 ghost use Rattle.reader_opened.specs.Opened.{opened_of};

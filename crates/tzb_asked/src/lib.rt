@@ -1,4 +1,6 @@
 // Every question, asked with the opened record as bytes beside the file's bytes. A record that cannot be read is refused first; none is trusted.
+#![tactic(auto)]
+
 ghost use Rattle.std.specs.Prelude.{◌≡◌, length};
 ghost use Rattle.answer.specs.Answers.{checked_told, outcome, left, how_many};
 ghost use Rattle.chunks.specs.Decode.{filled};

@@ -1,4 +1,6 @@
 // The exports, for programs in other languages: numbers and byte slices in, one number out. Each is total, and asks nothing of its caller.
+#![tactic(auto)]
+
 ghost use Rattle.std.specs.Prelude.{◌≡◌, [], length, ◌+◌, ◌*◌, ◌<◌};
 ghost use Rattle.rounding.specs.Upward.{next_up};
 ghost use Rattle.checksum.specs.Crc32.{crc32};

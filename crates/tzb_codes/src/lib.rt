@@ -1,4 +1,6 @@
 // Answers as single numbers, for the exports: -1000 - n for refusal n. Each function is total.
+#![tactic(auto)]
+
 ghost use Rattle.std.specs.Prelude.{◌≡◌};
 ghost use Rattle.answer.specs.Answers.{checked_told};
 ghost use Rattle.plane.specs.Sight.{seen_told};

@@ -1,4 +1,6 @@
 // The journal of answers: what a whole-number question is answered, as an entry, and the journal's calls. Over the number of places; three alone are offered as yet.
+#![tactic(auto)]
+
 ghost use Rattle.std.specs.Prelude.{◌≡◌, [], ◌≤◌, length};
 ghost use Rattle.answer.specs.Answers.{ok, refused, ◌then◌, checked_told, outcome, left};
 ghost use Rattle.entries.specs.Entry.{entry};

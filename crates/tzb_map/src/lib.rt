@@ -1,4 +1,6 @@
 // A zone of a file as GeoJSON text (RFC 7946). The full check comes first: of a file that it does not accept nothing is drawn.
+#![tactic(auto)]
+
 ghost use Rattle.std.specs.Prelude.{◌≡◌, length};
 ghost use Rattle.answer.specs.Answers.{left};
 ghost use Rattle.replies.specs.Replies.{drawing_told};

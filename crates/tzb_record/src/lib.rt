@@ -1,4 +1,6 @@
 // The opened record as bytes: who asks from another language keeps them between questions. Any bytes are read or refused; none are trusted.
+#![tactic(auto)]
+
 ghost use Rattle.std.specs.Prelude.{◌≡◌, ◌+◌, ◌≤◌, length};
 ghost use Rattle.fields.specs.Le.{le};
 ghost use Rattle.answer.specs.Answers.{checked_told, outcome, left};

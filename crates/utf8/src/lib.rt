@@ -1,4 +1,6 @@
 // UTF-8 by RFC 3629: are the bytes of a slice well formed?
+#![tactic(auto)]
+
 ghost use Rattle.std.specs.Prelude.{◌≡◌, ◌&&◌, not, true, ◌∷◌, [], ◌+◌, ◌-◌, ◌≤◌, ◌<◌, eqb, length, get_or, drop};
 ghost use Rattle.utf8.specs.Rfc3629.{utf8, within, range, tail};
 ghost use Rattle.utf8.specs.Steps.{fit, sized, second, Plain};

@@ -2,19 +2,17 @@
 -- Assumes nothing.
 use Prim.Native.Nat.{ℕ, zero, suc, ◌+◌, ◌-◌, ◌≤◌}
 use native.Mathlib.Omega.{arith}
-use mathlib.Core.Path.{◌≡◌, refl, sym, ap, ap₂, ◌∙◌}
+use mathlib.Core.Path.{◌≡◌, refl, ap, ◌∙◌}
 use mathlib.Core.Bool.{Bool, true, false, ◌||◌, not, cond}
 use mathlib.Core.List.{List, ◌++◌}
 use lib.ListN.{length, length-append, get_or}
 use lib.Seq.{get_or-append-add}
 use lib.Dec.{ltb, leb, eqb}
-use lib.IntN.{ℤ}
 use borrow.Author.Tests.{lt-ltb, le-ltb, ltb-true, ltb-false, eqb-true, eqb-false, eq-eqb, ne_eqb}
-use Rattle.answer.specs.declared.Refusal.{Refusal}
-use Rattle.answer.specs.Refusals.{no_place, placed_at, counted_from}
+use Rattle.answer.specs.Refusals.{no_place, counted_from}
 use Rattle.answer.specs.Answers.{Answer, ok, refused, need, about}
 use Rattle.answer.proofs.RefusalsLaws.{counted_at}
-use Rattle.varints.specs.Varint.{unzig, last, below, digits, signed, number_at, at_end}
+use Rattle.varints.specs.Varint.{last, below, digits, signed, number_at, at_end}
 
 -- what is read behind a bytes, and the place after it
 abbrev pub farther : {A : Type 0} → ℕ → Answer (A × ℕ) → Answer (A × ℕ)

@@ -1,0 +1,13 @@
+-- `reader_cover::is_first` meets its contract: the first point, then whether it is the same.
+-- Assumes nothing.
+use mathlib.Core.Path.{sym, ap, ◌∙◌}
+use Rattle.reader_chunks.specs.Chunks.{told_point}
+use Rattle.answer.proofs.AnswersLaws.{holds_no, holds_ok}
+use Rattle.reader_cover.proofs.is_first.Goals as goal
+
+pub returns-in-Refused : goal.returns-in-Refused
+returns-in-Refused c = holds_no _ _ _ (sym (ap told_point c.in-Refused.is) ∙ c.first_at-t.ensures)
+
+pub returns-in-At : goal.returns-in-At
+returns-in-At c =
+    holds_ok _ _ _ (sym (ap told_point c.in-At.is) ∙ c.first_at-t.ensures) _ c.same_point.ensures
