@@ -61,6 +61,8 @@ held_at : (ws ns : List ℕ) → Row.Held ws ns → (i : ℕ) → i < length ws 
 held_at [] [] Row.none i h = absurd (omega arith)
 held_at (w ∷ ws) (n ∷ ns) (Row.one f r) zero h = f
 held_at (w ∷ ws) (n ∷ ns) (Row.one f r) (suc i) h = held_at ws ns r i (omega arith)
+held_at [] (n ∷ ns) x4 i h = elim x4 [ ]
+held_at (w ∷ ws) [] x4 i h = elim x4 [ ]
 
 abbrev Few : Opened → Type 0
 Few o = o.groups.count < 0x1_0000_0000
