@@ -1,3 +1,4 @@
 -- What follows from the definitions.
 pub mod SightLaws
 pub mod DomainLaws
+pub mod Turns

@@ -17,7 +17,7 @@ use Rattle.rounding.specs.Upward.{next_up}
 use Rattle.rounding.specs.Next.{Bump, next_bump}
 use Rattle.rounding.specs.Nudge.{bump_lt, lt_bump, bump_steep}
 use Rattle.plane.specs.Sight.{Sight, On, Off}
-use Rattle.plane.specs.Turns.{plus, less}
+use Rattle.plane.proofs.Turns.{plus, less}
 use Rattle.rays.specs.Ray.{outside, away, degenerate, between, level, ratio, touches, nudged, missed, slope, steep, shortcut, crosses, ray_at}
 use Rattle.rays.proofs.Sides.{amid, on_n, counts_n, or_split, falsum, verum, amid_view, amid_make, right_all, left_all, no_turn_amid, at_foot, swap_plus, swap_less}
 

@@ -9,7 +9,7 @@ use mathlib.Core.Bool.{Bool, true, false, not, ◌&&◌, ◌||◌, cond}
 use lib.Dec.{T, ltb, leb, eqb, ltb→lt, lt→ltb, nltb→le, leb→le, le→leb, not_T}
 use lib.Ieee.Fits.{and_i, and_l, and_r}
 use lib.Ieee.Bits.{is_true, is_false}
-use Rattle.plane.specs.Turns.{plus, less}
+use Rattle.plane.proofs.Turns.{plus, less}
 
 abbrev pub amid : ℕ → ℕ → ℕ → Bool
 amid u v w = cond (ltb u v) (leb u w && leb w v) (leb v w && leb w u)

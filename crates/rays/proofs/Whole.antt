@@ -8,7 +8,7 @@ use lib.IntN.{ℤ, nat_abs}
 use lib.Signed.{lt_z, le_z}
 use Rattle.basics.specs.Whole.{Is, shift_is, lt_test, le_test, zero_test, pos_test, neg_test}
 use Rattle.plane.specs.Segment.{cross, amid_z, on_z, counts_z}
-use Rattle.plane.specs.Turns.{plus, less, cross_is}
+use Rattle.plane.proofs.Turns.{plus, less, cross_is}
 use Rattle.rays.proofs.Sides.{amid, on_n, counts_n}
 use Rattle.rays.proofs.Order.{nat}
 

@@ -9,7 +9,7 @@ use Rattle.plane.specs.declared.I32Point.{I32Point}
 use Rattle.plane.specs.Sight.{Off}
 use Rattle.plane.specs.Tally.{none}
 use Rattle.plane.specs.Segment.{seg, above}
-use Rattle.plane.specs.Turns.{seg_swap, seg_left, seg_right, seg_under, seg_over}
+use Rattle.plane.proofs.Turns.{seg_swap, seg_left, seg_right, seg_under, seg_over}
 use Rattle.boxes.specs.declared.BBox.{BBox}
 use Rattle.shapes.specs.Shapes.{Zone, in_box, zone_fits, zone_in}
 use Rattle.shapes.specs.Walk.{whole_tests, zone_walk}
