@@ -64,15 +64,28 @@ fn kept(root: &Path) -> String {
     for note in notes.lines() {
         println!("cargo::warning={note}");
     }
-    for part in ["crates.txt", "crates", "dist", "scripts/archive.sh"] {
+    for part in ["crates.txt", "dist", "scripts/archive.sh", "scripts/sources.sh"] {
         watch(&root.join(part));
     }
+    watch_sources(&root.join("crates"));
     // Written where the archive is proved anew. While it is not there cargo runs this at every build, so only where that matters.
     let origin = root.join("target/staticlib").join(ARCHIVE).with_extension("a.origin");
     if origin.exists() || !notes.is_empty() {
         watch(&origin);
     }
     String::from_utf8_lossy(&said.stdout).trim_end().to_string()
+}
+
+/// The files that the archive is made of, and not what `rt` keeps beside them.
+fn watch_sources(crates: &Path) {
+    for folder in std::fs::read_dir(crates).into_iter().flatten().flatten() {
+        for part in ["src", "specs", "proofs"] {
+            let part = folder.path().join(part);
+            if part.exists() {
+                watch(&part);
+            }
+        }
+    }
 }
 
 fn watch(path: &Path) {

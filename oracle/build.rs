@@ -32,7 +32,7 @@ fn main() {
 
     let library = archive.join("libtzb_c.a");
     if !library.exists() {
-        stop(&format!("{} is not there: run 'rt staticlib tzb_c' first", library.display()));
+        stop(&format!("{} is not there: run 'sh scripts/archive.sh' first", library.display()));
     }
     println!("cargo:rerun-if-changed={}", library.display());
     println!("cargo:rustc-env=TZB_ARCHIVE={}", library.display());

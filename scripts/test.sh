@@ -1,5 +1,5 @@
 #!/bin/sh
-# Tests of the scripts, in seconds, in a repository of two small crates: rt, cargo and what installs only pretend there.
+# Tests of the scripts and the gate, in seconds, in a repository of four small crates: rt, rattle, cargo and what installs only pretend there.
 # The comparison of disassemblies is tried on dist/libtzb_c.a itself, laid out anew and changed in one place.
 root=$(cd "$(dirname "$0")/.." && pwd) || exit 2
 room=$(mktemp -d) || exit 2
@@ -40,18 +40,39 @@ calls() { cat "$room/calls" 2>/dev/null | wc -l; }
 mkdir "$room/bin"
 cat >"$room/bin/rt" <<'END'
 #!/bin/sh
-[ "$1" = version ] && echo a kit that pretends && exit
+case $1 in
+  version) echo a kit that pretends; exit ;;
+  doc) echo "$ROOM/kit/START-HERE.md"; exit ;;
+esac
 echo "rt $*" >>"$ROOM/calls"
+if [ "$1" = ci ]; then
+  mkdir -p crates/low/out/rlib
+  echo "rt: ok; handles allowed: none; must-fail edits: ${RT_EDITS:-3 refused}; every proof and must-fail edit was done in this run"
+  [ "$RT_DOES" != fail ] || { echo '2 passed, 1 failed'; exit 1; }
+  echo '7 passed, 0 failed'
+  exit
+fi
 case $RT_DOES in
-  fail) echo 'rt: low NOT PROVED (exit 1, 0 s)'; exit 1 ;;
+  fail) echo 'rt: the library low did not build, so nothing above it was checked'; exit 1 ;;
   die) kill -9 $$ ;;
   nothing) exit 0 ;;
-  edit) echo '// more' >>crates/low/src/lib.rt ;;
+  edit) echo '// more' >>../low/src/lib.rt ;;
 esac
-echo 'rt: low proved (1 s)'
-mkdir -p target/staticlib
-cat ${RT_WRITES:-crates/*/src/*.rt} >target/staticlib/libtzb_c.a
-echo 'rt: target/staticlib/libtzb_c.a has the functions'
+for crate in low tzb_c tzb_c_c; do
+  echo "crate $crate: modules loaded=0 checked=81"
+  echo 'logic=proved functions=1 sum=0'
+done
+mkdir -p out
+cat ${RT_WRITES:-../*/src/*.rt} >out/libtzb_c_c.a
+END
+# The kit's compiler, which links over what 'rt ci' has left.
+mkdir -p "$room/kit/bin"
+cat >"$room/kit/bin/rattle" <<'END'
+#!/bin/sh
+echo "rattle $*" >>"$ROOM/calls"
+[ "$RATTLE_DOES" != fail ] || { echo 'rattle: no such library'; exit 2; }
+while [ "$1" != -o ]; do shift; done
+cat ../*/src/*.rt >"$2"
 END
 # Stands for scripts/x86_64.sh: what it builds is a script that says its words.
 cat >"$room/x86_64" <<'END'
@@ -66,20 +87,23 @@ case $1 in
   exec) shift; exec "$@" ;;
 esac
 END
-chmod +x "$room/bin/rt"
+chmod +x "$room/bin/rt" "$room/kit/bin/rattle"
 export ROOM="$room"
 
 repository() {
   rm -rf "$repo" "$room/calls"
-  mkdir -p "$repo/crates/low/src" "$repo/crates/tzb_c/src" "$repo/crates/beside/src" "$repo/agent/src/command"
-  printf 'low:\ntzb_c: low # the exports\nbeside: low\n' >"$repo/crates.txt"
-  for crate in low tzb_c beside; do echo "// $crate" >"$repo/crates/$crate/src/lib.rt"; done
+  for crate in low tzb_c tzb_c_c beside; do
+    mkdir -p "$repo/crates/$crate/src"
+    echo "// $crate" >"$repo/crates/$crate/src/lib.rt"
+  done
+  mkdir -p "$repo/agent/src/command"
+  printf 'tzb_c_c staticlib: tzb_c\nlow:\ntzb_c: low # the exports\nbeside: low\n' >"$repo/crates.txt"
   cp -R "$root/scripts" "$root/tzb" "$repo/"
   cp "$room/x86_64" "$repo/scripts/x86_64.sh"
   cp "$root/agent/build.rs" "$root/agent/Cargo.toml" "$root/agent/Cargo.lock" "$repo/agent/"
   cp "$root/agent/src/command/help.txt" "$repo/agent/src/command/"
   ends 0 dist write
-  rm -rf "$repo/target" "$room/calls"
+  rm -rf "$repo/target" "$repo"/crates/*/out "$room/calls"
 }
 
 archive() { PATH="$room/bin:$PATH" sh "$repo/scripts/archive.sh" "$@"; }
@@ -103,7 +127,7 @@ unwritable() { # FILE
 
 proving() {
   repository
-  ends 0 archive && [ "$(calls)" = 1 ] && says '^1 of 2 proved: low$' && says '^2 of 2 proved: tzb_c'
+  ends 0 archive && [ "$(calls)" = 1 ] && says '^1 of 3 proved: low$' && says '^2 of 3 proved: tzb_c$' && says '^3 of 3 proved: tzb_c_c$'
   held 'the reader is proved, and is told how many of how many'
   ends 0 archive && [ "$(calls)" = 1 ] && [ ! -s "$room/said" ]
   held 'what is of the present sources is not proved again'
@@ -113,8 +137,22 @@ proving() {
   held 'a change with an old time is proved'
   echo '// other' >"$repo/crates/beside/src/lib.rt" && ends 0 archive && [ "$(calls)" = 2 ]
   held 'a crate that the archive is not made of does not count'
+  mkdir -p "$repo/crates/low/out/rlib" && echo '// kept' >"$repo/crates/low/out/rlib/lib.rt" && ends 0 archive && [ "$(calls)" = 2 ]
+  held 'nor does what rt keeps in out/'
   ends 0 archive anew && [ "$(calls)" = 3 ]
   held 'anew proves, whatever stands there'
+}
+
+# After 'rt ci' the gate proves no library again.
+linking_after_ci() {
+  repository
+  ends 0 archive gate && [ "$(calls)" = 1 ] && links target/staticlib &&
+    grep -q '^rattle build --crate-name tzb_c_c --crate-type staticlib .*--extern tzb_c=../tzb_c/out/rlib/tzb_c.rlib .*-L dependency=../low/out/rlib' "$room/calls"
+  held 'the gate links over the libraries that stand there'
+  RATTLE_DOES=fail ends 0 archive gate && grep -q '^rt lib' "$room/calls" && links target/staticlib
+  held 'where that is not possible, rt lib proves them'
+  RATTLE_DOES=fail RT_DOES=fail ends 1 archive gate && says 'not proved' && ! links target/staticlib
+  held 'where neither is possible, there is no archive'
 }
 
 # A failed proof is a failure, whatever an earlier run has left, and leaves nothing that could be taken for a proved archive.
@@ -158,7 +196,7 @@ linking() {
   held 'other sources than those of dist are told'
   ends 0 archive && links target/staticlib && [ ! -s "$room/said" ]
   held 'what was proved here is linked'
-  (cd "$repo" && "$room/bin/rt" staticlib tzb_c >/dev/null) && links target/staticlib
+  (cd "$repo/crates/tzb_c_c" && "$room/bin/rt" lib >/dev/null) && links target/staticlib
   held 'rt itself, run on the same sources, changes nothing'
   echo other >"$staticlib/$name" && links dist
   held 'an archive that is not the recorded one is not linked'
@@ -182,8 +220,8 @@ building() {
   held 'later ones build nothing, whatever the times'
   ends 0 archive && old_times && ends 0 tzb names file && [ "$(built_times)" = 1 ]
   held 'an archive with the same bytes builds nothing'
-  (cd "$repo" && "$room/bin/rt" staticlib tzb_c >/dev/null) && ends 0 tzb names file && [ "$(built_times)" = 1 ]
-  held 'rt staticlib on unchanged sources builds nothing'
+  (cd "$repo/crates/tzb_c_c" && "$room/bin/rt" lib >/dev/null) && ends 0 tzb names file && [ "$(built_times)" = 1 ]
+  held 'rt lib on unchanged sources builds nothing'
   echo '// newer' >>"$repo/crates/low/src/lib.rt" && ends 0 archive && old_times && ends 0 tzb names file && [ "$(built_times)" = 2 ]
   held 'an archive with other bytes builds the command anew'
   echo '# more' >>"$repo/agent/Cargo.toml" && old_times && ends 0 tzb names file && [ "$(built_times)" = 3 ]
@@ -260,6 +298,52 @@ keeping() {
   held 'dist with another sum'
 }
 
+# ---- .ci/run
+
+gate() { PATH="$room/bin:$PATH" sh "$repo/.ci/run" "$@"; }
+
+# The repository, with what the gate runs beside rt and the archive only told.
+gated_repository() {
+  repository
+  mkdir -p "$repo/.ci" "$repo/oracle"
+  cp "$root/.ci/run" "$repo/.ci/"
+  for script in scripts/crates.sh scripts/test.sh oracle/short.sh agent/test.sh; do
+    printf 'echo "%s $*" >>"$ROOM/calls"\n[ "$GATE_FAILS" != "%s${1:+ $1}" ]\n' $script $script >"$repo/$script"
+  done
+}
+
+gating() {
+  gated_repository
+  ends 0 gate && [ "$(tail -n 1 "$room/said")" = '7 passed, 0 failed' ] && says 'byte for byte' &&
+    [ "$(cut -d' ' -f1,2 "$room/calls" | sed -n '1,2p;5,$p' | tr '\n' ,)" = 'scripts/crates.sh ,rt ci,oracle/short.sh ,agent/test.sh ,scripts/test.sh ,' ] &&
+    [ "$(sed -n 3,4p "$room/calls" | LC_ALL=C sort | cut -d' ' -f1,2 | tr '\n' ,)" = 'oracle/short.sh ready,rattle build,' ]
+  held 'the gate runs all that it is to, and ends in what rt says'
+  gated_repository
+  mkdir -p "$repo/crates/low/out/rlib" && ends 0 gate && grep -q '^rt lib' "$room/calls" && ! grep -q '^rattle' "$room/calls"
+  held 'libraries that stood there before are not linked'
+  for edits in '3 refused, 1 bad' '3 refused, 2 of them only by a limit, 12 bad'; do
+    gated_repository
+    RT_EDITS=$edits ends 1 gate && says 'edits are bad' && ! grep -q 'test.sh' "$room/calls"
+    held "bad edits fail the gate ($edits)"
+  done
+  gated_repository
+  RT_EDITS='3 refused, 2 of them only by a limit' ends 0 gate
+  held 'edits that are refused only by a limit do not'
+  gated_repository
+  RT_DOES=fail ends 1 gate && [ "$(tail -n 1 "$room/said")" = '2 passed, 1 failed' ] && ! grep -q 'rattle\|test.sh' "$room/calls"
+  held 'where rt ci fails, that is the last line'
+  echo '// newer' >>"$repo/crates/low/src/lib.rt" && rm "$room/calls" && ends 1 gate && says 'dist/ is of other sources' && ! grep -q '^rt' "$room/calls"
+  held 'dist of other sources is told before anything is proved'
+  for script in scripts/crates.sh scripts/test.sh oracle/short.sh agent/test.sh; do
+    gated_repository
+    GATE_FAILS=$script ends 1 gate && tail -n 1 "$room/said" | grep -q '^FAILED'
+    held "where $script fails, the gate does"
+  done
+  gated_repository
+  GATE_FAILS='oracle/short.sh ready' ends 0 gate && ! grep -q 'agent/test.sh' "$room/calls"
+  held 'without Rust for x86-64 the comparison and the agent'\''s tests are left out'
+}
+
 change_byte() { # FILE AT VALUE, in octal
   printf "\\$3" | dd of="$1" bs=1 seek="$2" conv=notrunc 2>/dev/null
 }
@@ -281,7 +365,7 @@ disassembling() {
   against 0 "$room/whole.a" && says 'functions does what'
   held 'another kind of host, the same bytes'
 
-  "${prefix}ar" p "$room/whole.a" tzb_c.o >"$room/whole.o"
+  "${prefix}ar" p "$room/whole.a" >"$room/whole.o"
   cat >"$room/laid" <<'END'
 SECTIONS {
   .text 0 : SUBALIGN(256) { *(SORT_BY_NAME(.text.tzb*)) *(SORT_BY_NAME(.text.*)) }
@@ -324,12 +408,14 @@ moved_table() {
 }
 
 proving
+linking_after_ci
 failing
 linking
 building
 words_alone
 same_words
 keeping
+gating
 disassembling
 echo "scripts: $passed passed, $failed failed"
 [ $failed = 0 ]

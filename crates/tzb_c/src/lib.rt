@@ -33,8 +33,7 @@ use tzb_record::RecordRead;
 // ---- opening, and questions over the opened record
 
 // Opens the file and writes the opened record into the first 84 bytes of lent memory: 0, or -1000 - n for refusal n, and then nothing is written. 46 where there is no room.
-#[unsafe(no_mangle)]
-pub extern "C" fn tzb_open(file: &[u8], record: &mut [u8]) -> i32
+pub fn tzb_open(file: &[u8], record: &mut [u8]) -> i32
     ensures value { result ≡ done_code (open_into file.now «record».old) }
     ensures memory { «record».new ≡ left «record».old (open_into file.now «record».old) }
 {
@@ -46,8 +45,7 @@ pub extern "C" fn tzb_open(file: &[u8], record: &mut [u8]) -> i32
 }
 
 // How many zones there are: their numbers are those below. -1000 - n for refusal n.
-#[unsafe(no_mangle)]
-pub extern "C" fn tzb_zone_count(record: &[u8]) -> i64
+pub fn tzb_zone_count(record: &[u8]) -> i64
     ensures { result ≡ number_code (zones_asked «record».now) }
 {
     let a = tzb_record::read_record(record);
@@ -58,8 +56,7 @@ pub extern "C" fn tzb_zone_count(record: &[u8]) -> i64
 }
 
 // Where a zone's name starts in the file, or -1000 - n for refusal n.
-#[unsafe(no_mangle)]
-pub extern "C" fn tzb_name_start(record: &[u8], file: &[u8], zone: u32) -> i64
+pub fn tzb_name_start(record: &[u8], file: &[u8], zone: u32) -> i64
     ensures { result ≡ start_code (name_asked «record».now file.now zone) }
 {
     let a = tzb_asked::name_bounds(record, file, zone);
@@ -70,8 +67,7 @@ pub extern "C" fn tzb_name_start(record: &[u8], file: &[u8], zone: u32) -> i64
 }
 
 // Where it ends: the place after its last byte, or -1000 - n for refusal n.
-#[unsafe(no_mangle)]
-pub extern "C" fn tzb_name_end(record: &[u8], file: &[u8], zone: u32) -> i64
+pub fn tzb_name_end(record: &[u8], file: &[u8], zone: u32) -> i64
     ensures { result ≡ end_code (name_asked «record».now file.now zone) }
 {
     let a = tzb_asked::name_bounds(record, file, zone);
@@ -82,8 +78,7 @@ pub extern "C" fn tzb_name_end(record: &[u8], file: &[u8], zone: u32) -> i64
 }
 
 // Both, into the first two lent numbers: 0, or -1000 - n for refusal n, and then nothing is written. 46 where fewer than two are lent.
-#[unsafe(no_mangle)]
-pub extern "C" fn tzb_name(record: &[u8], file: &[u8], zone: u32, ends: &mut [u64]) -> i32
+pub fn tzb_name(record: &[u8], file: &[u8], zone: u32, ends: &mut [u64]) -> i32
     ensures value { result ≡ done_code (ends_asked «record».now file.now zone (length ends.old)) }
     ensures memory { ends.new ≡ ends_after ends.old (ends_asked «record».now file.now zone (length ends.old)) }
 {
@@ -95,24 +90,21 @@ pub extern "C" fn tzb_name(record: &[u8], file: &[u8], zone: u32, ends: &mut [u6
 }
 
 // What the candidates of a position are: 0 none, 1 all zones, 2 those listed for a cell, -1000 - n for refusal n.
-#[unsafe(no_mangle)]
-pub extern "C" fn tzb_choice(record: &[u8], file: &[u8], lng: f64, lat: f64) -> i32
+pub fn tzb_choice(record: &[u8], file: &[u8], lng: f64, lat: f64) -> i32
     ensures { result ≡ kind_code (choice_asked «record».now file.now lng lat) }
 {
     tzb_codes::kind_code(tzb_asked::candidates(record, file, lng, lat))
 }
 
 // How many are listed, times 2 ^ 32, and the place of the first; the number of all zones; else 0.
-#[unsafe(no_mangle)]
-pub extern "C" fn tzb_listed(record: &[u8], file: &[u8], lng: f64, lat: f64) -> u64
+pub fn tzb_listed(record: &[u8], file: &[u8], lng: f64, lat: f64) -> u64
     ensures { result ≡ listed_of (choice_asked «record».now file.now lng lat) }
 {
     tzb_codes::listed_of(tzb_asked::candidates(record, file, lng, lat))
 }
 
 // The zone at a place of the candidate list, or -1000 - n for refusal n.
-#[unsafe(no_mangle)]
-pub extern "C" fn tzb_candidate(record: &[u8], file: &[u8], place: u32) -> i64
+pub fn tzb_candidate(record: &[u8], file: &[u8], place: u32) -> i64
     ensures { result ≡ number_code (candidate_asked «record».now file.now place) }
 {
     let a = tzb_asked::candidate_at(record, file, place);
@@ -123,8 +115,7 @@ pub extern "C" fn tzb_candidate(record: &[u8], file: &[u8], place: u32) -> i64
 }
 
 // Whether a zone contains a point of whole numbers, in hundred-thousandths of a degree: 1, 0, or -1000 - n for refusal n.
-#[unsafe(no_mangle)]
-pub extern "C" fn tzb_contains(record: &[u8], file: &[u8], zone: u32, x: i32, y: i32) -> i32
+pub fn tzb_contains(record: &[u8], file: &[u8], zone: u32, x: i32, y: i32) -> i32
     ensures { result ≡ inside_code (contains_asked «record».now file.now zone (point x y)) }
 {
     let none = [0u32; 0];
@@ -132,8 +123,7 @@ pub extern "C" fn tzb_contains(record: &[u8], file: &[u8], zone: u32, x: i32, y:
 }
 
 // The place in the file, counted from its first byte, of the number that the refusal of tzb_contains is about; -1 where it has none, and where there is no refusal.
-#[unsafe(no_mangle)]
-pub extern "C" fn tzb_contains_place(record: &[u8], file: &[u8], zone: u32, x: i32, y: i32) -> i64
+pub fn tzb_contains_place(record: &[u8], file: &[u8], zone: u32, x: i32, y: i32) -> i64
     ensures { result ≡ place_of (contains_asked «record».now file.now zone (point x y)) }
 {
     let none = [0u32; 0];
@@ -141,8 +131,7 @@ pub extern "C" fn tzb_contains_place(record: &[u8], file: &[u8], zone: u32, x: i
 }
 
 // The points of a chunk into lent numbers, two a point: how many points, or -1000 - n for refusal n, and then nothing is written.
-#[unsafe(no_mangle)]
-pub extern "C" fn tzb_decode(record: &[u8], file: &[u8], chunk: u32, out: &mut [i32]) -> i64
+pub fn tzb_decode(record: &[u8], file: &[u8], chunk: u32, out: &mut [i32]) -> i64
     ensures value { result ≡ number_code (how_many (decode_asked «record».now file.now chunk out.old)) }
     ensures memory { out.new ≡ filled out.old (decode_asked «record».now file.now chunk out.old) }
 {
@@ -154,8 +143,7 @@ pub extern "C" fn tzb_decode(record: &[u8], file: &[u8], chunk: u32, out: &mut [
 }
 
 // The place in the file, counted from its first byte, of the number that the refusal of tzb_decode is about; -1 where it has none, and where there is no refusal. Nothing is written.
-#[unsafe(no_mangle)]
-pub extern "C" fn tzb_decode_place(record: &[u8], file: &[u8], chunk: u32, out: &[i32]) -> i64
+pub fn tzb_decode_place(record: &[u8], file: &[u8], chunk: u32, out: &[i32]) -> i64
     ensures { result ≡ place_of (decode_asked «record».now file.now chunk out.now) }
 {
     tzb_codes::checked_place(tzb_asked::check_decode(record, file, chunk, out))
@@ -172,8 +160,7 @@ fn lookup_once(file: &[u8], lng: f64, lat: f64) -> Found
 }
 
 // Opens the file and asks for the zone that a position lies in, in degrees: its number, -1 for none, -1000 - n for refusal n.
-#[unsafe(no_mangle)]
-pub extern "C" fn tzb_lookup(file: &[u8], lng: f64, lat: f64) -> i32
+pub fn tzb_lookup(file: &[u8], lng: f64, lat: f64) -> i32
     ensures { result ≡ zone_code (lookup_once file.now lng lat) }
 {
     let a = lookup_once(file, lng, lat);
@@ -185,16 +172,14 @@ pub extern "C" fn tzb_lookup(file: &[u8], lng: f64, lat: f64) -> i32
 }
 
 // The place in the file, counted from its first byte, of the number that the refusal of tzb_lookup is about; -1 where it has none, and where there is no refusal.
-#[unsafe(no_mangle)]
-pub extern "C" fn tzb_lookup_place(file: &[u8], lng: f64, lat: f64) -> i64
+pub fn tzb_lookup_place(file: &[u8], lng: f64, lat: f64) -> i64
     ensures { result ≡ place_of (lookup_once file.now lng lat) }
 {
     tzb_codes::found_place(lookup_once(file, lng, lat))
 }
 
 // The same as tzb_lookup with the record, once the file was opened: its number, -1 for none, -1000 - n for refusal n.
-#[unsafe(no_mangle)]
-pub extern "C" fn tzb_ask(record: &[u8], file: &[u8], lng: f64, lat: f64) -> i64
+pub fn tzb_ask(record: &[u8], file: &[u8], lng: f64, lat: f64) -> i64
     ensures { result ≡ zone_code (lookup_asked «record».now file.now lng lat) }
 {
     let none = [0u32; 0];
@@ -202,8 +187,7 @@ pub extern "C" fn tzb_ask(record: &[u8], file: &[u8], lng: f64, lat: f64) -> i64
 }
 
 // The place in the file, counted from its first byte, of the number that the refusal of tzb_ask is about; -1 where it has none, and where there is no refusal.
-#[unsafe(no_mangle)]
-pub extern "C" fn tzb_ask_place(record: &[u8], file: &[u8], lng: f64, lat: f64) -> i64
+pub fn tzb_ask_place(record: &[u8], file: &[u8], lng: f64, lat: f64) -> i64
     ensures { result ≡ place_of (lookup_asked «record».now file.now lng lat) }
 {
     let none = [0u32; 0];
@@ -231,14 +215,7 @@ fn ask_all_by(
 }
 
 // All zones that a position lies in, in the order of their names, into lent places: how many there are, or -1000 - n for refusal n, and then nothing is written.
-#[unsafe(no_mangle)]
-pub extern "C" fn tzb_ask_all(
-    record: &[u8],
-    file: &[u8],
-    lng: f64,
-    lat: f64,
-    zones: &mut [u32],
-) -> i64
+pub fn tzb_ask_all(record: &[u8], file: &[u8], lng: f64, lat: f64, zones: &mut [u32]) -> i64
     ensures value { result ≡ number_code (how_many (list_asked «record».now file.now lng lat (length zones.old))) }
     ensures memory { zones.new ≡ left zones.old (list_asked «record».now file.now lng lat (length zones.old)) }
 {
@@ -247,14 +224,7 @@ pub extern "C" fn tzb_ask_all(
 }
 
 // The place in the file, counted from its first byte, of the number that the refusal of tzb_ask_all is about; -1 where it has none, and where there is no refusal. Nothing is written.
-#[unsafe(no_mangle)]
-pub extern "C" fn tzb_ask_all_place(
-    record: &[u8],
-    file: &[u8],
-    lng: f64,
-    lat: f64,
-    zones: &[u32],
-) -> i64
+pub fn tzb_ask_all_place(record: &[u8], file: &[u8], lng: f64, lat: f64, zones: &[u32]) -> i64
     ensures { result ≡ place_of (list_asked «record».now file.now lng lat (length zones.now)) }
 {
     let none = [0u32; 0];
@@ -272,16 +242,14 @@ pub extern "C" fn tzb_ask_all_place(
 // ---- stripes
 
 // How many numbers the stripes of the file take, or -1000 - n for refusal n: 49 where, in a group of two chunks or more, a chunk's box leaves the group's in y.
-#[unsafe(no_mangle)]
-pub extern "C" fn tzb_stripes_need(record: &[u8], file: &[u8]) -> i64
+pub fn tzb_stripes_need(record: &[u8], file: &[u8]) -> i64
     ensures { result ≡ needed_code (need_asked «record».now file.now) }
 {
     tzb_codes::needed_code(tzb_asked::stripes_need(record, file))
 }
 
 // The stripes of the file into lent numbers: how many were written, or -1000 - n for refusal n, and then nothing is written. The refusals of the need come first, then 46 where there is no room.
-#[unsafe(no_mangle)]
-pub extern "C" fn tzb_stripes(record: &[u8], file: &[u8], numbers: &mut [u32]) -> i64
+pub fn tzb_stripes(record: &[u8], file: &[u8], numbers: &mut [u32]) -> i64
     ensures value { result ≡ needed_code (how_many (stripes_asked «record».now file.now (length numbers.old))) }
     ensures memory { numbers.new ≡ left numbers.old (stripes_asked «record».now file.now (length numbers.old)) }
 {
@@ -289,8 +257,7 @@ pub extern "C" fn tzb_stripes(record: &[u8], file: &[u8], numbers: &mut [u32]) -
 }
 
 // The same as tzb_contains, by stripes: what tzb_contains answers, where the numbers are those of this record and this file. Of other numbers 44 for a place past them, 34 for a chunk outside its group or a height of 0.
-#[unsafe(no_mangle)]
-pub extern "C" fn tzb_contains_striped(
+pub fn tzb_contains_striped(
     record: &[u8],
     numbers: &[u32],
     file: &[u8],
@@ -304,8 +271,7 @@ pub extern "C" fn tzb_contains_striped(
 }
 
 // The same as tzb_contains_place, by stripes.
-#[unsafe(no_mangle)]
-pub extern "C" fn tzb_contains_striped_place(
+pub fn tzb_contains_striped_place(
     record: &[u8],
     numbers: &[u32],
     file: &[u8],
@@ -319,36 +285,21 @@ pub extern "C" fn tzb_contains_striped_place(
 }
 
 // The same as tzb_ask, by stripes.
-#[unsafe(no_mangle)]
-pub extern "C" fn tzb_ask_striped(
-    record: &[u8],
-    numbers: &[u32],
-    file: &[u8],
-    lng: f64,
-    lat: f64,
-) -> i64
+pub fn tzb_ask_striped(record: &[u8], numbers: &[u32], file: &[u8], lng: f64, lat: f64) -> i64
     ensures { result ≡ zone_code (lookup_asked_by (striped numbers.now) «record».now file.now lng lat) }
 {
     tzb_codes::zone_code(tzb_asked::lookup_by(true, numbers, record, file, lng, lat))
 }
 
 // The same as tzb_ask_place, by stripes.
-#[unsafe(no_mangle)]
-pub extern "C" fn tzb_ask_striped_place(
-    record: &[u8],
-    numbers: &[u32],
-    file: &[u8],
-    lng: f64,
-    lat: f64,
-) -> i64
+pub fn tzb_ask_striped_place(record: &[u8], numbers: &[u32], file: &[u8], lng: f64, lat: f64) -> i64
     ensures { result ≡ place_of (lookup_asked_by (striped numbers.now) «record».now file.now lng lat) }
 {
     tzb_codes::found_place(tzb_asked::lookup_by(true, numbers, record, file, lng, lat))
 }
 
 // The same as tzb_ask_all, by stripes.
-#[unsafe(no_mangle)]
-pub extern "C" fn tzb_ask_all_striped(
+pub fn tzb_ask_all_striped(
     record: &[u8],
     numbers: &[u32],
     file: &[u8],
@@ -363,8 +314,7 @@ pub extern "C" fn tzb_ask_all_striped(
 }
 
 // The same as tzb_ask_all_place, by stripes.
-#[unsafe(no_mangle)]
-pub extern "C" fn tzb_ask_all_striped_place(
+pub fn tzb_ask_all_striped_place(
     record: &[u8],
     numbers: &[u32],
     file: &[u8],
@@ -388,16 +338,14 @@ pub extern "C" fn tzb_ask_all_striped_place(
 // ---- the full check
 
 // Checks F1 to F6 over the whole file: 0 where it is accepted; -1000 - n for opening's refusal n; -1047 where another rule is broken. Of an accepted file no question is refused but for a number that is too large, a place of the candidate list that no cell lists, or room that is too short.
-#[unsafe(no_mangle)]
-pub extern "C" fn tzb_full_check(file: &[u8]) -> i32
+pub fn tzb_full_check(file: &[u8]) -> i32
     ensures { result ≡ check_code (full_check_of file.now) }
 {
     tzb_codes::check_code(tzb::full_check(file))
 }
 
 // The lowest broken rule where the full check says -1047, 2 to 6; else 0.
-#[unsafe(no_mangle)]
-pub extern "C" fn tzb_full_check_rule(file: &[u8]) -> u32
+pub fn tzb_full_check_rule(file: &[u8]) -> u32
     ensures { result ≡ rule_of (full_check_of file.now) }
 {
     tzb_codes::rule_of(tzb::full_check(file))
@@ -406,8 +354,7 @@ pub extern "C" fn tzb_full_check_rule(file: &[u8]) -> u32
 // ---- a zone as a map
 
 // A zone of the file as GeoJSON text (RFC 7946), into the first lent bytes: how many they are, or -1000 - n for refusal n, and then nothing is written. The full check's refusals come first; then 45, 48 where a ring cannot be drawn, 46 where there is no room. Beside -1047, tzb_full_check_rule says the rule.
-#[unsafe(no_mangle)]
-pub extern "C" fn tzb_map(file: &[u8], zone: u32, out: &mut [u8]) -> i64
+pub fn tzb_map(file: &[u8], zone: u32, out: &mut [u8]) -> i64
     ensures value { result ≡ drawn_code (how_long (map_in file.now zone (length out.old))) }
     ensures memory { out.new ≡ left out.old (as_answer (map_in file.now zone (length out.old))) }
 {
@@ -415,8 +362,7 @@ pub extern "C" fn tzb_map(file: &[u8], zone: u32, out: &mut [u8]) -> i64
 }
 
 // How many bytes that text takes, or -1000 - n for refusal n: the same refusals but for 46.
-#[unsafe(no_mangle)]
-pub extern "C" fn tzb_map_length(file: &[u8], zone: u32) -> i64
+pub fn tzb_map_length(file: &[u8], zone: u32) -> i64
     ensures { result ≡ drawn_code (how_long (map_of file.now zone)) }
 {
     tzb_codes::drawing_code(tzb_map::map_length(file, zone))
@@ -425,8 +371,7 @@ pub extern "C" fn tzb_map_length(file: &[u8], zone: u32) -> i64
 // ---- the journal
 
 // The journal's entry of a whole-number position, into the first 10 + 2 * places bytes of lent memory: 0, or -1000 - n for refusal n of the call, and then nothing is written: 44 for an opened record of another length, 50 for a number of places that is not offered, 46 where there is no room. Any refusal of the question is the entry's reason.
-#[unsafe(no_mangle)]
-pub extern "C" fn tzb_journal_ask(
+pub fn tzb_journal_ask(
     record: &[u8],
     file: &[u8],
     places: u32,
@@ -442,8 +387,7 @@ pub extern "C" fn tzb_journal_ask(
 }
 
 // An entry of these parts into lent memory: 0, or -1000 - n for refusal n, and then nothing is written: 50 for a number of places that is not offered, or an entry of no form, then 46 where there is no room.
-#[unsafe(no_mangle)]
-pub extern "C" fn tzb_journal_write(
+pub fn tzb_journal_write(
     places: u32,
     x: i32,
     y: i32,
@@ -465,13 +409,7 @@ fn count_and_reason(count: u8, reason: u8) -> u32
 }
 
 // The entry that stands in the bytes: 256 times its count plus its reason, its position in the first two lent numbers, its zones in the first lent places. Or -1000 - n for refusal n, and then nothing is written: 50 for a number of places that is not offered, or bytes of no form, then 46 where there is no room for the position or for the zones.
-#[unsafe(no_mangle)]
-pub extern "C" fn tzb_journal_read(
-    places: u32,
-    bytes: &[u8],
-    position: &mut [i32],
-    zones: &mut [u32],
-) -> i32
+pub fn tzb_journal_read(places: u32, bytes: &[u8], position: &mut [i32], zones: &mut [u32]) -> i32
     ensures value { result ≡ number_code (journal_read places bytes.now (length position.old) (length zones.old) then λ e. ok (count_and_reason e)) }
     ensures memory { (position.new ≡ left position.old (journal_read places bytes.now (length position.old) (length zones.old) then λ e. ok (position_of e))) × (zones.new ≡ left zones.old (journal_read places bytes.now (length position.old) (length zones.old) then λ e. ok e.zones)) }
 {
@@ -485,8 +423,7 @@ pub extern "C" fn tzb_journal_read(
 // ---- for comparison runs
 
 // The number at a place of the bytes, or 0 where it is refused.
-#[unsafe(no_mangle)]
-pub extern "C" fn tzb_number(bytes: &[u8], at: usize) -> i32
+pub fn tzb_number(bytes: &[u8], at: usize) -> i32
     ensures { result ≡ number_of (number_at bytes.now at) }
 {
     let place = Place { at };
@@ -498,8 +435,7 @@ pub extern "C" fn tzb_number(bytes: &[u8], at: usize) -> i32
 }
 
 // How many bytes that number has, or -1000 - n for refusal n.
-#[unsafe(no_mangle)]
-pub extern "C" fn tzb_number_length(bytes: &[u8], at: usize) -> i32
+pub fn tzb_number_length(bytes: &[u8], at: usize) -> i32
     ensures { result ≡ length_from at (number_at bytes.now at) }
 {
     let place = Place { at };
@@ -511,15 +447,7 @@ pub extern "C" fn tzb_number_length(bytes: &[u8], at: usize) -> i32
 }
 
 // 1 where the point lies in the box, 0 where not.
-#[unsafe(no_mangle)]
-pub extern "C" fn tzb_box_contains(
-    minx: i32,
-    miny: i32,
-    maxx: i32,
-    maxy: i32,
-    x: f64,
-    y: f64,
-) -> u32
+pub fn tzb_box_contains(minx: i32, miny: i32, maxx: i32, maxy: i32, x: f64, y: f64) -> u32
     ensures { result ≡ bit_of (contains (box_of minx miny maxx maxy) (position x y)) }
 {
     let b = BBox {
@@ -532,15 +460,7 @@ pub extern "C" fn tzb_box_contains(
 }
 
 // 1 where what lies in the box can matter to the ray from the point, 0 where not.
-#[unsafe(no_mangle)]
-pub extern "C" fn tzb_box_relevant(
-    minx: i32,
-    miny: i32,
-    maxx: i32,
-    maxy: i32,
-    x: f64,
-    y: f64,
-) -> u32
+pub fn tzb_box_relevant(minx: i32, miny: i32, maxx: i32, maxy: i32, x: f64, y: f64) -> u32
     ensures { result ≡ bit_of (relevant (box_of minx miny maxx maxy) (position x y)) }
 {
     let b = BBox {
@@ -553,24 +473,21 @@ pub extern "C" fn tzb_box_relevant(
 }
 
 // The CRC-32 of the bytes.
-#[unsafe(no_mangle)]
-pub extern "C" fn tzb_crc32(bytes: &[u8]) -> u32
+pub fn tzb_crc32(bytes: &[u8]) -> u32
     ensures { result ≡ crc32 bytes.now }
 {
     crc::crc32_ieee(bytes)
 }
 
 // 1 where the bytes are UTF-8, 0 where not.
-#[unsafe(no_mangle)]
-pub extern "C" fn tzb_utf8(bytes: &[u8]) -> u32
+pub fn tzb_utf8(bytes: &[u8]) -> u32
     ensures { result ≡ bit_of (utf8 [] bytes.now) }
 {
     tzb_codes::bit(utf8::utf8_ok(bytes))
 }
 
 // What the point sees of the segment from a to b: 2 it is on it, 1 the segment counts, 0 neither.
-#[unsafe(no_mangle)]
-pub extern "C" fn tzb_ray(ax: i32, ay: i32, bx: i32, by: i32, x: f64, y: f64) -> i32
+pub fn tzb_ray(ax: i32, ay: i32, bx: i32, by: i32, x: f64, y: f64) -> i32
     ensures { result ≡ seen_code (ray_of (point ax ay) (point bx by) (position x y)) }
 {
     let a = I32Point { x: ax, y: ay };
@@ -579,8 +496,7 @@ pub extern "C" fn tzb_ray(ax: i32, ay: i32, bx: i32, by: i32, x: f64, y: f64) ->
 }
 
 // 1 where one end alone is above the point, 0 where not.
-#[unsafe(no_mangle)]
-pub extern "C" fn tzb_parity(ax: i32, ay: i32, bx: i32, by: i32, x: f64, y: f64) -> u32
+pub fn tzb_parity(ax: i32, ay: i32, bx: i32, by: i32, x: f64, y: f64) -> u32
     ensures { result ≡ bit_of (parity_of (position x y) (point ax ay) (point bx by)) }
 {
     let a = I32Point { x: ax, y: ay };
@@ -589,8 +505,7 @@ pub extern "C" fn tzb_parity(ax: i32, ay: i32, bx: i32, by: i32, x: f64, y: f64)
 }
 
 // The next float upward.
-#[unsafe(no_mangle)]
-pub extern "C" fn tzb_next_up(x: f64) -> f64
+pub fn tzb_next_up(x: f64) -> f64
     ensures { result ≡ next_up x }
 {
     tzb_core::raycast::next_up(x)

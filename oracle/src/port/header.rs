@@ -40,7 +40,7 @@ fn c_type(rattle: &str) -> &'static str {
 fn header_declares_the_exports() {
     let root = concat!(env!("CARGO_MANIFEST_DIR"), "/..");
     let read = |path: &str| std::fs::read_to_string(format!("{root}/{path}")).unwrap();
-    let source = read("crates/tzb_c/src/lib.rt");
+    let source = read("crates/tzb_c_c/src/lib.rt");
     let exports: Vec<String> = source
         .split("pub extern \"C\" fn ")
         .skip(1)

@@ -11,8 +11,8 @@ use std::path::Path;
 use std::process::{Child, Command, Stdio};
 use std::thread;
 
-/// Where the program stands after a check.
-pub const PROGRAM: &str = concat!(env!("CARGO_MANIFEST_DIR"), "/../target/bin/journal");
+/// Where the program stands after 'rt run' in its folder, or 'rt ci'.
+pub const PROGRAM: &str = concat!(env!("CARGO_MANIFEST_DIR"), "/../crates/journal/out/journal");
 const SAMPLE: &str = concat!(env!("CARGO_MANIFEST_DIR"), "/../sample/real-ne.tzb");
 
 /// The index that it is given.
@@ -273,7 +273,7 @@ pub fn run(path: &Path, seed: u64) {
     println!("seed {seed}, {}", path.display());
     if !path.exists() {
         println!(
-            "{} is not there: a check of the repository writes target/bin/journal",
+            "{} is not there: 'rt run' in crates/journal writes crates/journal/out/journal",
             path.display()
         );
         std::process::exit(1);
