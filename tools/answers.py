@@ -174,6 +174,7 @@ PATH = re.compile(r"(?<![\w'.\-₀])(" + W + r")((?:\." + W + r")+)|(?<![\w'.\-�
 
 def turn_body(body, place, places, todo):
     env = {"c": place}
+    body = re.sub(r"\.«(\w+)»\.(ensures|result|requires|new|auto)", r".\1.\2", body)
 
     def walk(head, steps):
         at = env[head]

@@ -1,10 +1,12 @@
 // A list of files, and of questions that are put to each with bytes that are lent for it. The number in a file's record says how many
 // times bytes are lent, and the number in their record how many questions come behind them.
-ghost use Rattle.std.specs.Prelude.{◌-◌, ◌≤◌};
+ghost use Rattle.std.specs.Prelude.{◌-◌, ◌≤◌, IfOk};
 
 use crate::numbers::number;
 use crate::records::read_held;
 use crate::tally::{Tally, less};
+use std::io;
+use std::io::Read;
 
 #[derive(Clone, Copy)]
 pub struct Asking {
@@ -25,24 +27,29 @@ impl Asking {
     }
 
     // Reads the bytes that are lent next, or a file where those were all.
-    pub fn lend(self, file: &mut [u8; 1024], lent: &mut [u8; 1024]) -> Self
-        ensures { result.tally.left ≤ self.tally.left - 1 }
+    pub fn lend<R: Read>(
+        self,
+        input: &mut R,
+        file: &mut [u8; 1024],
+        lent: &mut [u8; 1024],
+    ) -> io::Result<Self>
+        ensures { IfOk result (λ a. a.tally.left ≤ self.tally.left - 1) }
     {
         let tally = self.tally;
         if self.times == 0 {
-            let came = read_held(file);
-            return Asking {
+            let came = read_held(input, file)?;
+            return Ok(Asking {
                 tally: tally.past(came),
                 times: number(file, 4),
                 questions: 0,
-            };
+            });
         }
-        let came = read_held(lent);
-        Asking {
+        let came = read_held(input, lent)?;
+        Ok(Asking {
             tally: tally.past(came),
             times: self.times - 1,
             questions: number(lent, 4),
-        }
+        })
     }
 
     // After an answer.

@@ -1,15 +1,41 @@
-// The records of a list, as they come from standard input, and parts of their bytes.
+// The records of a list, as they come from a reader, and parts of their bytes.
+ghost use Rattle.std.specs.Prelude.{IfOk, IsTrue, take};
+ghost use Rattle.std.specs.Io.{ReadsAtMost};
+ghost use Rattle.std.specs.Io.KnownBytes.{Consumes};
+
 use crate::numbers::{number, size};
+use std::io;
+use std::io::Read;
+
+// Reads until the bytes are full or the input ends. How many came.
+pub fn fill<R: Read>(input: &mut R, s: &mut [u8]) -> io::Result<usize>
+    ensures within { ReadsAtMost result s.new }
+    ensures bytes { IfOk result (λ n. Consumes (R.remaining input.old) (R.remaining input.new) (take n s.new)) }
+{
+    let mut n = 0;
+    while n < s.len() {
+        let came = input.read(&mut s[n..])?;
+        if came == 0 {
+            break;
+        }
+        n += came;
+    }
+    Ok(n)
+}
 
 // Fills the record. Whether all of it came.
-pub fn read(r: &mut [u8]) -> bool {
+pub fn read<R: Read>(input: &mut R, r: &mut [u8]) -> io::Result<bool>
+    ensures { IfOk result (λ all. IsTrue all → Consumes (R.remaining input.old) (R.remaining input.new) r.new) }
+{
     let n = r.len();
-    io::read_full(0, r) == n
+    Ok(fill(input, r)? == n)
 }
 
 // A record that holds bytes: their length, a number, the bytes, zeros. Whether it came, and the length is one that fits.
-pub fn read_held(r: &mut [u8; 1024]) -> bool {
-    read(r) & (number(r, 0) <= 1016)
+pub fn read_held<R: Read>(input: &mut R, r: &mut [u8; 1024]) -> io::Result<bool>
+    ensures { IfOk result (λ all. IsTrue all → Consumes (R.remaining input.old) (R.remaining input.new) r.new) }
+{
+    Ok(read(input, r)? & (number(r, 0) <= 1016))
 }
 
 // The bytes that a record holds.

@@ -1,5 +1,10 @@
 // The count of what is answered as a list says, and the line that tells it.
-ghost use Rattle.std.specs.Prelude.{◌≡◌, ◌-◌, ◌≤◌};
+ghost use Rattle.std.specs.Prelude.{◌≡◌, ◌-◌, ◌≤◌, ◌++◌, OnOk};
+ghost use Rattle.std.specs.Fmt.{decimal};
+ghost use Rattle.std.specs.Io.KnownBytes.{Appends};
+
+use std::io;
+use std::io::Write;
 
 // One less, and 0 for 0.
 pub fn less(n: u32) -> u32
@@ -48,18 +53,22 @@ impl Tally {
             return t;
         }
         Tally {
-            right: std::num::wrapping_add_u64(t.right, 1),
+            right: t.right.wrapping_add(1),
             left: t.left,
         }
     }
 }
 
-pub fn write(text: &[u8]) {
-    io::write_all(1, text);
+pub fn write<W: Write>(out: &mut W, text: &[u8]) -> io::Result<()>
+    ensures { OnOk result (Appends (W.contents out.old) (W.contents out.new) text.now) }
+{
+    out.write_all(text)
 }
 
 // Writes a count, and of what.
-pub fn tell(count: u64, of: &[u8]) {
-    io::print_decimal(1, count);
-    write(of);
+pub fn tell<W: Write>(out: &mut W, count: u64, of: &[u8]) -> io::Result<()>
+    ensures { OnOk result (Appends (W.contents out.old) (W.contents out.new) (decimal count ++ of.now)) }
+{
+    write!(out, "{count}")?;
+    write(out, of)
 }

@@ -1,2 +1,3 @@
--- Laws of the entries that answer the input, for the code.
+-- Laws of the entries that answer the input, and of runs, for the code.
 pub mod AnsweredLaws
+pub mod RunLaws

@@ -1,17 +1,26 @@
 // The journal of answers: `journal INDEX` answers each eight-byte position of standard input (x and y as i32, the least significant byte
 // first) from the index file, of at most 65,536 bytes, with an entry on standard output. Where the file does not open, its refusal is
 // the reason of every entry. What cannot be read or written, and input that ends within a position, a message on standard error tells,
-// and the program ends; the entries of the positions before it are written.
-ghost use Rattle.std.specs.Prelude.{◌≡◌, ◌++◌, ◌+◌, ◌*◌, ◌/◌, ◌≤◌, length, drop};
-ghost use Rattle.io.specs.Counts.{IsPrefixLen};
+// and the program ends with status 1; the entries of the positions before it are written.
+#![tactic(auto)]
+
+ghost use Rattle.std.specs.Prelude.{◌≡◌, ◌++◌, ◌+◌, ◌*◌, ◌/◌, ◌<◌, ◌≤◌, length, take, drop, IsNone, OnOk};
+ghost use Rattle.std.specs.Io.KnownBytes.{Consumes, Appends, IsAtEnd};
 ghost use Rattle.entries.specs.Entry.{entry_wide, bytes_of};
 ghost use Rattle.replies.specs.Replies.{opening_told};
 ghost use Rattle.tzb_journal.specs.Journal.{entry_for};
 ghost use Rattle.journal.specs.Answered.{places, position_at, entries_of};
+ghost use Rattle.journal.specs.Counts.{IsPrefixLen};
+ghost use Rattle.journal.specs.Runs.{TurnEnds, RunEnds, AllAnswered};
+ghost use Rattle.tzb.specs.Opening.{open_of};
 
-use libc::{STDERR_FILENO, STDIN_FILENO, STDOUT_FILENO};
 use plane::I32Point;
 use replies::Opening;
+use std::fs::File;
+use std::io::{Read, Write};
+use std::process::ExitCode;
+use std::rt::Files;
+use std::{env, fmt, io};
 
 // How many zones an entry has places for, and how many bytes it takes.
 const PLACES: usize = 3;
@@ -55,53 +64,77 @@ fn note_all(opening: Opening, file: &[u8], input: &[u8], out: &mut [u8]) -> usiz
     ensures value { (result ≡ entry_wide places * (length input.now / 8)) × IsPrefixLen result out.new }
 {
     let n = input.len() / POSITION;
-    let mut i = 0;
-    while i < n {
+    for i in 0..n {
         let at = ENTRY * i;
         note_one(opening, file, input, POSITION * i, &mut out[at..]);
-        i += 1;
     }
     ENTRY * n
 }
 
 // ---- in and out
 
-fn say(text: &[u8]) {
-    io::write_all(STDERR_FILENO, text);
+// Why the program ends before its input does.
+#[derive(Drop)]
+enum Stop<'a> {
+    Usage,
+    Index(&'a str, io::Error),
+    TooLong(&'a str),
+    Input(io::Error),
+    WithinPosition,
+    Output(io::Error),
 }
 
-// How many bytes came, and whether a read failed.
+impl fmt::Display for Stop<'_> {
+    fn fmt<W: fmt::Write>(&self, f: &mut fmt::Formatter<W>) -> fmt::Result {
+        match self {
+            Stop::Usage => write!(f, "usage: journal INDEX <POSITIONS >ENTRIES"),
+            Stop::Index(name, why) => write!(f, "{name}: {why}"),
+            Stop::TooLong(name) => write!(f, "{name}: more than 65,536 bytes"),
+            Stop::Input(why) => write!(f, "standard input: {why}"),
+            Stop::WithinPosition => write!(f, "standard input: it ends within a position"),
+            Stop::Output(why) => write!(f, "standard output: {why}"),
+        }
+    }
+}
+
+fn say(rt: &impl Eprint, why: Stop<'_>) {
+    let _ = eprintln!(rt; "{why}");
+}
+
+// How many bytes came, and why no more where a read failed.
 #[derive(Clone, Copy)]
 struct Came {
     count: usize,
-    failed: bool,
+    failed: Option<io::Error>,
 }
 
-// One read into the bytes. Where it fails, a message tells why, and none came.
-fn read_some(fd: i32, name: &[u8], buf: &mut [u8]) -> Came
-    ensures { IsPrefixLen result.count buf.new }
+// One read into the bytes. Where it fails, none came.
+fn read_some<R: Read>(from: &mut R, buf: &mut [u8]) -> Came
+    ensures within { IsPrefixLen result.count buf.new }
+    ensures bytes { Consumes (R.remaining from.old) (R.remaining from.new) (take result.count buf.new) }
+    ensures end { result.count ≡ 0 → 0 < length buf.new → IsNone result.failed → IsAtEnd (R.remaining from.new) }
 {
-    let got = libc::read(fd, buf);
-    if got < 0 {
-        os::fail(name);
-        return Came {
+    match from.read(buf) {
+        Ok(count) => Came {
+            count,
+            failed: None,
+        },
+        Err(why) => Came {
             count: 0,
-            failed: true,
-        };
-    }
-    Came {
-        count: io::count(got, buf),
-        failed: false,
+            failed: Some(why),
+        },
     }
 }
 
 // Reads until the bytes are full, the input ends, or a read fails.
-fn read(fd: i32, name: &[u8], buf: &mut [u8]) -> Came
-    ensures { IsPrefixLen result.count buf.new }
+fn read<R: Read>(from: &mut R, buf: &mut [u8]) -> Came
+    ensures within { IsPrefixLen result.count buf.new }
+    ensures bytes { Consumes (R.remaining from.old) (R.remaining from.new) (take result.count buf.new) }
+    ensures end { result.count < length buf.new → IsNone result.failed → IsAtEnd (R.remaining from.new) }
 {
     let mut n = 0;
     while n < buf.len() {
-        let came = read_some(fd, name, &mut buf[n..]);
+        let came = read_some(from, &mut buf[n..]);
         if came.count == 0 {
             return Came {
                 count: n,
@@ -112,82 +145,91 @@ fn read(fd: i32, name: &[u8], buf: &mut [u8]) -> Came
     }
     Came {
         count: n,
-        failed: false,
+        failed: None,
     }
 }
 
-// Writes the entries of all whole positions. Whether they could be written.
-fn write(opening: Opening, file: &[u8], input: &[u8]) -> bool
+// Writes the entries of all whole positions.
+fn write<W: Write>(to: &mut W, opening: Opening, file: &[u8], input: &[u8]) -> io::Result<()>
     requires { length input.now ≤ 4096 }
+    ensures { OnOk result (Appends (W.contents to.old) (W.contents to.new) (entries_of (opening_told opening) file.now input.now (length input.now / 8))) }
 {
     let mut out = [0u8; MANY * ENTRY];
     let n = note_all(opening, file, input, &mut out);
-    let written = io::write_all(STDOUT_FILENO, &out[..n]);
-    if !written {
-        os::fail(b"standard output");
-    }
-    written
+    to.write_all(&out[..n])
 }
 
 // Answers the next positions. Whether there may be more.
-fn turn(opening: Opening, file: &[u8]) -> bool {
+fn turn<R: Read, W: Write>(
+    from: &mut R,
+    to: &mut W,
+    opening: Opening,
+    file: &[u8],
+) -> Result<bool, Stop<'static>>
+    ensures { TurnEnds (opening_told opening) file.now (R.remaining from.old) (R.remaining from.new) (W.contents to.old) (W.contents to.new) result }
+{
     let mut input = [0u8; MANY * POSITION];
-    let came = read(STDIN_FILENO, b"standard input", &mut input);
+    let came = read(from, &mut input);
     let n = came.count;
-    if !write(opening, file, &input[..n]) {
-        return false;
+    if let Err(why) = write(to, opening, file, &input[..n]) {
+        return Err(Stop::Output(why));
     }
-    if came.failed {
-        return false;
+    if let Some(why) = came.failed {
+        return Err(Stop::Input(why));
     }
     if n % POSITION != 0 {
-        say(b"standard input: it ends within a position\n");
-        return false;
+        return Err(Stop::WithinPosition);
     }
-    n == MANY * POSITION
+    Ok(n == MANY * POSITION)
 }
 
-// Nothing says that the input ends, so the loop counts its turns down, from a number that no run uses up.
-fn answer(file: &[u8]) {
+// Nothing says that the input ends, so the loop counts its turns, up to a number that no run uses up.
+fn answer<R: Read, W: Write>(from: &mut R, to: &mut W, file: &[u8]) -> Result<(), Stop<'static>>
+    ensures ends { RunEnds (open_of file.now) file.now (R.remaining from.old) (R.remaining from.new) (W.contents to.old) (W.contents to.new) result }
+    ensures all { OnOk result (AllAnswered (open_of file.now) file.now (R.remaining from.old) (R.remaining from.new) (W.contents to.old) (W.contents to.new)) }
+{
     let opening = tzb::open(file);
-    let mut turns = u64::MAX;
-    while turns > 0 && turn(opening, file) {
-        turns -= 1;
+    for _turn in 0..u64::MAX {
+        if !turn(from, to, opening, file)? {
+            return Ok(());
+        }
     }
+    Ok(())
 }
 
 // Reads the file, with room for one byte more than it may have.
-fn run(name: &[u8]) {
-    let fd = os::open_read(name);
-    if fd < 0 {
-        os::fail(name);
-        return;
+fn read_file<'a>(rt: &impl Files, name: &'a str, file: &mut [u8]) -> Result<usize, Stop<'a>> {
+    let mut from = match File::open(rt, name) {
+        Ok(from) => from,
+        Err(why) => return Err(Stop::Index(name, why)),
+    };
+    let came = read(&mut from, file);
+    match came.failed {
+        Some(why) => Err(Stop::Index(name, why)),
+        None => Ok(came.count),
     }
-    let mut file = [0u8; LONGEST + 1];
-    let came = read(fd, name, &mut file);
-    libc::close(fd);
-    if came.failed {
-        return;
-    }
-    let n = came.count;
-    if LONGEST < n {
-        say(name);
-        say(b": more than 65,536 bytes\n");
-        return;
-    }
-    answer(&file[..n]);
 }
 
-fn main() {
-    if os::arg_count() != 2 {
-        say(b"usage: journal INDEX <POSITIONS >ENTRIES\n");
-        return;
+fn run<'a>(rt: &(impl Files + Input + Print), name: &'a str) -> Result<(), Stop<'a>> {
+    let mut file = [0u8; LONGEST + 1];
+    let n = read_file(rt, name, &mut file)?;
+    if LONGEST < n {
+        return Err(Stop::TooLong(name));
     }
-    let mut name = io::buffer();
-    let n = os::arg(1, &mut name);
-    if os::errno() != 0 {
-        os::fail(b"the file's name");
-        return;
+    answer(&mut rt.reader(), &mut io::writer(rt), &file[..n])
+}
+
+fn main(rt: HostRuntime) -> io::Result<ExitCode> {
+    let args: Vec<String> = env::args(&rt)?.collect(rt.alloc())?;
+    let ran = match args.as_slice() {
+        [_, name] => run(&rt, name.as_str()),
+        _ => Err(Stop::Usage),
+    };
+    match ran {
+        Ok(()) => Ok(ExitCode::SUCCESS),
+        Err(why) => {
+            say(&rt, why);
+            Ok(ExitCode::FAILURE)
+        }
     }
-    run(&name[..n]);
 }

@@ -1,9 +1,13 @@
 // Asks the small files of standard input for names and candidates, and writes how many questions are answered as the list says before
 // the first difference or the list's end. A file is opened, and its record is then asked with its own bytes, with the first of them,
 // and with other bytes.
+#![tactic(auto)]
+
 use harness::{Asking, Said, float, number, size};
 use opened::Opened;
 use replies::{Bounds, Candidate, Choice, Opening};
+use std::io;
+use std::io::Read;
 
 fn is_at(b: Bounds, q: &[u8]) -> bool {
     match b {
@@ -63,24 +67,26 @@ fn replay(file: &[u8], s: &[u8], q: &[u8; 40]) -> bool {
 }
 
 // Whether there is one more question, and it is answered rightly.
-fn next(file: &[u8; 1024], lent: &[u8; 1024]) -> bool {
+fn next<R: Read>(input: &mut R, file: &[u8; 1024], lent: &[u8; 1024]) -> io::Result<bool> {
     let mut q = [0u8; 40];
-    harness::read(&mut q) & replay(harness::held(file), harness::held(lent), &q)
+    Ok(harness::read(input, &mut q)? & replay(harness::held(file), harness::held(lent), &q))
 }
 
-fn main() {
+fn main(rt: HostRuntime) -> io::Result<()> {
+    let mut input = rt.stdin();
     let mut file = [0u8; 1024];
     let mut lent = [0u8; 1024];
     let mut a = Asking::new();
     while 0 < a.tally.left {
         if a.questions == 0 {
-            a = a.lend(&mut file, &mut lent);
+            a = a.lend(&mut input, &mut file, &mut lent)?;
         } else {
-            a = a.with(next(&file, &lent));
+            a = a.with(next(&mut input, &file, &lent)?);
         }
     }
     harness::tell(
+        &mut rt.stdout(),
         a.tally.right,
         b" questions of names and candidates answered as document 01 says\n",
-    );
+    )
 }

@@ -1,6 +1,10 @@
 // Runs `crc::crc32_ieee` on vectors and prints how many came out right; then at each length from 0 to 64,
 // beside a CRC that is worked out here bit by bit.
+#![tactic(auto)]
+
 ghost use Rattle.std.specs.Prelude.{◌≤◌};
+
+use std::io;
 
 fn right(s: &[u8], want: u32) -> u64
     ensures { result ≤ 1 }
@@ -96,10 +100,8 @@ fn wide(b: u8) -> u32 {
 // CRC-32 bit by bit, with no table.
 fn slow(s: &[u8]) -> u32 {
     let mut c: u32 = 0xffff_ffff;
-    let mut i = 0;
-    while i < s.len() {
-        c = eight(c ^ wide(s[i]));
-        i += 1;
+    for b in s {
+        c = eight(c ^ wide(*b));
     }
     c ^ 0xffff_ffff
 }
@@ -126,25 +128,25 @@ fn agrees(p: &[u8], n: usize) -> u64
 // At how many lengths from 0 to 64 they agree.
 fn lengths(p: &[u8; 64]) -> u64 {
     let mut agreed = 0;
-    let mut n: usize = 0;
-    while n <= 64 {
+    for n in 0..=64 {
         agreed += agrees(p, n);
-        n += 1;
     }
     agreed
 }
 
-fn main() {
+fn main(rt: HostRuntime) -> io::Result<()> {
     // Each is 167 more than the one before it, modulo 256.
     let pattern = b"\x0d\xb4\x5b\x02\xa9\x50\xf7\x9e\x45\xec\x93\x3a\xe1\x88\x2f\xd6\
         \x7d\x24\xcb\x72\x19\xc0\x67\x0e\xb5\x5c\x03\xaa\x51\xf8\x9f\x46\
         \xed\x94\x3b\xe2\x89\x30\xd7\x7e\x25\xcc\x73\x1a\xc1\x68\x0f\xb6\
         \x5d\x04\xab\x52\xf9\xa0\x47\xee\x95\x3c\xe3\x8a\x31\xd8\x7f\x26";
-    harness::write(b"crc: ");
+    let mut out = rt.stdout();
+    harness::write(&mut out, b"crc: ")?;
     harness::tell(
+        &mut out,
         single() + rhash() + golden() + autosar(),
         b" of 20 published vectors, ",
-    );
-    harness::tell(zlib(), b" of 4 of zlib, ");
-    harness::tell(lengths(pattern), b" of 65 lengths\n");
+    )?;
+    harness::tell(&mut out, zlib(), b" of 4 of zlib, ")?;
+    harness::tell(&mut out, lengths(pattern), b" of 65 lengths\n")
 }

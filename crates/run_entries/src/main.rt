@@ -2,12 +2,16 @@
 // are answered so before the first difference or the list's end. A row says how many bytes are read or zones written, and how much is
 // lent for the answer. A row to read has the bytes, a row to write the position, the reason and the zones; then come the zones that are
 // read or the end of the entry, the refusal or 0, and three numbers.
+#![tactic(auto)]
+
 ghost use Rattle.std.specs.Prelude.{◌<◌};
 
 use answer::Checked;
 use entry_bytes::EntryRead;
 use harness::{Said, Tally};
 use plane::I32Point;
+use std::io;
+use std::io::Read;
 
 const PLACES: u8 = 3;
 
@@ -38,8 +42,7 @@ fn room(r: &[u8; 64]) -> usize {
 
 // Whether the places hold the row's first zones, and behind them what was lent.
 fn are_zones(places: &[u32; 4], r: &[u8; 64], count: usize) -> bool {
-    let mut i = 0;
-    while i < 4 {
+    for i in 0..4 {
         let mut expected = LENT_ZONE;
         if i < count {
             expected = harness::number(r, 36 + 4 * i);
@@ -47,7 +50,6 @@ fn are_zones(places: &[u32; 4], r: &[u8; 64], count: usize) -> bool {
         if places[i] != expected {
             return false;
         }
-        i += 1;
     }
     true
 }
@@ -94,14 +96,7 @@ fn is_read(r: &[u8; 64]) -> bool {
 
 // Whether the bytes from that place on are as they were lent.
 fn is_lent(out: &[u8], from: usize) -> bool {
-    let mut i = from;
-    while i < out.len() {
-        if out[i] != LENT {
-            return false;
-        }
-        i += 1;
-    }
-    true
+    out.iter().skip(from).all(|b| *b == LENT)
 }
 
 fn write(r: &[u8; 64], zones: &[u32], out: &mut [u8]) -> Checked {
@@ -158,22 +153,27 @@ fn is_written(r: &[u8; 64]) -> bool {
 }
 
 // Whether there is one more row, and the port says the same.
-fn next() -> bool {
+fn next<R: Read>(input: &mut R) -> io::Result<bool> {
     let mut r = [0u8; 64];
-    if !harness::read(&mut r) {
-        return false;
+    if !harness::read(input, &mut r)? {
+        return Ok(false);
     }
-    match r[0] {
+    Ok(match r[0] {
         0 => is_read(&r),
         1 => is_written(&r),
         _ => false,
-    }
+    })
 }
 
-fn main() {
+fn main(rt: HostRuntime) -> io::Result<()> {
+    let mut input = rt.stdin();
     let mut t = Tally::new();
     while 0 < t.left {
-        t = t.with(next());
+        t = t.with(next(&mut input)?);
     }
-    harness::tell(t.right, b" entries read or written as document 02 says\n");
+    harness::tell(
+        &mut rt.stdout(),
+        t.right,
+        b" entries read or written as document 02 says\n",
+    )
 }

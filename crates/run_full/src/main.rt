@@ -1,8 +1,12 @@
 // Puts the small files of standard input to the full check. Each stands in a record with the number that documents 01 and 02 give it: 0 where the
 // full check accepts it, opening's number where that refuses it, else 47 and a hundred times the lowest broken rule. Writes how many are
 // answered so before the first difference or the list's end.
+#![tactic(auto)]
+
 use harness::Tally;
 use replies::FullCheck;
+use std::io;
+use std::io::Read;
 
 // Whether the port says of the record's file what its number says.
 fn is_same(r: &[u8; 1024]) -> bool {
@@ -17,15 +21,20 @@ fn is_same(r: &[u8; 1024]) -> bool {
 }
 
 // Whether there is one more record, and the port says the same.
-fn next() -> bool {
+fn next<R: Read>(input: &mut R) -> io::Result<bool> {
     let mut r = [0u8; 1024];
-    harness::read_held(&mut r) & is_same(&r)
+    Ok(harness::read_held(input, &mut r)? & is_same(&r))
 }
 
-fn main() {
+fn main(rt: HostRuntime) -> io::Result<()> {
+    let mut input = rt.stdin();
     let mut t = Tally::new();
     while 0 < t.left {
-        t = t.with(next());
+        t = t.with(next(&mut input)?);
     }
-    harness::tell(t.right, b" files checked as documents 01 and 02 say\n");
+    harness::tell(
+        &mut rt.stdout(),
+        t.right,
+        b" files checked as documents 01 and 02 say\n",
+    )
 }

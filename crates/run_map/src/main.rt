@@ -2,8 +2,12 @@
 // (0 where the text is written; opening's number; 47 and a hundred times the lowest broken rule; 45, 48 or 46); then the text that is
 // expected, the zone, and at the end how much room is lent. Writes how many are answered so before the first difference or the list's
 // end.
+#![tactic(auto)]
+
 use harness::Tally;
 use replies::Drawing;
+use std::io;
+use std::io::Read;
 
 // Whether the drawing is that long where the number is 0, and else is refused by it.
 fn is_said(d: Drawing, number: u32, long: usize) -> bool {
@@ -18,8 +22,7 @@ fn is_said(d: Drawing, number: u32, long: usize) -> bool {
 
 // Whether the bytes are the text, and behind it what was lent.
 fn is_written(out: &[u8], text: &[u8]) -> bool {
-    let mut i = 0;
-    while i < out.len() {
+    for i in 0..out.len() {
         let mut expected = 0xa5;
         if i < text.len() {
             expected = text[i];
@@ -27,7 +30,6 @@ fn is_written(out: &[u8], text: &[u8]) -> bool {
         if out[i] != expected {
             return false;
         }
-        i += 1;
     }
     true
 }
@@ -75,19 +77,24 @@ fn is_drawn(r: &[u8; 1024], q: &[u8; 1024]) -> bool {
 }
 
 // Whether there is one more case, and the port says the same.
-fn next() -> bool {
+fn next<R: Read>(input: &mut R) -> io::Result<bool> {
     let mut r = [0u8; 1024];
     let mut q = [0u8; 1024];
-    if harness::read_held(&mut r) & harness::read_held(&mut q) {
-        return is_measured(&r, &q) & is_drawn(&r, &q);
+    if harness::read_held(input, &mut r)? & harness::read_held(input, &mut q)? {
+        return Ok(is_measured(&r, &q) & is_drawn(&r, &q));
     }
-    false
+    Ok(false)
 }
 
-fn main() {
+fn main(rt: HostRuntime) -> io::Result<()> {
+    let mut input = rt.stdin();
     let mut t = Tally::new();
     while 0 < t.left {
-        t = t.with(next());
+        t = t.with(next(&mut input)?);
     }
-    harness::tell(t.right, b" maps drawn as document 02 says\n");
+    harness::tell(
+        &mut rt.stdout(),
+        t.right,
+        b" maps drawn as document 02 says\n",
+    )
 }

@@ -1,10 +1,14 @@
 // Opens the small files of standard input, each of which stands in a record with the number that document 01 gives it (0: it opens),
 // and writes how many are answered so before the first difference or the list's end. A file that opens is then asked for its first
 // name, for one past its last zone (45), and for a name and a chunk of which the bytes are not lent (44).
+#![tactic(auto)]
+
 use harness::Tally;
 use opened::Opened;
 use reader_records::ChunkAt;
 use replies::Opening;
+use std::io;
+use std::io::Read;
 
 // The number by which chunk 0 is refused, or 0.
 fn first_chunk(o: Opened, file: &[u8]) -> u32 {
@@ -35,15 +39,20 @@ fn is_same(r: &[u8; 1024]) -> bool {
 }
 
 // Whether there is one more record, and the port says the same.
-fn next() -> bool {
+fn next<R: Read>(input: &mut R) -> io::Result<bool> {
     let mut r = [0u8; 1024];
-    harness::read_held(&mut r) & is_same(&r)
+    Ok(harness::read_held(input, &mut r)? & is_same(&r))
 }
 
-fn main() {
+fn main(rt: HostRuntime) -> io::Result<()> {
+    let mut input = rt.stdin();
     let mut t = Tally::new();
     while 0 < t.left {
-        t = t.with(next());
+        t = t.with(next(&mut input)?);
     }
-    harness::tell(t.right, b" files opened or refused as document 01 says\n");
+    harness::tell(
+        &mut rt.stdout(),
+        t.right,
+        b" files opened or refused as document 01 says\n",
+    )
 }

@@ -1,7 +1,11 @@
 // Replays the list of standard input, on which the Rust original answered, and writes at how many segments the port answers alike
 // before the first difference or the list's end.
+#![tactic(auto)]
+
 use harness::{Tally, float, whole};
 use plane::{I32Point, Point, Seen};
+use std::io;
+use std::io::Read;
 
 // On the segment 2, a segment that counts 1, neither 0.
 fn answer(seen: Seen) -> u8 {
@@ -29,15 +33,20 @@ fn replay(r: &[u8; 40]) -> bool {
 }
 
 // Whether there is one more record, and the port says the same of it.
-fn next() -> bool {
+fn next<R: Read>(input: &mut R) -> io::Result<bool> {
     let mut r = [0u8; 40];
-    harness::read(&mut r) & replay(&r)
+    Ok(harness::read(input, &mut r)? & replay(&r))
 }
 
-fn main() {
+fn main(rt: HostRuntime) -> io::Result<()> {
+    let mut input = rt.stdin();
     let mut t = Tally::new();
     while 0 < t.left {
-        t = t.with(next());
+        t = t.with(next(&mut input)?);
     }
-    harness::tell(t.right, b" segments answered as the original answers\n");
+    harness::tell(
+        &mut rt.stdout(),
+        t.right,
+        b" segments answered as the original answers\n",
+    )
 }

@@ -1,21 +1,23 @@
 // Asks the small files of standard input for their stripes, and questions by stripes, and writes how many are answered as the list says
 // before the first difference or the list's end. A file is opened, and its record is then asked with its own bytes and with others, and
 // with the numbers that are built of it and with others. Of lent memory every number is looked at, also after a refusal.
-ghost use Rattle.std.specs.Prelude.{◌-◌, ◌≤◌};
+#![tactic(auto)]
+
+ghost use Rattle.std.specs.Prelude.{◌-◌, ◌≤◌, IfOk};
 
 use harness::{Asking, Said, float, number, size, whole};
 use opened::Opened;
 use replies::{Found, Listing, Needed, Opening, Verdict};
+use std::io;
+use std::io::Read;
 
 // ---- numbers: those that a record holds, and lent memory, of which each place holds 1,234,567,890
 
 // The numbers of a record, four bytes each.
 fn numbers_of(r: &[u8; 1024]) -> [u32; 256] {
     let mut out = [0u32; 256];
-    let mut i = 0;
-    while i < 254 {
+    for i in 0..254 {
         out[i] = number(r, 8 + 4 * i);
-        i += 1;
     }
     out
 }
@@ -33,8 +35,7 @@ fn is_left(out: &[u32], count: usize, expected: &[u32]) -> bool {
     if expected.len() < count {
         return false;
     }
-    let mut i = 0;
-    while i < out.len() {
+    for i in 0..out.len() {
         let mut held = 1_234_567_890;
         if i < count {
             held = expected[i];
@@ -42,7 +43,6 @@ fn is_left(out: &[u32], count: usize, expected: &[u32]) -> bool {
         if out[i] != held {
             return false;
         }
-        i += 1;
     }
     true
 }
@@ -149,47 +149,62 @@ fn replay(file: &[u8], s: &[u8], numbers: &[u32], q: &[u8; 48]) -> bool {
 }
 
 // Whether there is one more question, and it is answered rightly.
-fn next(file: &[u8; 1024], lent: &[u8; 1024], numbers: &[u8; 1024]) -> bool {
+fn next<R: Read>(
+    input: &mut R,
+    file: &[u8; 1024],
+    lent: &[u8; 1024],
+    numbers: &[u8; 1024],
+) -> io::Result<bool> {
     let mut q = [0u8; 48];
     let all = numbers_of(numbers);
     let count = harness::held(numbers).len() / 4;
-    harness::read(&mut q)
-        & replay(
-            harness::held(file),
-            harness::held(lent),
-            first(&all, count),
-            &q,
-        )
+    Ok(
+        harness::read(input, &mut q)?
+            & replay(
+                harness::held(file),
+                harness::held(lent),
+                first(&all, count),
+                &q,
+            ),
+    )
 }
 
 // Reads the bytes and the numbers that are lent next, or a file where those were all.
-fn lend(a: Asking, file: &mut [u8; 1024], lent: &mut [u8; 1024], numbers: &mut [u8; 1024]) -> Asking
-    ensures { result.tally.left ≤ a.tally.left - 1 }
+fn lend<R: Read>(
+    a: Asking,
+    input: &mut R,
+    file: &mut [u8; 1024],
+    lent: &mut [u8; 1024],
+    numbers: &mut [u8; 1024],
+) -> io::Result<Asking>
+    ensures { IfOk result (λ b. b.tally.left ≤ a.tally.left - 1) }
 {
-    let b = a.lend(file, lent);
+    let b = a.lend(input, file, lent)?;
     if b.questions == 0 {
-        return b;
+        return Ok(b);
     }
-    if harness::read_held(numbers) {
-        return b;
+    if harness::read_held(input, numbers)? {
+        return Ok(b);
     }
-    b.with(false)
+    Ok(b.with(false))
 }
 
-fn main() {
+fn main(rt: HostRuntime) -> io::Result<()> {
+    let mut input = rt.stdin();
     let mut file = [0u8; 1024];
     let mut lent = [0u8; 1024];
     let mut numbers = [0u8; 1024];
     let mut a = Asking::new();
     while 0 < a.tally.left {
         if a.questions == 0 {
-            a = lend(a, &mut file, &mut lent, &mut numbers);
+            a = lend(a, &mut input, &mut file, &mut lent, &mut numbers)?;
         } else {
-            a = a.with(next(&file, &lent, &numbers));
+            a = a.with(next(&mut input, &file, &lent, &numbers)?);
         }
     }
     harness::tell(
+        &mut rt.stdout(),
         a.tally.right,
         b" answers with stripes as document 02 says\n",
-    );
+    )
 }

@@ -1,7 +1,11 @@
 // Runs the vectors of standard input through `utf8::utf8_ok` and writes how many answers are right. Each vector is tried
 // after 0 to 9 letters, and with none or eight letters behind it, so that it starts at every place of the eight bytes that are
 // looked at together.
+#![tactic(auto)]
+
 ghost use Rattle.std.specs.Prelude.{◌≤◌};
+
+use std::io;
 
 #[derive(Clone, Copy)]
 struct Tally {
@@ -42,10 +46,8 @@ fn twenty(s: &[u8], n: usize, good: bool) -> u64
     requires { n ≤ 16 }
 {
     let mut right = 0;
-    let mut k = 0;
-    while k < 10 {
+    for k in 0..10 {
         right += same(s, 9 - k, 9 + n, good) + same(s, 9 - k, 17 + n, good);
-        k += 1;
     }
     right
 }
@@ -73,9 +75,9 @@ fn line(s: &[u8], at: usize, good: bool) -> u64
 
 fn with(c: Tally, right: u64) -> Tally {
     Tally {
-        right: std::num::wrapping_add_u64(c.right, right),
-        tried: std::num::wrapping_add_u64(c.tried, 20),
-        vectors: std::num::wrapping_add_u64(c.vectors, 1),
+        right: c.right.wrapping_add(right),
+        tried: c.tried.wrapping_add(20),
+        vectors: c.vectors.wrapping_add(1),
     }
 }
 
@@ -101,20 +103,19 @@ fn run(s: &[u8]) -> Tally {
         tried: 0,
         vectors: 0,
     };
-    let mut i = 0;
-    while i < 65536 {
+    for i in 0..65536 {
         c = add(c, s, i);
-        i += 1;
     }
     c
 }
 
-fn main() {
-    let mut input = io::large_buffer();
-    let n = io::read_full(0, &mut input);
+fn main(rt: HostRuntime) -> io::Result<()> {
+    let mut input = [0u8; 65536];
+    let n = harness::fill(&mut rt.stdin(), &mut input)?;
     let c = run(&input[..n]);
-    harness::write(b"utf8: ");
-    harness::tell(c.right, b" of ");
-    harness::tell(c.tried, b" right, ");
-    harness::tell(c.vectors, b" vectors\n");
+    let mut out = rt.stdout();
+    harness::write(&mut out, b"utf8: ")?;
+    harness::tell(&mut out, c.right, b" of ")?;
+    harness::tell(&mut out, c.tried, b" right, ")?;
+    harness::tell(&mut out, c.vectors, b" vectors\n")
 }

@@ -1,8 +1,11 @@
 // Replays the list of standard input, on which the Rust original answered, and writes how many numbers the port reads alike
 // before the first difference or the list's end.
+#![tactic(auto)]
+
 ghost use Rattle.std.specs.Prelude.{◌<◌};
 
 use harness::{Tally, number, whole};
+use std::io;
 use tzb_core::varint::{Place, Read};
 
 fn size(b: u8) -> usize
@@ -37,15 +40,20 @@ fn replay(r: &[u8; 16]) -> bool {
 }
 
 // Whether there is one more record, and the port says the same of it.
-fn next() -> bool {
+fn next<R: io::Read>(input: &mut R) -> io::Result<bool> {
     let mut r = [0u8; 16];
-    harness::read(&mut r) & replay(&r)
+    Ok(harness::read(input, &mut r)? & replay(&r))
 }
 
-fn main() {
+fn main(rt: HostRuntime) -> io::Result<()> {
+    let mut input = rt.stdin();
     let mut t = Tally::new();
     while 0 < t.left {
-        t = t.with(next());
+        t = t.with(next(&mut input)?);
     }
-    harness::tell(t.right, b" numbers read as the original reads them\n");
+    harness::tell(
+        &mut rt.stdout(),
+        t.right,
+        b" numbers read as the original reads them\n",
+    )
 }

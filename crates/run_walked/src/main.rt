@@ -1,29 +1,26 @@
 // Asks the small files of standard input to decode chunks, for containment and for both lookups, and writes how many questions are
 // answered as the list says before the first difference or the list's end. A file is opened, and its record is then asked with its own
 // bytes, and with other bytes. Of lent memory every number is looked at, also after a refusal.
+#![tactic(auto)]
+
 use answer::Checked;
 use harness::{Asking, Said, float, number, size, whole};
 use opened::Opened;
 use replies::{Found, Listing, Opening, Verdict};
+use std::io;
+use std::io::Read;
 
 // ---- lent memory: 64 places. Each holds 1,234,567,890, which is neither a coordinate nor a zone.
 
 // The bits of a signed number.
 fn bits(z: i32) -> u32 {
-    // !z is -1 - z
-    if z < 0 {
-        0xffff_ffff - ((!z) as u32)
-    } else {
-        z as u32
-    }
+    z.cast_unsigned()
 }
 
 fn bits_of(numbers: &[i32; 64]) -> [u32; 64] {
     let mut out = [0u32; 64];
-    let mut i = 0;
-    while i < 64 {
+    for i in 0..64 {
         out[i] = bits(numbers[i]);
-        i += 1;
     }
     out
 }
@@ -41,10 +38,8 @@ fn byte(n: u32, which: usize) -> u8 {
 
 fn bytes_of(held: &[u32; 64]) -> [u8; 256] {
     let mut out = [0u8; 256];
-    let mut i = 0;
-    while i < 256 {
+    for i in 0..256 {
         out[i] = byte(held[i / 4], i % 4);
-        i += 1;
     }
     out
 }
@@ -59,10 +54,7 @@ fn is_held(held: &[u32; 64], q: &[u8]) -> bool {
     let bytes = bytes_of(held);
     let lent = bytes_of(&[1_234_567_890; 64]);
     (crc::crc32_ieee(harness::part(&bytes, 0, end)) == number(q, 40))
-        & check::same(
-            harness::part(&bytes, end, 256),
-            harness::part(&lent, end, 256),
-        )
+        & (harness::part(&bytes, end, 256) == harness::part(&lent, end, 256))
 }
 
 // ---- a question is 48 bytes: its kind, a chunk or a zone, two numbers, a longitude, a latitude; then what is expected: the refusal or 0,
@@ -151,24 +143,26 @@ fn replay(file: &[u8], s: &[u8], q: &[u8; 48]) -> bool {
 }
 
 // Whether there is one more question, and it is answered rightly.
-fn next(file: &[u8; 1024], lent: &[u8; 1024]) -> bool {
+fn next<R: Read>(input: &mut R, file: &[u8; 1024], lent: &[u8; 1024]) -> io::Result<bool> {
     let mut q = [0u8; 48];
-    harness::read(&mut q) & replay(harness::held(file), harness::held(lent), &q)
+    Ok(harness::read(input, &mut q)? & replay(harness::held(file), harness::held(lent), &q))
 }
 
-fn main() {
+fn main(rt: HostRuntime) -> io::Result<()> {
+    let mut input = rt.stdin();
     let mut file = [0u8; 1024];
     let mut lent = [0u8; 1024];
     let mut a = Asking::new();
     while 0 < a.tally.left {
         if a.questions == 0 {
-            a = a.lend(&mut file, &mut lent);
+            a = a.lend(&mut input, &mut file, &mut lent)?;
         } else {
-            a = a.with(next(&file, &lent));
+            a = a.with(next(&mut input, &file, &lent)?);
         }
     }
     harness::tell(
+        &mut rt.stdout(),
         a.tally.right,
         b" questions of chunks, containment and lookups answered as documents 01 and 02 say\n",
-    );
+    )
 }

@@ -18,11 +18,11 @@ pub returns : goal.returns
 returns c =
     record {
       result_value = (let wide = c.wide8-n.ensures in
-    lay_all c.args.places (entry c.args.q c.args.zones.now c.args.reason) c.args.out.now c.requires (omega (arith, c.if-out-end.false, wide))
-    c.position_bits.ensures (ap (λ (k : ℕ). length c.args.zones.now ∷ k ∷ []) c.wide32.ensures) wide.0 (omega arith)
-    c.store_row.ensures c.lay_places.ensures c.store_row-2.ensures).0;
+          lay_all c.args.places (entry c.args.q c.args.zones.now c.args.reason) c.args.out.now c.requires (omega (arith, c.if-out-end.false, wide))
+          c.position_bits.ensures (ap (λ (k : ℕ). length c.args.zones.now ∷ k ∷ []) c.wide32.ensures) wide.0 (omega arith)
+          c.store_row.ensures c.lay_places.ensures c.store_row-2.ensures).0;
       memory = (let wide = c.wide8-n.ensures in
-    lay_all c.args.places (entry c.args.q c.args.zones.now c.args.reason) c.args.out.now c.requires (omega (arith, c.if-out-end.false, wide))
-    c.position_bits.ensures (ap (λ (k : ℕ). length c.args.zones.now ∷ k ∷ []) c.wide32.ensures) wide.0 (omega arith)
-    c.store_row.ensures c.lay_places.ensures c.store_row-2.ensures).1;
+          lay_all c.args.places (entry c.args.q c.args.zones.now c.args.reason) c.args.out.now c.requires (omega (arith, c.if-out-end.false, wide))
+          c.position_bits.ensures (ap (λ (k : ℕ). length c.args.zones.now ∷ k ∷ []) c.wide32.ensures) wide.0 (omega arith)
+          c.store_row.ensures c.lay_places.ensures c.store_row-2.ensures).1;
     }

@@ -48,18 +48,16 @@ pub slice_bounds-b-end : goal.slice_bounds-b-end
 slice_bounds-b-end c = let h = span_fine _ _ _ (sym (ap checked_told c.in_default.is) ∙ c.check_span-c.ensures) in omega (arith, h.0, h.1)
 
 pub returns-in-Refused-t : goal.returns-in-Refused-t
-returns-in-Refused-t c =
-    (
-      ap refused c.counted_from.ensures
-          ∙ behind_no _ _ _ (sym (ap checked_told c.in-Refused-t.is) ∙ c.decode_points-t.ensures.result_value ∙ ap outcome (into c.args.s.now c.args.count c.args.a c.args.e (sym (ap checked_told c.in_default.is) ∙ c.check_span-c.ensures) c.args.out.now c.requires.count_nonzero c.requires.count_in_bounds))
-          ∙ told c.args.s.now c.args.count c.args.a c.args.e (sym (ap checked_told c.in_default.is) ∙ c.check_span-c.ensures),
-      written c.args.s.now c.args.count c.args.a c.args.e (sym (ap checked_told c.in_default.is) ∙ c.check_span-c.ensures) c.args.out.now c.requires.count_nonzero c.requires.count_in_bounds _ c.decode_points-t.ensures.memory,
-    )
+returns-in-Refused-t c = (
+  ap refused c.counted_from.ensures
+      ∙ behind_no _ _ _ (sym (ap checked_told c.in-Refused-t.is) ∙ c.decode_points-t.ensures.result_value ∙ ap outcome (into c.args.s.now c.args.count c.args.a c.args.e (sym (ap checked_told c.in_default.is) ∙ c.check_span-c.ensures) c.args.out.now c.requires.count_nonzero c.requires.count_in_bounds))
+      ∙ told c.args.s.now c.args.count c.args.a c.args.e (sym (ap checked_told c.in_default.is) ∙ c.check_span-c.ensures),
+  written c.args.s.now c.args.count c.args.a c.args.e (sym (ap checked_told c.in_default.is) ∙ c.check_span-c.ensures) c.args.out.now c.requires.count_nonzero c.requires.count_in_bounds _ c.decode_points-t.ensures.memory,
+)
 
 pub returns-in-Fine : goal.returns-in-Fine
-returns-in-Fine c =
-    (
-      behind_ok _ _ _ (sym (ap checked_told c.in-Fine.is) ∙ c.decode_points-t.ensures.result_value ∙ ap outcome (into c.args.s.now c.args.count c.args.a c.args.e (sym (ap checked_told c.in_default.is) ∙ c.check_span-c.ensures) c.args.out.now c.requires.count_nonzero c.requires.count_in_bounds))
-          ∙ told c.args.s.now c.args.count c.args.a c.args.e (sym (ap checked_told c.in_default.is) ∙ c.check_span-c.ensures),
-      written c.args.s.now c.args.count c.args.a c.args.e (sym (ap checked_told c.in_default.is) ∙ c.check_span-c.ensures) c.args.out.now c.requires.count_nonzero c.requires.count_in_bounds _ c.decode_points-t.ensures.memory,
-    )
+returns-in-Fine c = (
+  behind_ok _ _ _ (sym (ap checked_told c.in-Fine.is) ∙ c.decode_points-t.ensures.result_value ∙ ap outcome (into c.args.s.now c.args.count c.args.a c.args.e (sym (ap checked_told c.in_default.is) ∙ c.check_span-c.ensures) c.args.out.now c.requires.count_nonzero c.requires.count_in_bounds))
+      ∙ told c.args.s.now c.args.count c.args.a c.args.e (sym (ap checked_told c.in_default.is) ∙ c.check_span-c.ensures),
+  written c.args.s.now c.args.count c.args.a c.args.e (sym (ap checked_told c.in_default.is) ∙ c.check_span-c.ensures) c.args.out.now c.requires.count_nonzero c.requires.count_in_bounds _ c.decode_points-t.ensures.memory,
+)

@@ -22,12 +22,11 @@ pub returns-in-On : goal.returns-in-On
 returns-in-On c = hits _ _ _ c.loop-left.invariant.0 (chunks_on _ _ _ _ _ _ _ c.loop-left-test.true (sym (ap passed c.in-On.is) ∙ c.pass_at-t.ensures.0))
 
 pub loop-left-preserved : goal.loop-left-preserved
-loop-left-preserved c =
-    (
-      keeps _ _ _ c.loop-left.invariant.0 _ _ _ c.plus-odd.ensures (chunks_off _ _ _ _ _ _ _ c.loop-left-test.true _ _ (sym (ap passed c.in-Off.is) ∙ c.pass_at-t.ensures.0)),
-      omega arith,
-      hands_known _ _ _ _ _ _ _ c.in-Off.is c.pass_at-t.ensures.1,
-    )
+loop-left-preserved c = (
+  keeps _ _ _ c.loop-left.invariant.0 _ _ _ c.plus-odd.ensures (chunks_off _ _ _ _ _ _ _ c.loop-left-test.true _ _ (sym (ap passed c.in-Off.is) ∙ c.pass_at-t.ensures.0)),
+  omega arith,
+  hands_known _ _ _ _ _ _ _ c.in-Off.is c.pass_at-t.ensures.1,
+)
 
 pub last_at-requires : goal.last_at-requires
 last_at-requires c = c.loop-left.invariant.2

@@ -19,7 +19,7 @@ write_hits-requires c =
 
 pub slice_bounds-sort_zones-end-2 : goal.slice_bounds-sort_zones-end-2
 slice_bounds-sort_zones-end-2 c =
-    sym (length-take-le _ _ (omega (arith, c.write_hits.auto.out.0, c.if-out-m.false)))
+    sym (length-take-le _ _ (omega (arith, c.write_hits.auto.out, c.if-out-m.false)))
 
 pub returns : goal.returns
 returns c =

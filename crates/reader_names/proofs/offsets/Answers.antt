@@ -16,13 +16,12 @@ returns-in-Refused c =
     (offset_on _ _ _ _ _ _ _ _ c.offset_ok-a.ensures c.loop-i.invariant.1 c.offset-off.ensures.0 c.word-blob.ensures.0 ∙ ap checked_told c.in-Refused.is)
 
 pub loop-i-preserved : goal.loop-i-preserved
-loop-i-preserved c =
-    (
-      omega arith,
-      c.offset-off.ensures.0 ∙ sym (prior_next _ _ _),
-      each_fine _ _ _ _ c.loop-i.invariant.2 (omega arith)
-          (offset_on _ _ _ _ _ _ _ _ c.offset_ok-a.ensures c.loop-i.invariant.1 c.offset-off.ensures.0 c.word-blob.ensures.0 ∙ ap checked_told c.in_default.is),
-    )
+loop-i-preserved c = (
+  omega arith,
+  c.offset-off.ensures.0 ∙ sym (prior_next _ _ _),
+  each_fine _ _ _ _ c.loop-i.invariant.2 (omega arith)
+      (offset_on _ _ _ _ _ _ _ _ c.offset_ok-a.ensures c.loop-i.invariant.1 c.offset-off.ensures.0 c.word-blob.ensures.0 ∙ ap checked_told c.in_default.is),
+)
 
 pub returns : goal.returns
 returns c = each_end _ _ _ _ c.loop-i.invariant.2 (omega arith)

@@ -13,11 +13,10 @@ place_for-place-requires c =
     record { k_in_bounds = still_room _ _ _ _ _ _ _ c.loop-j.invariant; zones_value = still_in_order _ _ _ _ _ _ _ c.loop-j.invariant }
 
 pub move_up-requires : goal.move_up-requires
-move_up-requires c =
-    (
-      fits _ _ _ _ _ _ _ c.loop-j.invariant c.loop-j-test.true _ c.name-own.ensures.result_value _ c.place_for-place.ensures,
-      room_above _ _ _ _ _ _ _ c.loop-j.invariant c.loop-j-test.true _ c.name-own.ensures.result_value _ c.place_for-place.ensures,
-    )
+move_up-requires c = (
+  fits _ _ _ _ _ _ _ c.loop-j.invariant c.loop-j-test.true _ c.name-own.ensures.result_value _ c.place_for-place.ensures,
+  room_above _ _ _ _ _ _ _ c.loop-j.invariant c.loop-j-test.true _ c.name-own.ensures.result_value _ c.place_for-place.ensures,
+)
 
 pub overflow_add-zones : goal.overflow_add-zones
 overflow_add-zones c =

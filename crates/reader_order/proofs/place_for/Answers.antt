@@ -42,7 +42,7 @@ pub loop-low-preserved : goal.loop-low-preserved
 loop-low-preserved c =
     let aim = c.loop-low.invariant.1 c.loop-low-test.true in (
       elim c.if-before_zone.branch [
-        then-before_zone w ↦ halves_down _ _ _ _ _ _ c.loop-low.invariant.0 _ (omega (arith, aim)) _ c.before_zone.ensures _ _ w.if-before_zone.true w.low-is w.high-is
+        | then-before_zone w ↦ halves_down _ _ _ _ _ _ c.loop-low.invariant.0 _ (omega (arith, aim)) _ c.before_zone.ensures _ _ w.if-before_zone.true w.low-is w.high-is
         | else-before_zone w ↦ halves_up _ _ _ _ _ _ c.loop-low.invariant.0 _ (omega (arith, aim)) _ c.before_zone.ensures _ _ w.if-before_zone.false (omega (arith, aim, w.low-is)) w.high-is
       ],
       λ h. (omega (arith, h), omega (arith, h)),

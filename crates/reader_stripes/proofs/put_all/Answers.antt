@@ -16,11 +16,10 @@ pub loop-i-init : goal.loop-i-init
 loop-i-init c = going_start _ _ _ _ (ap all_stripes (groups_all _ _))
 
 pub put_stripes-q-requires : goal.put_stripes-q-requires
-put_stripes-q-requires c =
-    (
-      (cut_high _ _ _ _ c.cut_at-c.ensures).0,
-      room_first _ _ _ _ _ (stripes_cut _ _ _ (omega (arith, c.wide-n.ensures, c.loop-i-test.true)) _ c.cut_at-c.ensures) (going_room _ _ _ _ _ _ c.loop-i.invariant (stripes_room _ _ _ c.requires _ _ c.wide-n.ensures.0 refl c.put_groups.ensures.0 _ c.put_groups.ensures.1)),
-    )
+put_stripes-q-requires c = (
+  (cut_high _ _ _ _ c.cut_at-c.ensures).0,
+  room_first _ _ _ _ _ (stripes_cut _ _ _ (omega (arith, c.wide-n.ensures, c.loop-i-test.true)) _ c.cut_at-c.ensures) (going_room _ _ _ _ _ _ c.loop-i.invariant (stripes_room _ _ _ c.requires _ _ c.wide-n.ensures.0 refl c.put_groups.ensures.0 _ c.put_groups.ensures.1)),
+)
 
 pub loop-i-smaller : goal.loop-i-smaller
 loop-i-smaller c = less _ _ c.loop-i-test.true

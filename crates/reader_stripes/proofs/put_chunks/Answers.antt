@@ -36,7 +36,7 @@ loop-j-smaller c = less _ _ c.loop-j-test.true
 pub loop-j-preserved : goal.loop-j-preserved
 loop-j-preserved c =
     elim c.if-stands_in.branch [
-      then-stands_in w ↦
+      | then-stands_in w ↦
           chunks_took _ _ _ _ _ _ _ c.loop-j-test.true _ c.box_read-b.ensures _ c.stands_in.ensures _ _ _ _ _ c.loop-j.invariant _ _
           (chunks_fit_law _ _ _ _ _ _ c.wide-first.ensures.0 c.wide-count.ensures.0 _ _ c.requires.2 _ _ _ c.loop-j.invariant (chunks_in_law _ _ _ _ _ _ _ c.loop-j-test.true _ c.box_read-b.ensures _ c.stands_in.ensures w.if-stands_in.true))
           w.at-is w.numbers-is w.if-stands_in.true

@@ -38,7 +38,7 @@ loop-left-preserved c =
     let h = sym (ap told_list c.in-At.is) ∙ c.list_at-t.ensures in
     let b = c.contains.ensures in
     let f : ok false ≡ poly_of (way_of c.args.striped c.args.numbers.now) c.args.o c.args.s.now c.args.p c.loop-left.i =
-        elim c.if-contains.branch [ then-contains+in-Is+else-b w ↦ ap ok (sym w.if-b.false) ∙ sym (ap verdict_told w.in-Is.is) ∙ w.poly_inside-v.ensures ∙ poly_in _ _ _ _ _ _ h (sym b ∙ w.if-contains.true) | else-contains w ↦ poly_out _ _ _ _ _ _ h (sym b ∙ w.if-contains.false) ]
+    elim c.if-contains.branch [ then-contains+in-Is+else-b w ↦ ap ok (sym w.if-b.false) ∙ sym (ap verdict_told w.in-Is.is) ∙ w.poly_inside-v.ensures ∙ poly_in _ _ _ _ _ _ h (sym b ∙ w.if-contains.true) | else-contains w ↦ poly_out _ _ _ _ _ _ h (sym b ∙ w.if-contains.false) ]
     in
     (seek_on _ _ _ _ _ c.loop-left-test.true _ f refl ∙ c.loop-left.invariant.0, omega arith)
 

@@ -14,7 +14,7 @@ pub returns : goal.returns
 returns c =
     record {
       result_value = (let a = c.args in
-    stored a.o a.out.now c.numbers-ns.result _ c.numbers-ns.ensures c.store_row.ensures).0;
+          stored a.o a.out.now c.numbers-ns.result _ c.numbers-ns.ensures c.store_row.ensures).0;
       memory = (let a = c.args in
-    stored a.o a.out.now c.numbers-ns.result _ c.numbers-ns.ensures c.store_row.ensures).1;
+          stored a.o a.out.now c.numbers-ns.result _ c.numbers-ns.ensures c.store_row.ensures).1;
     }

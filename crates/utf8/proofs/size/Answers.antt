@@ -18,9 +18,9 @@ pub returns-in-194-to-223 : goal.returns-in-194-to-223
 returns-in-194-to-223 c =
     record {
       s_value = (let a = by_second tail [] 0xc2 30 (get_or c.args.s.now c.args.i 0) c.byte.result c.tail.result tt (omega arith) (omega arith) c.tail.ensures in
-    asks c.args.s.now c.args.i c.requires [] 0xc2 30 of_two (omega arith) (omega arith) _ _ _ c.byte.ensures a (two_row _ c.tail.result c.two.ensures)).0;
+          asks c.args.s.now c.args.i c.requires [] 0xc2 30 of_two (omega arith) (omega arith) _ _ _ c.byte.ensures a (two_row _ c.tail.result c.two.ensures)).0;
       result_in_bounds = (let a = by_second tail [] 0xc2 30 (get_or c.args.s.now c.args.i 0) c.byte.result c.tail.result tt (omega arith) (omega arith) c.tail.ensures in
-    asks c.args.s.now c.args.i c.requires [] 0xc2 30 of_two (omega arith) (omega arith) _ _ _ c.byte.ensures a (two_row _ c.tail.result c.two.ensures)).1;
+          asks c.args.s.now c.args.i c.requires [] 0xc2 30 of_two (omega arith) (omega arith) _ _ _ c.byte.ensures a (two_row _ c.tail.result c.two.ensures)).1;
     }
 
 pub returns-in-224-to-239 : goal.returns-in-224-to-239

@@ -27,8 +27,7 @@ overflow_add-i c = omega arith
 
 pub loop-i-preserved-then-n-eq1 : goal.loop-i-preserved-then-n-eq1
 loop-i-preserved-then-n-eq1 c =
-    let g = c.args in
-    (
+    let g = c.args in (
       omega arith,
       c.loop-i.invariant.1 ∙ c.size-n.ensures.s_value
           ∙ ap (λ (t : Bool). not t && utf8 [] (drop (c.loop-i.i + c.size-n.result) g.s.now)) (ne_eqb _ _ c.if-n-eq0.false)

@@ -1,10 +1,7 @@
 -- `BBox::contains` meets its contract: the point is in the box's span of x, then in that of y.
 -- Assumes nothing.
-use mathlib.Core.Path.{◌≡◌, sym, ap₂, ◌∙◌}
-use Rattle.std.proofs.Common.{rules, Bool, ℤ, w32, to_z, of_z}
-use Rattle.std.specs.Int.Signed.{mag}
-use Prim.Native.Nat.{◌<◌, ◌^◌}
-use mir.Val.{hbits}
+use mathlib.Core.Path.{sym, ◌∙◌}
+use Rattle.std.proofs.Common.{rules}
 use Rattle.boxes.specs.Box.{spans, contains}
 use Rattle.basics.specs.Picked.{and_yes, and_no}
 use Rattle.boxes.proofs.Spans.{spans_back}

@@ -38,15 +38,14 @@ returns-in-On c =
 
 pub loop-left-preserved : goal.loop-left-preserved
 unfolding onward
-loop-left-preserved c =
-    (
-      turn_in _ _ _ _ _ c.in-To.ensures,
-      keeps _ _ _ c.loop-left.invariant.1 _ _ _ c.plus-odd.ensures
-          (ap (add _) (along_by_law _ _ _ _ _)
-          ∙ by_off _ _ _ _ _ _ c.loop-left-test.true _ _
-          (read_to _ _ _ c.in-Number.x _ c.in-Number.ensures c.in-Number-d.y _ c.in-Number-d.ensures (search rules) (search rules) _ c.in-To.ensures)
-          _ c.in-Off.ensures),
-    )
+loop-left-preserved c = (
+  turn_in _ _ _ _ _ c.in-To.ensures,
+  keeps _ _ _ c.loop-left.invariant.1 _ _ _ c.plus-odd.ensures
+      (ap (add _) (along_by_law _ _ _ _ _)
+      ∙ by_off _ _ _ _ _ _ c.loop-left-test.true _ _
+      (read_to _ _ _ c.in-Number.x _ c.in-Number.ensures c.in-Number-d.y _ c.in-Number-d.ensures (search rules) (search rules) _ c.in-To.ensures)
+      _ c.in-Off.ensures),
+)
 
 pub returns-then-at_end : goal.returns-then-at_end
 returns-then-at_end c =
