@@ -1,0 +1,16 @@
+-- `tzb_ask_all_striped_place` meets its contract: the place of the list's refusal, by stripes.
+-- Assumes nothing.
+use mathlib.Core.Path.{ap, ◌∙◌}
+use lib.ListN.{length}
+use mir.Syntax.{w64}
+use Rattle.basics.specs.Signed.{back}
+use Rattle.reader_ways.specs.Ways.{striped}
+use Rattle.tzb_asked.specs.Asked.{list_asked_by}
+use Rattle.tzb_codes.specs.Codes.{place_of}
+use Rattle.tzb_codes.proofs.CodesLaws.{place_many}
+use Rattle.tzb_c.proofs.tzb_ask_all_striped_place.Goals as goal
+
+pub returns : goal.returns
+returns c =
+    let a = c.args in
+    back w64 _ c.listing_place.type_inv ∙ c.listing_place.ensures ∙ ap place_of c.count_into_by.ensures ∙ place_many (list_asked_by (striped a.numbers.now) a.«record».now a.file.now a.lng a.lat (length a.zones.now))
