@@ -82,7 +82,7 @@ prove() {
     [ ! -e "$old" ] || fail 2 "$old cannot be removed, so it cannot be written anew."
   done
   before=$(sources)
-  say 'Proving the reader (only what has changed since a check on this machine; from nothing an hour or more) ...'
+  say 'Proving the reader (what was checked on this machine and has not changed is not proved again; from nothing it takes long) ...'
   status=$(proved "$1")
   if [ "$status" != 0 ]; then
     rm -f $made

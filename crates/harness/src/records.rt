@@ -1,7 +1,7 @@
 // The records of a list, as they come from a reader, and parts of their bytes.
-ghost use Rattle.std.specs.Prelude.{IfOk, IsTrue, take};
+ghost use Rattle.std.specs.Prelude.{◌<◌, IfOk, IsTrue, length, take};
 ghost use Rattle.std.specs.Io.{ReadsAtMost};
-ghost use Rattle.std.specs.Io.KnownBytes.{Consumes};
+ghost use Rattle.std.specs.Io.KnownBytes.{Consumes, IsAtEnd};
 
 use crate::numbers::{number, size};
 use std::io;
@@ -11,6 +11,7 @@ use std::io::Read;
 pub fn fill<R: Read>(input: &mut R, s: &mut [u8]) -> io::Result<usize>
     ensures within { ReadsAtMost result s.new }
     ensures bytes { IfOk result (λ n. Consumes (R.remaining input.old) (R.remaining input.new) (take n s.new)) }
+    ensures end { IfOk result (λ n. n < length s.new → IsAtEnd (R.remaining input.new)) }
 {
     let mut n = 0;
     while n < s.len() {
@@ -25,7 +26,8 @@ pub fn fill<R: Read>(input: &mut R, s: &mut [u8]) -> io::Result<usize>
 
 // Fills the record. Whether all of it came.
 pub fn read<R: Read>(input: &mut R, r: &mut [u8]) -> io::Result<bool>
-    ensures { IfOk result (λ all. IsTrue all → Consumes (R.remaining input.old) (R.remaining input.new) r.new) }
+    ensures bytes { IfOk result (λ all. IsTrue all → Consumes (R.remaining input.old) (R.remaining input.new) r.new) }
+    ensures end { IfOk result (λ all. ¬ IsTrue all → IsAtEnd (R.remaining input.new)) }
 {
     let n = r.len();
     Ok(fill(input, r)? == n)
