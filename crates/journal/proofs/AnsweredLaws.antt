@@ -91,3 +91,9 @@ module _ (opening : Answer Opened) (file s : List ℕ) where
           is = next_stands;
           long = ap length next_stands ∙ omega (arith, length-append (entries_of opening file s (i + 1)) (drop (entry_wide places * (i + 1)) before), all_long (i + 1), length-drop (entry_wide places * (i + 1)) before, h.long, room);
         }
+
+  -- all of them
+  pub all_stand : (before : List ℕ) (n i : ℕ) (out : List ℕ) → i ≤ n → n ≤ i → Stand before i out → out ≡ entries_of opening file s n ++ drop (entry_wide places * n) before
+  all_stand before n i out h k e =
+      let all : i ≡ n = omega arith in
+      e.is ∙ ap (λ (j : ℕ). entries_of opening file s j ++ drop (entry_wide places * j) before) all

@@ -22,5 +22,8 @@ pub returns-in-Done : goal.returns-in-Done
 returns-in-Done c =
     let s = c.args.file.now in
     let room = c.args.«record».now in
-    let opened = sym (ap opening_told c.in-Done.is) ∙ c.open-a.ensures in record { value = back w32 _ c.done_code.type_inv ∙ c.done_code.ensures
-          ∙ ap done_code (c.write_record.ensures.result_value ∙ ap outcome (open_into_law s room _ opened)) ∙ done_outcome (open_into s room); memory = c.write_record.ensures.memory ∙ ap (left room) (open_into_law s room _ opened) }
+    let opened = sym (ap opening_told c.in-Done.is) ∙ c.open-a.ensures in record {
+      value = back w32 _ c.done_code.type_inv ∙ c.done_code.ensures
+          ∙ ap done_code (c.write_record.ensures.result_value ∙ ap outcome (open_into_law s room _ opened)) ∙ done_outcome (open_into s room);
+      memory = c.write_record.ensures.memory ∙ ap (left room) (open_into_law s room _ opened);
+    }
