@@ -14,7 +14,7 @@ import sys
 
 NAME = r'[^\s(){}.;,@"«»]+'
 WORD = re.compile(NAME)
-DECLARED = re.compile(r'^\s*(?:(?:abbrev|unfoldable|pub)\s+)*(?!(?:use|module|where|let|record|data|in|infixl|infixr|infix)\b)([^\s(){}.;,@"«»:]+)\s+(?:\{[^{}\n]*\}\s*)*:\s')
+DECLARED = re.compile(r'^\s*(?:(?:abbrev|unfoldable|pub)\s+)*(?!(?:use|module|where|let|record|data|in|infixl|infixr|infix)(?=\s))([^\s(){}.;,@"«»:]+)\s+(?:\{[^{}\n]*\}\s*)*:\s')
 RECORD = re.compile(r"^\s*(?:pub\s+)?(?:record|data)\s+(" + NAME + ")")
 OPERATOR = re.compile("◌")
 # Names that would fall together with another, or read badly.

@@ -14,8 +14,8 @@ use Rattle.boxes.proofs.same_point.Reads as same-point-reads
 pub ordered : Determined ordered-reads.Learnt
 ordered κ a r r' e e' p q = p ∙ sym q
 
-pub in-domain : Determined in-domain-reads.Learnt
-in-domain κ a r r' e e' p q = p ∙ sym q
+pub in_domain_law : Determined in-domain-reads.Learnt
+in_domain_law κ a r r' e e' p q = p ∙ sym q
 
 pub contains : Determined contains-reads.Learnt
 contains κ a r r' e e' p q = p ∙ sym q
@@ -29,8 +29,8 @@ right κ a r r' e e' p q = p ∙ sym q
 pub point_in_domain : Determined point-in-domain-reads.Learnt
 point_in_domain κ a r r' e e' p q = p ∙ sym q
 
-pub in-box : Determined in-box-reads.Learnt
-in-box κ a r r' e e' p q = p ∙ sym q
+pub in_box_law : Determined in-box-reads.Learnt
+in_box_law κ a r r' e e' p q = p ∙ sym q
 
 pub same_point_law : Determined same-point-reads.Learnt
 same_point_law κ a r r' e e' p q = p ∙ sym q

@@ -72,12 +72,12 @@ next_arrives : (s : List ℕ) (q d : I32Point) (p j m : ℕ) → ok (d, j, m) �
 unfolding next_at arrive must_lie
 next_arrives s q d p j m e = rw (← e) (arrived (moved_by q d p j))
   where
-    in-domain : (b : Bool) (t : I32Point) → (about j (need 42 b (ok t)) then placed m) ≡ about j (need 42 b (placed m t))
-    in-domain true t = refl
-    in-domain false t = refl
+    in_domain_law : (b : Bool) (t : I32Point) → (about j (need 42 b (ok t)) then placed m) ≡ about j (need 42 b (placed m t))
+    in_domain_law true t = refl
+    in_domain_law false t = refl
 
     arrived : (a : Answer I32Point) → ((a then λ t. about j (need 42 (in_domain t) (ok t))) then placed m) ≡ (a then λ t. about j (need 42 (in_domain t) (placed m t)))
-    arrived (ok t) = in-domain (in_domain t) t
+    arrived (ok t) = in_domain_law (in_domain t) t
     arrived (refused r) = refl
 
 module _ (s : List ℕ) (q : I32Point) (p : ℕ) where

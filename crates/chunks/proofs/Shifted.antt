@@ -37,15 +37,15 @@ module _ (a : ℕ) where
   unfolding moved_by
   moved_shifted q d i j h g =
       ap (λ (x : Answer ℤ). x then λ u. about (a + j) (add_delta q.y d.y) then λ v. ok (point u v)) (about_shifted i h (add_delta q.x d.x))
-      ∙ in-x (about i (add_delta q.x d.x))
+      ∙ in_x (about i (add_delta q.x d.x))
     where
-      in-y : (u : ℤ) (y : Answer ℤ) → (behind a y then λ v. ok (point u v)) ≡ behind a (y then λ v. ok (point u v))
-      in-y u (ok v) = refl
-      in-y u (refused r) = refl
+      in_y : (u : ℤ) (y : Answer ℤ) → (behind a y then λ v. ok (point u v)) ≡ behind a (y then λ v. ok (point u v))
+      in_y u (ok v) = refl
+      in_y u (refused r) = refl
 
-      in-x : (x : Answer ℤ) → (behind a x then λ u. about (a + j) (add_delta q.y d.y) then λ v. ok (point u v)) ≡ behind a (x then λ u. about j (add_delta q.y d.y) then λ v. ok (point u v))
-      in-x (ok u) = ap (λ (y : Answer ℤ). y then λ v. ok (point u v)) (about_shifted j g (add_delta q.y d.y)) ∙ in-y u (about j (add_delta q.y d.y))
-      in-x (refused r) = refl
+      in_x : (x : Answer ℤ) → (behind a x then λ u. about (a + j) (add_delta q.y d.y) then λ v. ok (point u v)) ≡ behind a (x then λ u. about j (add_delta q.y d.y) then λ v. ok (point u v))
+      in_x (ok u) = ap (λ (y : Answer ℤ). y then λ v. ok (point u v)) (about_shifted j g (add_delta q.y d.y)) ∙ in_y u (about j (add_delta q.y d.y))
+      in_x (refused r) = refl
 
   lie_shifted : (q : I32Point) (j m : ℕ) → a + j ≤ no_place → must_lie q (a + j) (a + m) ≡ farther a (must_lie q j m)
   unfolding must_lie

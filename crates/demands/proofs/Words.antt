@@ -21,17 +21,17 @@ use Rattle.shapes.proofs.Words.{ring_in_words}
 use Rattle.demands.specs.Words.{Position, OnRing, Inside, InPolygon, InZone}
 
 -- ---- a position lies in the domain
-in-span : (n : ℕ) (z : ℤ) → nat_abs z ≤ n → within n z ≡ true
-in-span zero (pos m) h = and_i (leb zero m) (leb m zero) (le-leb zero m (omega arith)) (le-leb m zero h)
-in-span zero (negsuc m) h = absurd (omega arith)
-in-span (suc n) (pos m) h = le-leb m (suc n) h
-in-span (suc n) (negsuc m) h = rw (le-leb m n (omega arith))
+in_span_law : (n : ℕ) (z : ℤ) → nat_abs z ≤ n → within n z ≡ true
+in_span_law zero (pos m) h = and_i (leb zero m) (leb m zero) (le-leb zero m (omega arith)) (le-leb m zero h)
+in_span_law zero (negsuc m) h = absurd (omega arith)
+in_span_law (suc n) (pos m) h = le-leb m (suc n) h
+in_span_law (suc n) (negsuc m) h = rw (le-leb m n (omega arith))
 
 pub position_in : (p : Position) → in_domain p.at ≡ true
 unfolding in_domain
 position_in p =
     let q = p.at in
-    and_i (within 18_000_000 q.x) (within 9_000_000 q.y) (in-span 18_000_000 q.x p.longitude) (in-span 9_000_000 q.y p.latitude)
+    and_i (within 18_000_000 q.x) (within 9_000_000 q.y) (in_span_law 18_000_000 q.x p.longitude) (in_span_law 9_000_000 q.y p.latitude)
 
 -- ---- some element of a list
 module _ {A : Type 0} (P : A → Bool) where

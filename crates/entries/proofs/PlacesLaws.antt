@@ -23,10 +23,10 @@ first_wide n zero h = refl
 first_wide zero (suc i) h = absurd (omega arith)
 first_wide (suc n) (suc i) h = omega (arith, first_wide n i (omega arith))
 
-pub in-long : (ws s : List ℕ) (p : ℕ) → length (row_in ws s p) ≡ length ws
+pub in_long : (ws s : List ℕ) (p : ℕ) → length (row_in ws s p) ≡ length ws
 unfolding row_in
-in-long [] s p = refl
-in-long (w ∷ ws) s p = ap suc (in-long ws s (p + w))
+in_long [] s p = refl
+in_long (w ∷ ws) s p = ap suc (in_long ws s (p + w))
 
 -- ---- what stands in each of them
 pub same_at : (l : List ℕ) (i d e : ℕ) → i < length l → get_or l i d ≡ get_or l i e
@@ -97,7 +97,7 @@ module _ (s out₀ out : List ℕ) (n i : ℕ) (c : Loaded s out₀ out n i) whe
     long = length-set out i v ∙ c.long;
     so_far =
         ap (λ (l : List ℕ). set l i v) (c.so_far ∙ ap (λ (b : List ℕ). row_in (replicate i 2) s 8 ++ b) (drop-cons out₀ i 0 (omega (arith, c.room))))
-        ∙ set_at (row_in (replicate i 2) s 8) (get_or out₀ i 0) (drop (suc i) out₀) v i (in-long (replicate i 2) s 8 ∙ length-replicate i 2)
+        ∙ set_at (row_in (replicate i 2) s 8) (get_or out₀ i 0) (drop (suc i) out₀) v i (in_long (replicate i 2) s 8 ∙ length-replicate i 2)
         ∙ sym (append_snoc (row_in (replicate i 2) s 8) v (drop (suc i) out₀))
         ∙ ap (λ (x : ℕ). (row_in (replicate i 2) s 8 ++ x ∷ []) ++ drop (suc i) out₀) e
         ∙ ap₂ (λ (a : List ℕ) (j : ℕ). a ++ drop j out₀) (sym (row_next s i)) (sym (add-one i));

@@ -27,7 +27,7 @@ use Rattle.answer.proofs.AnswersLaws.{need_met, need_not, left_no, left_is}
 use Rattle.entries.specs.Entry.{Entry, entry, unused, widths, entry_wide, places_of, numbers_of, bytes_of}
 use Rattle.entries.specs.Forms.{zones_form, refusal_form, formed, laid_of, write_of}
 use Rattle.entries.specs.Reading.{point_in, places_in, count_in, reason_in, entry_from, all_unused, of_forms, row_of_forms, entry_is, entry_of, read_of, head_of}
-use Rattle.entries.proofs.PlacesLaws.{halves_wide, in-long, places_long}
+use Rattle.entries.proofs.PlacesLaws.{halves_wide, in_long, places_long}
 
 -- ---- the widths of an entry add up
 pub entry_wide_law : (places : ℕ) → row_wide (widths places) ≡ entry_wide places
@@ -58,7 +58,7 @@ module _ (places : ℕ) (s : List ℕ) where
   ends = get_or s (8 + 2 * places) 0 ∷ get_or s (9 + 2 * places) 0 ∷ []
 
   halves_long : length halves ≡ places
-  halves_long = in-long (replicate places 2) s 8 ∙ length-replicate places 2
+  halves_long = in_long (replicate places 2) s 8 ∙ length-replicate places 2
 
   pub row_is : row ≡ le 4 s 0 ∷ le 4 s 4 ∷ (halves ++ ends)
   unfolding row_in
@@ -153,7 +153,7 @@ module _ (places : ℕ) (s : List ℕ) (room : ℕ) where
     zones_are = ap₂ take (row_count places s) (row_places places s) ∙ sym (row_front s places (get_or s (8 + 2 * places) 0) 8 (is_room places s h))
 
     zones_long : length (entry_from places (row places s)).zones ≡ get_or s (8 + 2 * places) 0
-    zones_long = ap length zones_are ∙ in-long (replicate (get_or s (8 + 2 * places) 0) 2) s 8 ∙ length-replicate (get_or s (8 + 2 * places) 0) 2
+    zones_long = ap length zones_are ∙ in_long (replicate (get_or s (8 + 2 * places) 0) 2) s 8 ∙ length-replicate (get_or s (8 + 2 * places) 0) 2
 
     read_on : need 46 (at_most (length (entry_from places (row places s)).zones) room) (ok (entry_from places (row places s))) ≡ read_of places s room
     unfolding read_of entry_of

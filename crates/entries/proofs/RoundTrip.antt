@@ -25,7 +25,7 @@ use Rattle.answer.proofs.AnswersLaws.{need_met, need_inv, ok_inv}
 use Rattle.entries.specs.Entry.{Entry, entry, unused, widths, entry_wide, places_of, numbers_of, bytes_of}
 use Rattle.entries.specs.Forms.{all_below, all_different, placed, zones_form, refusal_form, formed}
 use Rattle.entries.specs.Reading.{point_in, places_in, count_in, reason_in, entry_from, all_unused, of_forms, row_of_forms, entry_is, entry_of, Held}
-use Rattle.entries.proofs.PlacesLaws.{in-long, places_long, place_at}
+use Rattle.entries.proofs.PlacesLaws.{in_long, places_long, place_at}
 use Rattle.entries.proofs.ReadLaws.{entry_wide_law, row, halves, row_is, is_long, forms_all}
 
 -- ---- what the forms tell of an entry's numbers
@@ -59,9 +59,9 @@ each_low [] h i = omega arith
 each_low (z ∷ l) h zero = let first = below_lt z unused (and_l _ _ h) in omega arith
 each_low (z ∷ l) h (suc i) = each_low l (and_r (below z unused) _ h) i
 
-in-front : (l ws ns : List ℕ) → ((i : ℕ) → i < length l → get_or l i 0 < unit 2) → InWidths ws ns → InWidths (replicate (length l) 2 ++ ws) (l ++ ns)
-in-front [] ws ns f h = h
-in-front (z ∷ l) ws ns f h = one (f 0 (omega arith)) (in-front l ws ns (λ i k. f (suc i) (omega arith)) h)
+in_front_law : (l ws ns : List ℕ) → ((i : ℕ) → i < length l → get_or l i 0 < unit 2) → InWidths ws ns → InWidths (replicate (length l) 2 ++ ws) (l ++ ns)
+in_front_law [] ws ns f h = h
+in_front_law (z ∷ l) ws ns f h = one (f 0 (omega arith)) (in_front_law l ws ns (λ i k. f (suc i) (omega arith)) h)
 
 unused_all : (k : ℕ) → all_unused (replicate k unused) ≡ true
 unfolding all_unused
@@ -78,26 +78,26 @@ module _ (places x y : ℕ) (l : List ℕ) (c r : ℕ) (n : length l ≡ places)
   abbrev numbers : List ℕ
   numbers = x ∷ y ∷ (l ++ c ∷ r ∷ [])
 
-  in-places : places_in places numbers ≡ l
-  in-places = take_at l (c ∷ r ∷ []) places n
+  in_places : places_in places numbers ≡ l
+  in_places = take_at l (c ∷ r ∷ []) places n
 
   in_count : count_in places numbers ≡ c
   in_count =
       let at : places + 2 ≡ suc (suc places) = omega arith in
       ap (λ (k : ℕ). get_or numbers k 0) at ∙ get_or_at l c (r ∷ []) 0 places n
 
-  in-reason : reason_in places numbers ≡ r
-  in-reason =
+  in_reason : reason_in places numbers ≡ r
+  in_reason =
       let at : places + 3 ≡ suc (suc (length l + 1)) = omega arith in
       ap (λ (k : ℕ). get_or numbers k 0) at ∙ get_or-append-add l (c ∷ r ∷ []) 1 0
 
   entry_in_law : entry_from places numbers ≡ entry (point (to_z w32 x) (to_z w32 y)) (take c l) r
   unfolding entry_from
-  entry_in_law = ap₂ (entry (point_in numbers)) (ap₂ take in_count in-places) in-reason
+  entry_in_law = ap₂ (entry (point_in numbers)) (ap₂ take in_count in_places) in_reason
 
   forms_in : row_of_forms places numbers ≡ of_forms places (point (to_z w32 x) (to_z w32 y)) l c r
   unfolding row_of_forms
-  forms_in = ap₂ (λ (a : List ℕ) (k : ℕ). of_forms places (point_in numbers) a k (reason_in places numbers)) in-places in_count ∙ ap (of_forms places (point_in numbers) l c) in-reason
+  forms_in = ap₂ (λ (a : List ℕ) (k : ℕ). of_forms places (point_in numbers) a k (reason_in places numbers)) in_places in_count ∙ ap (of_forms places (point_in numbers) l c) in_reason
 
   -- the zones, and behind them what is not used, are all places
   places_again : c ≤ places → all_unused (drop c l) ≡ true → places_of places (take c l) ≡ l
@@ -139,7 +139,7 @@ module _ (places : ℕ) (e : Entry) (k : places < 256) (h : Held e) (g : formed 
   unfolding numbers_of
   numbers_held =
       one (of_z_fits w32 e.at.x h.x).fits (one (of_z_fits w32 e.at.y h.y).fits
-      (rw long at (in-front stand (1 ∷ 1 ∷ []) (length e.zones ∷ e.reason ∷ []) each_place
+      (rw long at (in_front_law stand (1 ∷ 1 ∷ []) (length e.zones ∷ e.reason ∷ []) each_place
       (one (omega (arith, told.few)) (one (omega (arith, told.known)) none)))))
 
   entry_back : entry (point (to_z w32 (of_z w32 e.at.x)) (to_z w32 (of_z w32 e.at.y))) (take (length e.zones) stand) e.reason ≡ e
@@ -198,7 +198,7 @@ module _ (places : ℕ) (s : List ℕ) (h : entry_is places s ≡ true) where
 
     found_numbers : numbers_of places found ≡ row places s
     found_numbers =
-        let long : length (halves places s) ≡ places = in-long (replicate places 2) s 8 ∙ length-replicate places 2 in
+        let long : length (halves places s) ≡ places = in_long (replicate places 2) s 8 ∙ length-replicate places 2 in
         let formed-too = sym (ap (row_of_forms places) (row_is places s)) ∙ row_formed in
         subst (λ (ns : List ℕ). numbers_of places (entry_from places ns) ≡ ns) (sym (row_is places s))
         (numbers_again places (le 4 s 0) (le 4 s 4) (halves places s) _ _ long (fits 4 s 0 byte) (fits 4 s 4 byte) formed-too)

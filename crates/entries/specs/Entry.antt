@@ -42,7 +42,7 @@ unfoldable pub bytes_of : ℕ → Entry → List ℕ
 bytes_of places e = row_bytes (widths places) (numbers_of places e)
 
 -- "Position (1,-1) in zone 5 alone is `01 00 00 00 FF FF FF FF 05 00 FF FF FF FF 01 00`."
-pub in-zone-5 : bytes_of 3 (entry (point (pos 1) (negsuc 0)) (5 ∷ []) 0)
+pub in_zone_5 : bytes_of 3 (entry (point (pos 1) (negsuc 0)) (5 ∷ []) 0)
     ≡ 0x01 ∷ 0x00 ∷ 0x00 ∷ 0x00 ∷ 0xff ∷ 0xff ∷ 0xff ∷ 0xff ∷ 0x05 ∷ 0x00 ∷ 0xff ∷ 0xff ∷ 0xff ∷ 0xff ∷ 0x01 ∷ 0x00 ∷ []
 unfolding bytes_of numbers_of places_of row_bytes
-in-zone-5 = refl
+in_zone_5 = refl

@@ -128,11 +128,11 @@ unfolding scaled
 scaled_to lng lat m n e f = rw (e, f)
 
 -- 17, 10: between the hole and the square's edge
-pub in-square : lookup_of opened file seventeen ten ≡ ok (in_zone 0)
+pub in_square : lookup_of opened file seventeen ten ≡ ok (in_zone 0)
 unfolding C.on_earth I.le I.lt I.eq of_int of_bits zone_in polygon_in ring_in seg on_z counts_z amid_z cross same_point
-in-square = looked seventeen ten refl (record { at = at 17 10; longitude = omega arith; latitude = omega arith }) (scaled_to seventeen ten 17 10 (is_17 ∙ sym float_17) (is_10 ∙ sym float_10)) true refl
+in_square = looked seventeen ten refl (record { at = at 17 10; longitude = omega arith; latitude = omega arith }) (scaled_to seventeen ten 17 10 (is_17 ∙ sym float_17) (is_10 ∙ sym float_10)) true refl
 
 -- 10, 10: in the hole
-pub in-hole : lookup_of opened file ten ten ≡ ok nowhere
+pub in_hole_law : lookup_of opened file ten ten ≡ ok nowhere
 unfolding C.on_earth I.le I.lt I.eq of_int of_bits zone_in polygon_in ring_in seg on_z counts_z amid_z cross same_point
-in-hole = looked ten ten refl (record { at = at 10 10; longitude = omega arith; latitude = omega arith }) (scaled_to ten ten 10 10 (is_10 ∙ sym float_10) (is_10 ∙ sym float_10)) false refl
+in_hole_law = looked ten ten refl (record { at = at 10 10; longitude = omega arith; latitude = omega arith }) (scaled_to ten ten 10 10 (is_10 ∙ sym float_10) (is_10 ∙ sym float_10)) false refl

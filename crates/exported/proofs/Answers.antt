@@ -40,7 +40,7 @@ use Rattle.plane.specs.Places.{point, point_of}
 use Rattle.answer.proofs.AnswersLaws.{then_ok, then_no, zero_one, left_no, left_is}
 use Rattle.reader_ways.specs.Ways.{plain}
 use Rattle.reader_zones.proofs.ZonesLaws.{whole_over, whole_off, whole_is}
-use Rattle.tzb_record.proofs.LayoutLaws.{record-none, record_is, record-long}
+use Rattle.tzb_record.proofs.LayoutLaws.{record_none, record_is, record_long}
 use Rattle.tzb_codes.proofs.CodesLaws.{code_small}
 use Rattle.tzb_c.proofs.OpensLaws.{open_barred, once_barred, once_asked}
 
@@ -131,8 +131,8 @@ module _ (file memory : List ℕ) (r : ℤ) (after : List ℕ) (c : TzbOpen file
       (open_answer c ∙ sym (ap done_code e) ∙ sym (code_small (refusal n) l), open_memory c ∙ sym (left_no (open_into file memory) (refusal n) e memory))
 
   -- the bytes that were kept, and what lies behind them
-  in-room : (o : Opened) → bytes_of o ++ drop (length (bytes_of o)) memory ≡ bytes_of o ++ drop 84 memory
-  in-room o = ap (λ (k : ℕ). bytes_of o ++ drop k memory) (record-long o)
+  in_room_law : (o : Opened) → bytes_of o ++ drop (length (bytes_of o)) memory ≡ bytes_of o ++ drop 84 memory
+  in_room_law o = ap (λ (k : ℕ). bytes_of o ++ drop k memory) (record_long o)
 
   abbrev M : Type 0
   M = Kept file memory r after
@@ -143,7 +143,7 @@ module _ (file memory : List ℕ) (r : ℤ) (after : List ℕ) (c : TzbOpen file
       by : ok (opened_is file) ≡ open_of file → (84 ≤ length memory) ⊎ (length memory < 84) → M
       by e (inl h) =
           let f = room_in file memory (opened_is file) e h in
-          kept e h (open_answer c ∙ sym (ap done_code f)) (open_memory c ∙ sym (left_is (open_into file memory) (bytes_of (opened_is file)) f memory) ∙ in-room (opened_is file))
+          kept e h (open_answer c ∙ sym (ap done_code f)) (open_memory c ∙ sym (left_is (open_into file memory) (bytes_of (opened_is file)) f memory) ∙ in_room_law (opened_is file))
       by e (inr h) =
           let t = by_refusal 46 (omega arith) (room_short file memory (opened_is file) e h) in
           short e h t.0 t.1
@@ -198,7 +198,7 @@ module _ (file memory : List ℕ) (r : ℤ) (after : List ℕ) (c : TzbOpen file
 -- ---- with the record as bytes
 module _ (held : List ℕ) where
   no_84 : (length held ≡ 84 → ⊥) → no 44 ≡ record_of held
-  no_84 h = record-none held (refusal 44) h refl
+  no_84 h = record_none held (refusal 44) h refl
 
   is_84 : length held ≡ 84 → ok (opened_in held) ≡ record_of held
   is_84 h = record_is held (opened_in held) h refl

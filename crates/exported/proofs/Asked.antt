@@ -73,9 +73,9 @@ module _ (s : List ℕ) (P : Refusal → Type 0) (plainly : (n : ℕ) → Plain 
   abbrev W : {A : Type 0} → Walk A → Type 0
   W w = OnlyWalk P w
 
-  pub record-q : (held : List ℕ) → Q (record_of held)
+  pub record_q : (held : List ℕ) → Q (record_of held)
   unfolding record_of
-  record-q held = need_o 44 (same (length held) 84) _ (plainly 44 refl) (given _)
+  record_q held = need_o 44 (same (length held) 84) _ (plainly 44 refl) (given _)
 
   load : (n p : ℕ) → Q (load_at n s p)
   unfolding load_at
@@ -114,9 +114,9 @@ module _ (s : List ℕ) (P : Refusal → Type 0) (plainly : (n : ℕ) → Plain 
     candidate_q place = need_o 30 (C.below place o.grid.total) _ (plainly 30 refl) (then_t _ _ (load 2 _) (below o.zones.count))
 
   -- ---- records
-  record-at : (d : Directory) (w i : ℕ) → Q (record_at s d w i)
+  record_at_law : (d : Directory) (w i : ℕ) → Q (record_at s d w i)
   unfolding record_at
-  record-at d w i = need_o 34 (ltb i d.count) _ (plainly 34 refl) (need_o 44 (F.inside w s (place d w i)) _ (plainly 44 refl) (given _))
+  record_at_law d w i = need_o 34 (ltb i d.count) _ (plainly 34 refl) (need_o 44 (F.inside w s (place d w i)) _ (plainly 44 refl) (given _))
 
   ruled_34 : {A : Type 0} (at : Answer ℕ) (read : ℕ → A) (rule : A → Bool) → Q at → Q (ruled at read rule 34)
   unfolding ruled
@@ -128,24 +128,24 @@ module _ (s : List ℕ) (P : Refusal → Type 0) (plainly : (n : ℕ) → Plain 
 
   list : (d : Directory) (below i : ℕ) → Q (list_at s d below i)
   unfolding list_at
-  list d below i = ruled_34 _ _ _ (record-at d list_wide i)
+  list d below i = ruled_34 _ _ _ (record_at_law d list_wide i)
 
   module _ (o : Opened) (i : ℕ) where
     ring : Q (ring_at o s i)
     unfolding ring_at
-    ring = ruled_34 _ _ _ (record-at o.rings ring_wide i)
+    ring = ruled_34 _ _ _ (record_at_law o.rings ring_wide i)
 
     op : Q (op_at o s i)
     unfolding op_at
-    op = ruled_35 _ _ _ (record-at o.ops op_wide i)
+    op = ruled_35 _ _ _ (record_at_law o.ops op_wide i)
 
     pub group : Q (group_at o s i)
     unfolding group_at
-    group = ruled_34 _ _ _ (record-at o.groups group_wide i)
+    group = ruled_34 _ _ _ (record_at_law o.groups group_wide i)
 
     pub chunk : Q (chunk_at o s i)
     unfolding chunk_at
-    chunk = ruled_34 _ _ _ (record-at o.chunks chunk_wide i)
+    chunk = ruled_34 _ _ _ (record_at_law o.chunks chunk_wide i)
 
   -- ---- chunks
   span_q : (a e : ℕ) → Q (span s a e)

@@ -70,17 +70,17 @@ module _ (P : Refusal → Type 0) (at-34 : P (refusal 34)) (at-44 : P (refusal 4
     groups_p = from_p o.groups.count 0
 
   module _ (held file : List ℕ) where
-    record-p : Only P (record_of held)
+    record_p : Only P (record_of held)
     unfolding record_of
-    record-p = need_o 44 (same (length held) 84) _ at-44 (given _)
+    record_p = need_o 44 (same (length held) 84) _ at-44 (given _)
 
     need_barred : Only P (need_asked held file)
     unfolding need_asked stripes_need
-    need_barred = then_t _ _ record-p (λ o. then_t _ _ (groups_p o file) (λ l. given _))
+    need_barred = then_t _ _ record_p (λ o. then_t _ _ (groups_p o file) (λ l. given _))
 
     stripes_barred : P (refusal 46) → (room : ℕ) → Only P (stripes_asked held file room)
     unfolding stripes_asked stripes_of
-    stripes_barred at-46 room = then_t _ _ record-p (λ o. then_t _ _ (groups_p o file) (λ l. need_o 46 (leb (need_of l) room) _ at-46 (given _)))
+    stripes_barred at-46 room = then_t _ _ record_p (λ o. then_t _ _ (groups_p o file) (λ l. need_o 46 (leb (need_of l) room) _ at-46 (given _)))
 
 -- ---- so every refusal is from the table, and the need's is never 46
 pub stripes_tabled : (held file : List ℕ) (room : ℕ) → Tabled last_number (stripes_asked held file room)

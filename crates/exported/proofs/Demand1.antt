@@ -33,7 +33,7 @@ use Rattle.exported.specs.Demand1.{NumberOrRefusal, NumberOrAsItWas, DoneOrAsItW
 use Rattle.exported.proofs.Meaning.{open_answer, open_memory, full_check_answer, rule_answer, lookup_answer, contains_answer, ask_answer, choice_answer, all_answer, all_memory, decode_answer, decode_memory, name_answer, name_memory, start_answer, end_answer, candidate_answer, zone_count_answer, map_answer, map_memory, map_length_answer, need_answer, stripes_answer, stripes_memory, contains_striped_answer, ask_striped_answer, all_striped_answer, all_striped_memory, journal_ask_answer, journal_ask_memory, journal_write_answer, journal_write_memory, journal_read_answer, journal_read_position, journal_read_zones}
 use Rattle.exported.proofs.Tabled.{Tabled, given, need_t, then_t, raised, higher}
 use Rattle.exported.proofs.Opening.{open_tabled}
-use Rattle.exported.proofs.Questions.{record-q, bounds_q, candidates_q, candidate_q, decode_q, lookup_q, contains_by_q, lookup_by_q, list_by_q}
+use Rattle.exported.proofs.Questions.{record_q, bounds_q, candidates_q, candidate_q, decode_q, lookup_q, contains_by_q, lookup_by_q, list_by_q}
 use Rattle.exported.proofs.Room.{into_tabled}
 use Rattle.exported.proofs.Checks.{Checks, refused_by_law, accepts, breaks, checks}
 use Rattle.exported.proofs.Codes.{apart, refusal_below, same_number, refuses, number_told, start_told, end_told, kind_told, inside_told, zone_told}
@@ -55,7 +55,7 @@ once_tabled file lng lat = then_t _ _ (higher 34 46 (omega arith) _ (open_tabled
 
 -- of a question with the record as bytes
 asked : {A : Type 0} (held : List ℕ) (f : Opened → Answer A) → ((o : Opened) → Tabled 46 (f o)) → Tabled last_number (record_of held then f)
-asked held f h = higher 46 last_number (omega arith) _ (then_t (record_of held) f (record-q held) h)
+asked held f h = higher 46 last_number (omega arith) _ (then_t (record_of held) f (record_q held) h)
 
 module _ (held file : List ℕ) where
   zones_tabled : Tabled last_number (zones_asked held)
@@ -102,7 +102,7 @@ laid_tabled places e room = need_t 46 (at_most (entry_wide places) (length room)
 
 journal_ask_tabled : (held file : List ℕ) (places : ℕ) (q : I32Point) (room : List ℕ) → Tabled last_number (journal_asked held file places q room)
 unfolding journal_asked
-journal_ask_tabled held file places q room = then_t _ _ (higher 46 last_number (omega arith) _ (record-q held)) (λ o. need_t 50 (offered places) _ refl (laid_tabled places _ room))
+journal_ask_tabled held file places q room = then_t _ _ (higher 46 last_number (omega arith) _ (record_q held)) (λ o. need_t 50 (offered places) _ refl (laid_tabled places _ room))
 
 journal_write_tabled : (places : ℕ) (e : Entry) (room : List ℕ) → Tabled last_number (journal_written places e room)
 unfolding journal_written write_of
@@ -206,7 +206,7 @@ barred_told (refused k) f code h t w = subst Refuses (sym (h k)) (refuses k (rai
 
 ask_barred : (w : Way) (held file : List ℕ) (lng lat : Float) → Refuses (number_code (zones_asked held)) → Refuses (zone_code (lookup_asked_by w held file lng lat))
 unfolding zones_asked lookup_asked_by
-ask_barred w held file lng lat f = barred_told (record_of held) (λ o. lookup_by w o file lng lat) zone_code (λ k. refl) (record-q held) f
+ask_barred w held file lng lat f = barred_told (record_of held) (λ o. lookup_by w o file lng lat) zone_code (λ k. refl) (record_q held) f
 
 pub demand_1 : (file : List ℕ) → Demand1 file
 demand_1 file =

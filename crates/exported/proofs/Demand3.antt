@@ -26,7 +26,7 @@ use Rattle.demands.proofs.Demand3.{contains_is}
 use Rattle.demands.proofs.Words.{zone_in_words}
 use Rattle.tzb_codes.specs.Codes.{done_code, inside_code, check_code, number_code}
 use Rattle.tzb_c.specs.Opens.{open_into}
-use Rattle.tzb_c.proofs.Kept.{record-kept}
+use Rattle.tzb_c.proofs.Kept.{record_kept}
 use Rattle.exported.specs.Calls.{TzbOpen, TzbFullCheck, TzbZoneCount, TzbContains}
 use Rattle.exported.specs.Words.{refusing, Bytes, shape_of}
 use Rattle.exported.specs.Demand3.{OneOrZero, Demand3}
@@ -78,7 +78,7 @@ module _ (file : List ℕ) where
 
     -- its record is read back from there
     pub held : ok o ≡ record_of (take 84 after)
-    held = record-kept file memory byte o opens into.2 ∙ ap (λ (m : List ℕ). record_of (take 84 m)) (sym (open_memory opened))
+    held = record_kept file memory byte o opens into.2 ∙ ap (λ (m : List ℕ). record_of (take 84 m)) (sym (open_memory opened))
 
     -- as many zones as it has
     pub count : (zones : ℕ) → TzbZoneCount (take 84 after) (pos zones) → zones ≡ o.zones.count

@@ -31,7 +31,7 @@ use Rattle.entries.proofs.FormsLaws.{formed_few}
 use Rattle.entries.proofs.ReadLaws.{entry_wide_law, write_on}
 use Rattle.entries.proofs.RoundTrip.{written_back, written_again, read_formed}
 use Rattle.tzb_record.specs.Layout.{opened_in, record_of}
-use Rattle.tzb_record.proofs.LayoutLaws.{record-none, record_is}
+use Rattle.tzb_record.proofs.LayoutLaws.{record_none, record_is}
 use Rattle.tzb_journal.specs.Journal.{offered, answer_of, noted, entry_for, journal_asked, journal_written, journal_read, position_of, count_and_reason}
 use Rattle.tzb_journal.proofs.JournalLaws.{note_refused, offered_fits, ask_no, ask_other, ask_is, written_other, written_is, read_no, read_on}
 use Rattle.tzb_codes.specs.Codes.{done_code, number_code}
@@ -146,11 +146,11 @@ module _ (x : Answer Entry) where
       record {
         tells = sym (ap (λ (y : Answer Entry). number_code (y then λ e. ok (count_and_reason e))) h);
         at = sym (ap (λ (y : Answer Entry). left position (y then λ e. ok (position_of e))) h);
-        in-zones = sym (ap (λ (y : Answer Entry). left zones (y then λ e. ok e.zones)) h);
+        in_zones = sym (ap (λ (y : Answer Entry). left zones (y then λ e. ok e.zones)) h);
       }
 
 stands_as : {e : Entry} {position : List ℤ} {zones : List ℕ} {r r' : ℤ} {p p' : List ℤ} {z z' : List ℕ} → r' ≡ r → p' ≡ p → z' ≡ z → Stands e position zones r p z → Stands e position zones r' p' z'
-stands_as a b c h = record { tells = a ∙ h.tells; at = b ∙ h.at; in-zones = c ∙ h.in-zones }
+stands_as a b c h = record { tells = a ∙ h.tells; at = b ∙ h.at; in_zones = c ∙ h.in_zones }
 
 -- ---- a call of tzb_journal_read, of places that are offered
 module _ (places : ℕ) (g : offered places ≡ true) (s : List ℕ) where
@@ -191,7 +191,7 @@ module _ (held file : List ℕ) (places : ℕ) (x y : ℤ) (memory : List ℕ) (
   ask_barred n l h = let t = told_no asked memory n l h in (journal_ask_answer c ∙ t.0, journal_ask_memory c ∙ t.1)
 
   ask_44 : (length held ≡ 84 → ⊥) → (r ≡ refusing 44) × (after ≡ memory)
-  ask_44 h = ask_barred 44 (omega arith) (ask_no held file places (point x y) memory (refusal 44) (record-none held (refusal 44) h refl))
+  ask_44 h = ask_barred 44 (omega arith) (ask_no held file places (point x y) memory (refusal 44) (record_none held (refusal 44) h refl))
 
   module _ (h : length held ≡ 84) where
     opened_record : ok (opened_in held) ≡ record_of held
@@ -452,7 +452,7 @@ module _ (places : ℕ) (bytes : List ℕ) (position : List ℤ) (zones : List �
           let form = read_formed places bytes e h in
           let told : 256 * length e.zones + e.reason ≡ 256 * count + reason = same_number _ _ (sym s.tells ∙ t) in
           let parts = apart_count (length e.zones) e.reason count reason (omega (arith, reason_most places e form)) k told in
-          let same = entry_of_law e position position' zones zones' count reason s.at s.in-zones parts.0 parts.1 in
+          let same = entry_of_law e position position' zones zones' count reason s.at s.in_zones parts.0 parts.1 in
           let done = write_0 places _ _ _ reason memory q after w g (ap (formed places) same ∙ form) l in
           (done.0, done.1 ∙ ap (λ (b : List ℕ). b ++ drop (entry_wide places) memory) (ap (bytes_of places) same ∙ written_again places bytes byte e h))
 

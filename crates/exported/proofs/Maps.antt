@@ -30,7 +30,7 @@ use Rattle.tzb.specs.Opening.{open_of, opened_is}
 use Rattle.tzb.specs.FullCheck.{full_check_of}
 use Rattle.tzb.proofs.Given.{opened_is_law}
 use Rattle.tzb_map.specs.Map.{upheld, map_of, map_in, how_long, as_answer}
-use Rattle.tzb_map.proofs.MapLaws.{map_is, map_inv, in_is, in-inv}
+use Rattle.tzb_map.proofs.MapLaws.{map_is, map_inv, in_is, in_inv}
 use Rattle.tzb_codes.specs.Codes.{check_code, drawn_code}
 use Rattle.tzb_codes.proofs.CodesLaws.{code_small, whole_short}
 use Rattle.exported.specs.Calls.{TzbFullCheck, TzbMap, TzbMapLength}
@@ -214,14 +214,14 @@ module _ (file : List ℕ) (zone : ℕ) where
     opens_it : ok o ≡ open_of file
     opens_it = ((Three.accepts file (pos 0) c).0 refl).f1
 
-    in-text : (room : ℕ) → upheld accepted (in_room room (zone_text o file zone)) ≡ map_in file zone room
-    in-text room = in_is file zone room o opens_it accepts_it
+    in_text : (room : ℕ) → upheld accepted (in_room room (zone_text o file zone)) ≡ map_in file zone room
+    in_text room = in_is file zone room o opens_it accepts_it
 
     of_text : upheld accepted (zone_text o file zone) ≡ map_of file zone
     of_text = map_is file zone o opens_it accepts_it
 
-    in-none : (room n : ℕ) → n < 1000 → no n ≡ in_room room (zone_text o file zone) → code (map_in file zone room) ≡ refusing n
-    in-none room n l e = sym (ap (λ (x : Answer (List ℕ)). code (upheld accepted x)) e ∙ ap code (in-text room)) ∙ sym (code_small (refusal n) l)
+    in_none : (room n : ℕ) → n < 1000 → no n ≡ in_room room (zone_text o file zone) → code (map_in file zone room) ≡ refusing n
+    in_none room n l e = sym (ap (λ (x : Answer (List ℕ)). code (upheld accepted x)) e ∙ ap code (in_text room)) ∙ sym (code_small (refusal n) l)
 
     of_none : (n : ℕ) → n < 1000 → no n ≡ zone_text o file zone → code (map_of file zone) ≡ refusing n
     of_none n l e = sym (ap (λ (x : Answer (List ℕ)). code (upheld accepted x)) e ∙ ap code of_text) ∙ sym (code_small (refusal n) l)
@@ -229,8 +229,8 @@ module _ (file : List ℕ) (zone : ℕ) where
     drawn_small : Bytes file → zone < o.zones.count → zone_drawable (shape_of file zone) ≡ true → length (text_of file zone) < 0x8000_0000_0000_0000
     drawn_small byte h d = text_short byte o opens_it (sym accepts_it) (text_of file zone) (text_is o file zone h d)
 
-    in-drawn : (room : ℕ) (t : List ℕ) → ok t ≡ in_room room (zone_text o file zone) → drawn t ≡ map_in file zone room
-    in-drawn room t e = ap (upheld accepted) e ∙ in-text room
+    in_drawn : (room : ℕ) (t : List ℕ) → ok t ≡ in_room room (zone_text o file zone) → drawn t ≡ map_in file zone room
+    in_drawn room t e = ap (upheld accepted) e ∙ in_text room
 
   -- ---- tzb_map
   module _ (byte : Bytes file) (memory : List ℕ) (r : ℤ) (after : List ℕ) (c : TzbMap file zone memory r after) where
@@ -241,7 +241,7 @@ module _ (file : List ℕ) (zone : ℕ) where
     map = map_in file zone (length memory)
 
     barred : (k : TzbFullCheck file (pos 0)) (n : ℕ) → n < 1000 → no n ≡ zone_text o file zone → r ≡ refusing n
-    barred k n l e = map_answer c ∙ in-none k (length memory) n l (room_barred (length memory) (zone_text o file zone) (refusal n) e)
+    barred k n l e = map_answer c ∙ in_none k (length memory) n l (room_barred (length memory) (zone_text o file zone) (refusal n) e)
 
     stands : drawn text ≡ map → length text < 0x8000_0000_0000_0000 → (r ≡ pos (length text)) × (after ≡ text ++ drop (length text) memory)
     stands e h = (
@@ -250,7 +250,7 @@ module _ (file : List ℕ) (zone : ℕ) where
     )
 
     draws : Asked file zone → zone_drawable (shape_of file zone) ≡ true → length text ≤ length memory → (r ≡ pos (length text)) × (after ≡ text ++ drop (length text) memory)
-    draws a d h = stands (in-drawn a.accepted (length memory) text (room_is (length memory) (zone_text o file zone) text (text_is o file zone a.its_own d) h)) (drawn_small a.accepted byte a.its_own d)
+    draws a d h = stands (in_drawn a.accepted (length memory) text (room_is (length memory) (zone_text o file zone) text (text_is o file zone a.its_own d) h)) (drawn_small a.accepted byte a.its_own d)
 
     reads : (n : ℕ) → r ≡ pos n → read_map (take n after) ≡ some (outlines (shape_of file zone))
     reads n e = go map refl
@@ -260,7 +260,7 @@ module _ (file : List ℕ) (zone : ℕ) where
 
         go : (d : Drawn (List ℕ)) → d ≡ map → read_map (take n after) ≡ some (outlines (shape_of file zone))
         go (drawn t) f =
-            let i = in-inv file zone (length memory) t f in
+            let i = in_inv file zone (length memory) t f in
             let q = room_inv (length memory) (zone_text i.0 file zone) t i.3 in
             let same : t ≡ text = text_of_law i.0 i.1 t q.0 in
             let small : length text < 0x8000_0000_0000_0000 = subst (λ (u : List ℕ). length u < 0x8000_0000_0000_0000) same (text_short byte i.0 i.1 i.2 t q.0) in
@@ -299,7 +299,7 @@ module _ (file : List ℕ) (zone : ℕ) where
           refused = λ q k h. map_answer c ∙ checked_in (length memory) q k h;
           no_zone = λ k h. barred k 45 (omega arith) (text_over o file zone h);
           no_outline = no_outline;
-          no_room = λ a d h. map_answer c ∙ in-none a.accepted (length memory) 46 (omega arith) (room_none (length memory) (zone_text o file zone) text (text_is o file zone a.its_own d) h);
+          no_room = λ a d h. map_answer c ∙ in_none a.accepted (length memory) 46 (omega arith) (room_none (length memory) (zone_text o file zone) text (text_is o file zone a.its_own d) h);
           draws = draws;
           reads = reads;
           unchanged = unchanged;

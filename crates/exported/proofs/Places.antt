@@ -106,8 +106,8 @@ module _ (file : List ℕ) (few : length file < 0x8000_0000_0000_0000) where
     opening_p : P (open_of file)
     opening_p = wider (λ k h. plainly (raised 34 last_number (omega arith) k h.numbered) (inl (omega (arith, h.numbered.greatest))) h.nowhere) (open_of file) (open_unplaced file)
 
-    record-p : (held : List ℕ) → P (record_of held)
-    record-p held = A.record-q file (Placed base file) (by_plain base file) held
+    record_p : (held : List ℕ) → P (record_of held)
+    record_p held = A.record_q file (Placed base file) (by_plain base file) held
 
     module _ (o : Opened) (same : o ≡ base) where
       lookup_p : (w : Way) (lng lat : Float) → P (lookup_by w o file lng lat)
@@ -133,7 +133,7 @@ module _ (file : List ℕ) (few : length file < 0x8000_0000_0000_0000) where
     read_as o e = ok_inv _ _ (need_inv 44 (same (length held) 84) (ok (opened_in held)) o e).1
 
     asked : {A : Type 0} (f : Opened → Answer A) → ((o : Opened) → o ≡ opened_in held → P (opened_in held) (f o)) → P (opened_in held) (record_of held then f)
-    asked f h = then_e (record_of held) f (record-p (opened_in held) held) (λ o e. h o (read_as o e))
+    asked f h = then_e (record_of held) f (record_p (opened_in held) held) (λ o e. h o (read_as o e))
 
     contains_asked_law : (w : Way) (zone : ℕ) (q : I32Point) → P (opened_in held) (contains_asked_by w held file zone q)
     unfolding contains_asked_by

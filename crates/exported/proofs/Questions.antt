@@ -40,8 +40,8 @@ module _ (o : Opened) (s : List ℕ) where
   unfolding counted_from
   by_broken i v f e g b h c w r k = let t = told b 0 c (omega arith) r k in record { least = omega (arith, t.least); greatest = omega (arith, t.greatest) }
 
-pub record-q : (held : List ℕ) → Tabled 46 (record_of held)
-record-q held = A.record-q [] (Numbered 46) by_plain held
+pub record_q : (held : List ℕ) → Tabled 46 (record_of held)
+record_q held = A.record_q [] (Numbered 46) by_plain held
 
 pub bounds_q : (s : List ℕ) (at n zone : ℕ) → Tabled 46 (bounds_at s at n zone)
 bounds_q s at n zone = A.bounds_q s (Numbered 46) by_plain at n zone

@@ -44,7 +44,7 @@ entry_in places bytes = entry_from places (row_in (widths places) bytes 0)
 pub record Stands (e : Entry) (position : List ℤ) (zones : List ℕ) (r : ℤ) (position' : List ℤ) (zones' : List ℕ) : Type 0 where
   pub tells : r ≡ pos (256 * length e.zones + e.reason)
   pub at : position' ≡ e.at.x ∷ e.at.y ∷ drop 2 position
-  pub in-zones : zones' ≡ e.zones ++ drop (length e.zones) zones
+  pub in_zones : zones' ≡ e.zones ++ drop (length e.zones) zones
 
 -- every call of tzb_journal_read on the bytes, with room for a position and as many zones as there are places, gives the entry
 abbrev pub ReadBack : ℕ → List ℕ → Entry → Type 0

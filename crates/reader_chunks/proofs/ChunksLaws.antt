@@ -165,9 +165,9 @@ module _ (o : Opened) (s : List ℕ) (i : ℕ) where
       unfolding decode_by bytes_of points_in
       by_is e k a g = rw (lt-ltb 0 v.count h, le-leb (2 * v.count) (length out) room, ← k, g)
 
-    pub in-no : (r : Refusal) → refused r ≡ chunk_at o s i → refused r ≡ decode_in o s i out
+    pub in_no : (r : Refusal) → refused r ≡ chunk_at o s i → refused r ≡ decode_in o s i out
     unfolding decode_in
-    in-no r h = rw (← h)
+    in_no r h = rw (← h)
 
     pub in_is : (v : ChunkRecord) → ok v ≡ chunk_at o s i → decode_by o s i out v ≡ decode_in o s i out
     unfolding decode_in

@@ -41,10 +41,10 @@ tested_once c n = points_are c n ∙ twice (ltb 0 n) _ ∙ sym (ap (need 32 (ltb
 
 module _ (o : Opened) (s : List ℕ) (i : ℕ) where
   -- of a chunk whose record is v
-  record-holds : (v : ChunkRecord) (P : List I32Point → Bool) (Q : Bool × I32Point → Bool) → ((l : List I32Point) → Q (every (in_box v.bbox) l, last_of l) ≡ P l)
+  record_holds : (v : ChunkRecord) (P : List I32Point → Bool) (Q : Bool × I32Point → Bool) → ((l : List I32Point) → Q (every (in_box v.bbox) l, last_of l) ≡ P l)
       → holds Q (end_of o s i then λ e. trace_in s v.count v.bbox (start_of o v) e) ≡ holds P (need 32 (ltb 0 v.count) (bytes_of o s i v then λ c. behind (start_of o v) (points_of c v.count)))
   unfolding trace_in bytes_of holds
-  record-holds v P Q f = with_end (end_of o s i)
+  record_holds v P Q f = with_end (end_of o s i)
     where
       neither : (b : Bool) (r : Refusal) → false ≡ holds P (need 32 b (refused r))
       neither true r = refl
@@ -74,7 +74,7 @@ module _ (o : Opened) (s : List ℕ) (i : ℕ) where
   trace_holds P Q f = go (chunk_at o s i)
     where
       go : (x : Answer ChunkRecord) → holds Q (x then λ v. end_of o s i then λ e. trace_in s v.count v.bbox (start_of o v) e) ≡ holds P (x then λ v. need 32 (ltb 0 v.count) (bytes_of o s i v then λ b. behind (start_of o v) (points_of b v.count)))
-      go (ok v) = record-holds v P Q (f v.bbox)
+      go (ok v) = record_holds v P Q (f v.bbox)
       go (refused r) = refl
 
   -- F4
@@ -83,7 +83,7 @@ module _ (o : Opened) (s : List ℕ) (i : ℕ) where
   trace_covers = go (chunk_at o s i)
     where
       go : (x : Answer ChunkRecord) → holds (λ t. t.0) (x then λ v. end_of o s i then λ e. trace_in s v.count v.bbox (start_of o v) e) ≡ holds (λ v. holds (every (in_box v.bbox)) (x then λ v. need 32 (ltb 0 v.count) (bytes_of o s i v then λ b. behind (start_of o v) (points_of b v.count)))) x
-      go (ok v) = record-holds v (every (in_box v.bbox)) (λ t. t.0) (λ l. refl)
+      go (ok v) = record_holds v (every (in_box v.bbox)) (λ t. t.0) (λ l. refl)
       go (refused r) = refl
 
   pub covers_no : (r : Refusal) → refused r ≡ trace_at o s i → false ≡ chunk_covers o s i

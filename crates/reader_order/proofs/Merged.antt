@@ -11,7 +11,7 @@ use lib.ListN.{length, take, drop, set, get_or, length-set, length-append, lengt
 use lib.Seq.{take-length, take-suc, take-take, take_all, take-add, take_at, take-append-le, drop_at, drop-drop, length-take-le}
 use Rattle.reader_order.specs.Order.{insert, insert_all, ordered, in_order, called}
 use Rattle.texts.proofs.Bytes.{not_before}
-use Rattle.reader_order.proofs.Sorted.{From, Sorted, sorted_in, in-sorted, sorted_take, insert_here, insert_on, all_last, all_sorted, all_called, is_ordered, as_they_came, same_length}
+use Rattle.reader_order.proofs.Sorted.{From, Sorted, sorted_in, in_sorted, sorted_take, insert_here, insert_on, all_last, all_sorted, all_called, is_ordered, as_they_came, same_length}
 use Rattle.reader_order.proofs.Shift.{written, moved_length, Sorting, all_there}
 use Rattle.reader_order.proofs.Halving.{place_inside}
 use Rattle.reader_order.proofs.Only.{only_ordered}
@@ -187,7 +187,7 @@ module _ (name : ℕ → List ℕ) where
         ∙ h.placed
 
     pub still_in_order : in_order name (take i l) ≡ true
-    still_in_order = rw h.kept (in-sorted name (take i m) (sorted_take name m k i h.front h.sorted))
+    still_in_order = rw h.kept (in_sorted name (take i m) (sorted_take name m k i h.front h.sorted))
 
     pub still_room : i ≤ length l
     still_room = omega (arith, h.front, h.same, h.room)
@@ -278,7 +278,7 @@ module _ (name : ℕ → List ℕ) where
   joined : (a b : List ℕ) → insert_all name (ordered name a) (ordered name b) ≡ ordered name (a ++ b)
   joined a b =
       let s : Sorted name (ordered name a) = sorted_in name (ordered name a) (is_ordered name a) in
-      only_ordered name (a ++ b) (insert_all name (ordered name a) (ordered name b)) (in-sorted name _ (all_sorted name (ordered name a) (ordered name b) s))
+      only_ordered name (a ++ b) (insert_all name (ordered name a) (ordered name b)) (in_sorted name _ (all_sorted name (ordered name a) (ordered name b) s))
       (λ n. all_called name n (ordered name a) (ordered name b) s ∙ ap₂ (λ (f c : List ℕ). f ++ c) (as_they_came name n a) (as_they_came name n b) ∙ sym (called_append n a b))
 
   module _ (m : List ℕ) (k : ℕ) (h : k ≤ length m) where

@@ -38,11 +38,11 @@ module _ (name : ℕ → List ℕ) where
       let s = sorted_in (y ∷ l) (and_r (not (comes_before (name y) (name x))) (in_order name (y ∷ l)) h) in
       ((e, from_less x y l e s.0), s)
 
-  pub in-sorted : (l : List ℕ) → Sorted l → in_order name l ≡ true
+  pub in_sorted : (l : List ℕ) → Sorted l → in_order name l ≡ true
   unfolding in_order
-  in-sorted [] s = refl
-  in-sorted (x ∷ []) s = refl
-  in-sorted (x ∷ y ∷ l) s = and_i (not (comes_before (name y) (name x))) (in_order name (y ∷ l)) (rw s.0.0) (in-sorted (y ∷ l) s.1)
+  in_sorted [] s = refl
+  in_sorted (x ∷ []) s = refl
+  in_sorted (x ∷ y ∷ l) s = and_i (not (comes_before (name y) (name x))) (in_order name (y ∷ l)) (rw s.0.0) (in_sorted (y ∷ l) s.1)
 
   -- ---- the first zones of some in order
   sorted_front : (l m : List ℕ) → Sorted (l ++ m) → Sorted l
@@ -181,7 +181,7 @@ module _ (name : ℕ → List ℕ) where
   -- it is in order
   pub is_ordered : (l : List ℕ) → in_order name (ordered name l) ≡ true
   unfolding ordered
-  is_ordered l = in-sorted (insert_all name [] l) (all_sorted [] l tt)
+  is_ordered l = in_sorted (insert_all name [] l) (all_sorted [] l tt)
 
   -- every zone is there as often as it was
   pub same_times : (y : ℕ) (l : List ℕ) → times y (ordered name l) ≡ times y l

@@ -22,22 +22,22 @@ use Rattle.reader_records.specs.declared.GroupRecord.{GroupRecord}
 use Rattle.reader_records.specs.Records.{place, record_at, ruled, group_in, group_rule, group_place, group_at, fits_below}
 
 module _ (s : List ℕ) (d : Directory) (w i : ℕ) where
-  pub record-out : d.count ≤ i → no 34 ≡ record_at s d w i
+  pub record_out : d.count ≤ i → no 34 ≡ record_at s d w i
   unfolding record_at
-  record-out h = rw (le-ltb i d.count h)
+  record_out h = rw (le-ltb i d.count h)
 
-  pub record-short : i < d.count → length s < place d w i + w → no 44 ≡ record_at s d w i
+  pub record_short : i < d.count → length s < place d w i + w → no 44 ≡ record_at s d w i
   unfolding record_at inside
-  record-short h k = rw (lt-ltb i d.count h, lt-leb (place d w i + w) (length s) k)
+  record_short h k = rw (lt-ltb i d.count h, lt-leb (place d w i + w) (length s) k)
 
-  pub record-at : i < d.count → place d w i + w ≤ length s → ok (place d w i) ≡ record_at s d w i
+  pub record_at_law : i < d.count → place d w i + w ≤ length s → ok (place d w i) ≡ record_at s d w i
   unfolding record_at inside
-  record-at h k = rw (lt-ltb i d.count h, le-leb (place d w i + w) (length s) k)
+  record_at_law h k = rw (lt-ltb i d.count h, le-leb (place d w i + w) (length s) k)
 
   -- a record that is there has all its bytes
-  pub record-room : (p : ℕ) → ok p ≡ record_at s d w i → p + w ≤ length s
+  pub record_room : (p : ℕ) → ok p ≡ record_at s d w i → p + w ≤ length s
   unfolding record_at inside
-  record-room p e = go (ltb i d.count) (leb (place d w i + w) (length s)) refl e
+  record_room p e = go (ltb i d.count) (leb (place d w i + w) (length s)) refl e
     where
       go : (a b : Bool) → leb (place d w i + w) (length s) ≡ b → ok p ≡ need 34 a (need 44 b (ok (place d w i))) → p + w ≤ length s
       go true true h e = let z : p ≡ place d w i = cc in omega (arith, leb-true (place d w i + w) (length s) h)
@@ -82,7 +82,7 @@ ruled_inside s d w i read rule n a e =
 -- a record that is there and keeps its rule is answered
 pub ruled_there : {A : Type 0} (s : List ℕ) (d : Directory) (w i n : ℕ) (read : ℕ → A) (rule : A → Bool)
     → i < d.count → place d w i + w ≤ length s → rule (read (place d w i)) ≡ true → ok (read (place d w i)) ≡ ruled (record_at s d w i) read rule n
-ruled_there s d w i n read rule h k e = ruled_ok (record_at s d w i) read rule n (place d w i) (read (place d w i)) true (record-at s d w i h k) refl (sym e) refl
+ruled_there s d w i n read rule h k e = ruled_ok (record_at s d w i) read rule n (place d w i) (read (place d w i)) true (record_at_law s d w i h k) refl (sym e) refl
 
 -- the place alone of what keeps its rule
 module _ {A : Type 0} (read : ℕ → A) (rule : A → Bool) (n : ℕ) where
@@ -117,7 +117,7 @@ module _ (o : Opened) (s : List ℕ) (i : ℕ) where
     -- all its bytes are there
     pub place_room : p + group_wide ≤ length s
     unfolding group_place
-    place_room = record-room s o.groups group_wide i p (placed_is (group_in s) (group_rule o.chunks.count) 34 (record_at s o.groups group_wide i) p e).0
+    place_room = record_room s o.groups group_wide i p (placed_is (group_in s) (group_rule o.chunks.count) 34 (record_at s o.groups group_wide i) p e).0
 
 -- what the rules tell
 module _ (first count below : ℕ) (h : fits_below first count below ≡ true) where

@@ -114,15 +114,15 @@ module _ (old bits p : ℕ) (e : bit_or p bits ≡ bits) where
 -- ---- marks
 
 module _ (m : List ℕ) (b bits x : ℕ) (h : b < length m) where
-  in-byte : x / 8 ≡ b → get_or (set m b (bit_or (get_or m b 0) bits)) (x / 8) 0 ≡ bit_or (get_or m (x / 8) 0) bits
-  in-byte e = rw e (get_or-set_same m b (bit_or (get_or m b 0) bits) 0 h)
+  in_byte : x / 8 ≡ b → get_or (set m b (bit_or (get_or m b 0) bits)) (x / 8) 0 ≡ bit_or (get_or m (x / 8) 0) bits
+  in_byte e = rw e (get_or-set_same m b (bit_or (get_or m b 0) bits) 0 h)
 
   keeps : Marked m x → Marked (set m b (bit_or (get_or m b 0) bits)) x
   keeps k = go (eqb (x / 8) b) refl
     where
       go : (t : Bool) → eqb (x / 8) b ≡ t → Marked (set m b (bit_or (get_or m b 0) bits)) x
       go true e =
-          record { mark = subst (λ (z : ℕ). 0 < bit_and z (own x)) (sym (in-byte (eqb-true (x / 8) b e))) (le_trans k.mark (and_grows (own x) (get_or m (x / 8) 0) bits)) }
+          record { mark = subst (λ (z : ℕ). 0 < bit_and z (own x)) (sym (in_byte (eqb-true (x / 8) b e))) (le_trans k.mark (and_grows (own x) (get_or m (x / 8) 0) bits)) }
       go false e =
           record { mark = subst (λ (z : ℕ). 0 < bit_and z (own x)) (sym (get_or-set_other m b (x / 8) (bit_or (get_or m b 0) bits) 0 (eqb-false (x / 8) b e))) k.mark }
 
@@ -150,7 +150,7 @@ module _ (m₀ m : List ℕ) (from k : ℕ) (c : Taken m₀ m from k) (t : Strid
   new_held : (x : ℕ) → k ≤ x → x < k + t.units → Marked (set m (k / 8) (bit_or (get_or m (k / 8) 0) t.bits)) x
   new_held x l g =
       let y = byte x l g in
-      record { mark = subst (λ (v : ℕ). 0 < bit_and v (own x)) (sym (in-byte m (k / 8) t.bits x h y.0)) (held_bit (get_or m (x / 8) 0) t.bits (own x) y.1 (own_some x)) }
+      record { mark = subst (λ (v : ℕ). 0 < bit_and v (own x)) (sym (in_byte m (k / 8) t.bits x h y.0)) (held_bit (get_or m (x / 8) 0) t.bits (own x) y.1 (own_some x)) }
 
   pub take_on : Taken m₀ (set m (k / 8) (bit_or (get_or m (k / 8) 0) t.bits)) from (k + t.units)
   take_on = record {

@@ -22,16 +22,16 @@ use Rattle.reader_table.specs.Steps.{Settled, Placed, Has, Split, Marked, Taken,
 -- the units of an entry, from its first to behind its last, clipped to the window
 module _ (s : List ℕ) (i base first last from to : ℕ) (m m' : List ℕ) (lo : 4 * first ≤ off_at s i) (hi : off_at s i + len_at s i ≤ 4 * last)
     (a : Clipped first base (8 * length m) from) (b : Clipped last base (8 * length m) to) where
-  in-from : (k : ℕ) → Has s i (base + k) → from ≤ k
-  in-from k h = a.low k (omega arith)
+  in_from : (k : ℕ) → Has s i (base + k) → from ≤ k
+  in_from k h = a.low k (omega arith)
 
-  in-to : (k : ℕ) → k < 8 * length m → Has s i (base + k) → k < to
-  in-to k l h = b.high k (omega arith) l
+  in_to : (k : ℕ) → k < 8 * length m → Has s i (base + k) → k < to
+  in_to k l h = b.high k (omega arith) l
 
   pub taken_by : Taken m m' from to → TakenBy s i base m m'
   taken_by t = record {
-    was_free = λ k l h. t.free k (in-from k h) (in-to k l h);
-    is_held = λ k l h. t.held k (in-from k h) (in-to k l h);
+    was_free = λ k l h. t.free k (in_from k h) (in_to k l h);
+    is_held = λ k l h. t.held k (in_from k h) (in_to k l h);
     still = t.kept;
   }
 

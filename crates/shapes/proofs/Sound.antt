@@ -25,9 +25,9 @@ sides a b c d h =
     (and_l a b x, and_r a b x, and_l c d y, and_r c d y)
 
 -- ---- boxes in boxes
-pub in-wider : (c b : BBox) → covers c b ≡ true → (p : I32Point) → in_box b p ≡ true → in_box c p ≡ true
+pub in_wider : (c b : BBox) → covers c b ≡ true → (p : I32Point) → in_box b p ≡ true → in_box c p ≡ true
 unfolding in_box covers
-in-wider c b h p k =
+in_wider c b h p k =
     let u = sides (le_z c.minx b.minx) (le_z b.maxx c.maxx) (le_z c.miny b.miny) (le_z b.maxy c.maxy) h in
     let v = sides (le_z b.minx p.x) (le_z p.x b.maxx) (le_z b.miny p.y) (le_z p.y b.maxy) k in
     and_i (le_z c.minx p.x && le_z p.x c.maxx) (le_z c.miny p.y && le_z p.y c.maxy)
@@ -38,7 +38,7 @@ abbrev pub all_in : BBox → List I32Point → Type 0
 all_in b l = every (in_box b) l ≡ true
 
 pub all_wider : (c b : BBox) (l : List I32Point) → covers c b ≡ true → all_in b l → all_in c l
-all_wider c b l h = every_weaken (in_box b) (in_box c) (in-wider c b h) l
+all_wider c b l h = every_weaken (in_box b) (in_box c) (in_wider c b h) l
 
 -- a box that covers the chunks' boxes covers their points
 pub points_in_law : (b : BBox) (cs : List Chunk) → every (λ c. covers b c.box) cs ≡ true → chunks_fit cs ≡ true → all_in b (points cs)

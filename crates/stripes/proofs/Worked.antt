@@ -34,7 +34,7 @@ groups =
     record { bbox = tall (negsuc 2) (pos 4); chunks = tall (negsuc 2) (pos 4) ∷ [] } ∷
     []
 
-pub numbers-worked :
+pub numbers_worked :
     numbers groups ≡
     4294967289 ∷ 17 ∷ 2 ∷ 10 ∷ 0 ∷
     0 ∷ 0 ∷ 0 ∷ 0 ∷ 0 ∷
@@ -43,7 +43,7 @@ pub numbers-worked :
     0 ∷ 1 ∷ 2 ∷ 5 ∷ 6 ∷ 7 ∷ 8 ∷
     2 ∷ 3 ∷ 4 ∷ 6 ∷ 7 ∷ []
 unfolding numbers group_entries group_entry stripe_entries all_stripes together group_stripes stripes_from chunks_in stands_in stripe_of striping_of stripe_count
-numbers-worked = refl
+numbers_worked = refl
 
 pub need_worked : need_of groups ≡ 28
 unfolding need_of group_need depths depth stripe_of striping_of stripe_count

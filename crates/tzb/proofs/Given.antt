@@ -35,7 +35,7 @@ use Rattle.opened.specs.Widths.{list_wide, ring_wide, op_wide, group_wide, chunk
 use Rattle.basics.specs.Total.{total}
 use Rattle.answer.proofs.AnswersLaws.{zero_one, ok_inv}
 use Rattle.reader_opened.proofs.OpenedLaws.{within}
-use Rattle.reader_records.proofs.RecordsLaws.{record-at}
+use Rattle.reader_records.proofs.RecordsLaws.{record_at_law}
 use Rattle.tzb.proofs.OpeningLaws.{tabled, placed, lies, room}
 use Rattle.tzb.specs.Steps.{Placed}
 
@@ -76,8 +76,8 @@ pub record DirectoriesThere (file : List ℕ) (o : Opened) : Type 0 where
   pub chunks_some : 1 ≤ o.chunks.count
 
 -- a record of such a directory is there: a question for it can be refused by its rule alone
-pub record-there : (s : List ℕ) (d : Directory) (w : ℕ) → Lies s d w → (i : ℕ) → i < d.count → ok (place d w i) ≡ record_at s d w i
-record-there s d w f i h = record-at s d w i h (omega (arith, mul-le-mul_right w h, f.fits))
+pub record_there : (s : List ℕ) (d : Directory) (w : ℕ) → Lies s d w → (i : ℕ) → i < d.count → ok (place d w i) ≡ record_at s d w i
+record_there s d w f i h = record_at_law s d w i h (omega (arith, mul-le-mul_right w h, f.fits))
 
 -- the five other directories are as long as one record at least
 module _ (p : Sections) (passes : sizes_check p ≡ fine) where

@@ -34,14 +34,14 @@ name_inside b s zone from to e =
 -- a file of bytes, each below 256, opened into lent memory that has room for its record
 module _ (s room : List ℕ) (byte : (i : ℕ) → get_or s i 0 < 256) (o : Opened) (opened : ok o ≡ open_of s) (fits : record_wide ≤ length room) where
   -- the first bytes of that memory, as many as a record's, are read as opening's own record
-  pub record-kept : ok o ≡ record_of (take record_wide (left room (open_into s room)))
-  record-kept =
+  pub record_kept : ok o ≡ record_of (take record_wide (left room (open_into s room)))
+  record_kept =
       let held : Held o = rw (opened_is_law s o opened) (opened_held s byte) in
       written_back o room held fits ∙ ap (λ (x : Answer (List ℕ)). record_of (take record_wide (left room x))) (open_into_law s room o opened)
 
   -- so every question that is asked with them is asked of it
   pub asked_once : {A : Type 0} (f : Opened → Answer A) → (record_of (take record_wide (left room (open_into s room))) then f) ≡ (open_of s then f)
-  asked_once f = sym (then_ok _ f o record-kept) ∙ then_ok _ f o opened
+  asked_once f = sym (then_ok _ f o record_kept) ∙ then_ok _ f o opened
 
   -- and the zone of a position is that of opening and asking at once
   pub lookup_kept : (lng lat : Float) → lookup_asked (take record_wide (left room (open_into s room))) s lng lat ≡ lookup_once s lng lat

@@ -41,8 +41,8 @@ module _ (m : ℕ) (e : ℤ) (z : ℤ) (small : nat_abs z ≤ 9_000_000) where
   near : nat_abs z ≤ 18_000_000
   near = le_trans small (lit≤ tt)
 
-  in-z : In (nat z)
-  in-z = nat_in z near
+  in_z : In (nat z)
+  in_z = nat_in z near
 
   z_is : Is z (nat z) 18_000_000
   z_is = shift_is 18_000_000 z near
@@ -58,15 +58,15 @@ module _ (m : ℕ) (e : ℤ) (z : ℤ) (small : nat_abs z ≤ 9_000_000) where
   under s h = ap (λ (x : Float). lt x (fin s m e)) (nat_at z near) ∙ go s h
     where
       go : (s : Bool) → (frac_of s m e).q + nat z * down e < (frac_of s m e).p + 18_000_000 * down e → lt (at (nat z)) (fin s m e) ≡ true
-      go true h = lt_frac (fin true m e) (frac_of true m e) 18_000_000 (nat z) (fine (nat z) in-z) ∙ lt-ltb (m * up e + nat z * down e) (0 + 18_000_000 * down e) h
-      go false h = lt_frac (fin false m e) (frac_of false m e) 18_000_000 (nat z) (fine (nat z) in-z) ∙ lt-ltb (0 + nat z * down e) (m * up e + 18_000_000 * down e) h
+      go true h = lt_frac (fin true m e) (frac_of true m e) 18_000_000 (nat z) (fine (nat z) in_z) ∙ lt-ltb (m * up e + nat z * down e) (0 + 18_000_000 * down e) h
+      go false h = lt_frac (fin false m e) (frac_of false m e) 18_000_000 (nat z) (fine (nat z) in_z) ∙ lt-ltb (0 + nat z * down e) (m * up e + 18_000_000 * down e) h
 
   over : (s : Bool) → (frac_of s m e).p + 18_000_000 * down e < (frac_of s m e).q + nat z * down e → lt (fin s m e) (float z) ≡ true
   over s h = ap (lt (fin s m e)) (nat_at z near) ∙ go s h
     where
       go : (s : Bool) → (frac_of s m e).p + 18_000_000 * down e < (frac_of s m e).q + nat z * down e → lt (fin s m e) (at (nat z)) ≡ true
-      go true h = frac_lt (fin true m e) (frac_of true m e) 18_000_000 (nat z) (fine (nat z) in-z) ∙ lt-ltb (0 + 18_000_000 * down e) (m * up e + nat z * down e) h
-      go false h = frac_lt (fin false m e) (frac_of false m e) 18_000_000 (nat z) (fine (nat z) in-z) ∙ lt-ltb (m * up e + 18_000_000 * down e) (0 + nat z * down e) h
+      go true h = frac_lt (fin true m e) (frac_of true m e) 18_000_000 (nat z) (fine (nat z) in_z) ∙ lt-ltb (0 + 18_000_000 * down e) (m * up e + nat z * down e) h
+      go false h = frac_lt (fin false m e) (frac_of false m e) 18_000_000 (nat z) (fine (nat z) in_z) ∙ lt-ltb (m * up e + 18_000_000 * down e) (0 + nat z * down e) h
 
   c_pos : 0 < down e
   c_pos = (frac_of true m e).c_pos

@@ -99,9 +99,9 @@ module _ (file : List ℕ) (zone : ℕ) where
     unfolding map_in
     in_is o e f = asked_is file (λ o. in_room room (zone_text o file zone)) o e f
 
-    pub in-inv : (t : List ℕ) → drawn t ≡ map_in file zone room → (o : Opened) × (ok o ≡ open_of file) × (full_check_of file ≡ accepted) × (ok t ≡ in_room room (zone_text o file zone))
+    pub in_inv : (t : List ℕ) → drawn t ≡ map_in file zone room → (o : Opened) × (ok o ≡ open_of file) × (full_check_of file ≡ accepted) × (ok t ≡ in_room room (zone_text o file zone))
     unfolding map_in
-    in-inv t e = asked_inv file (λ o. in_room room (zone_text o file zone)) t e
+    in_inv t e = asked_inv file (λ o. in_room room (zone_text o file zone)) t e
 
   -- what is told, and what the memory then holds
   abbrev pub Told : List ℕ → Drawn ℕ → List ℕ → Type 0

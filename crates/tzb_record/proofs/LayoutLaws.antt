@@ -59,18 +59,18 @@ module _ (s : List ℕ) where
       let j = section_is points et in
       cc
 
-  pub record-none : (k : Refusal) → (length s ≡ record_wide → ⊥) → k ≡ refusal 44 → refused k ≡ record_of s
+  pub record_none : (k : Refusal) → (length s ≡ record_wide → ⊥) → k ≡ refusal 44 → refused k ≡ record_of s
   unfolding record_of
-  record-none k h e = ap refused e ∙ need_not _ _ _ (ne_same (length s) record_wide h)
+  record_none k h e = ap refused e ∙ need_not _ _ _ (ne_same (length s) record_wide h)
 
   pub record_is : (o : Opened) → length s ≡ record_wide → o ≡ opened_in s → ok o ≡ record_of s
   unfolding record_of
   record_is o h e = ap ok e ∙ need_met _ _ _ (eq_same (length s) record_wide h)
 
 -- ---- a record into lent memory
-pub record-long : (o : Opened) → length (bytes_of o) ≡ record_wide
+pub record_long : (o : Opened) → length (bytes_of o) ≡ record_wide
 unfolding bytes_of
-record-long o = row_long widths (numbers_of o)
+record_long o = row_long widths (numbers_of o)
 
 module _ (o : Opened) (room : List ℕ) where
   pub into_none : length room < record_wide → refused (refusal 46) ≡ record_into o room

@@ -18,7 +18,7 @@ use Rattle.answer.specs.Answers.{ok, left}
 use Rattle.answer.proofs.AnswersLaws.{left_is}
 use Rattle.opened.specs.declared.Opened.{Opened}
 use Rattle.tzb_record.specs.Layout.{widths, record_wide, numbers_of, opened_from, bytes_of, opened_in, record_of, record_into, Held}
-use Rattle.tzb_record.proofs.LayoutLaws.{record-long, record_is, into_room_law}
+use Rattle.tzb_record.proofs.LayoutLaws.{record_long, record_is, into_room_law}
 
 -- ---- a record's numbers are the record
 numbers_back : (o : Opened) → Held o → opened_from (numbers_of o) ≡ o
@@ -35,14 +35,14 @@ round o h =
     ∙ ap opened_from (row_back widths (numbers_of o) [] [] h.numbers)
     ∙ numbers_back o h
 
-pub record-back : (o : Opened) → Held o → ok o ≡ record_of (bytes_of o)
-record-back o h = record_is (bytes_of o) o (record-long o) (sym (round o h))
+pub record_back : (o : Opened) → Held o → ok o ≡ record_of (bytes_of o)
+record_back o h = record_is (bytes_of o) o (record_long o) (sym (round o h))
 
 -- the first bytes of lent memory, after a record was written into it
 pub written_back : (o : Opened) (room : List ℕ) → Held o → record_wide ≤ length room → ok o ≡ record_of (take record_wide (left room (record_into o room)))
 written_back o room h r =
-    record-back o h
-    ∙ ap record_of (sym (take_at (bytes_of o) (drop (length (bytes_of o)) room) record_wide (record-long o)))
+    record_back o h
+    ∙ ap record_of (sym (take_at (bytes_of o) (drop (length (bytes_of o)) room) record_wide (record_long o)))
     ∙ ap (λ (m : List ℕ). record_of (take record_wide m)) (left_is (record_into o room) (bytes_of o) (into_room_law o room r) room)
 
 -- ---- bytes, each below 256, as many as a record's

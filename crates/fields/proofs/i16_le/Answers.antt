@@ -1,4 +1,4 @@
--- `fields::i16_le` meets its contract, by the two laws of `signedAt`.
+-- `fields::i16_le` meets its contract, by the two laws of `signed_at`.
 -- Assumes nothing.
 use mathlib.Core.Path.{◌∙◌}
 use mir.Syntax.{w16}

@@ -1,4 +1,4 @@
--- `fields::u64_le` meets its contract, by the two laws of `loadAt`.
+-- `fields::u64_le` meets its contract, by the two laws of `load_at`.
 -- Assumes nothing.
 use Rattle.fields.proofs.LoadsLaws.{room, load_past, load_in}
 use Rattle.std.proofs.lemmas.Bool.{not_from_true}

@@ -5,7 +5,7 @@ use Rattle.answer.specs.Answers.{checked_told, outcome}
 use Rattle.reader_records.specs.Records.{told_chunk}
 use Rattle.tzb_core.specs.Reading.{told_trace}
 use Rattle.tzb_core.specs.declared.chunk.Traced.{Traced}
-use Rattle.reader_chunks.proofs.ChunksLaws.{in-no, in_is}
+use Rattle.reader_chunks.proofs.ChunksLaws.{in_no, in_is}
 use Rattle.reader_chunks.proofs.CheckedLaws.{by_barred, trace_decodes}
 use Rattle.reader_chunks.proofs.check_chunk_points.Goals as goal
 
@@ -17,7 +17,7 @@ returns-in-Refused-c c =
 pub returns-in-Refused : goal.returns-in-Refused
 returns-in-Refused c =
     let a = c.args in
-    ap outcome (in-no a.o a.s.now a.index a.out.now _ (sym (ap told_chunk c.in-Refused.is) ∙ c.chunk_at-t.ensures))
+    ap outcome (in_no a.o a.s.now a.index a.out.now _ (sym (ap told_chunk c.in-Refused.is) ∙ c.chunk_at-t.ensures))
 
 pub returns-in-Refused-w : goal.returns-in-Refused-w
 returns-in-Refused-w c =

@@ -34,11 +34,10 @@ overflow_add-i c =
 
 pub loop-left-preserved : goal.loop-left-preserved
 unfolding side_text
-loop-left-preserved c =
-    (
-      row_on c.loop-left.invariant.0 c.loop-left-test.true c.draw_ring-t.ensures c.put-next.ensures.0 c.put-next.ensures.1 (omega arith) _ (ap text_told c.in-Long.is),
-      c.draw_ring-t.auto.held ∙ c.loop-left.invariant.1,
-    )
+loop-left-preserved c = (
+  row_on c.loop-left.invariant.0 c.loop-left-test.true c.draw_ring-t.ensures c.put-next.ensures.0 c.put-next.ensures.1 (omega arith) _ (ap text_told c.in-Long.is),
+  c.draw_ring-t.auto.held ∙ c.loop-left.invariant.1,
+)
 
 pub shape_of-held : goal.shape_of-held
 shape_of-held c =

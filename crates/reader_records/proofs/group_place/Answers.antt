@@ -3,12 +3,12 @@
 use mathlib.Core.Path.{refl, sym, ap, ◌∙◌}
 use Rattle.answer.specs.Answers.{refused}
 use Rattle.reader_records.specs.Records.{told_place, group_rule, group_place}
-use Rattle.reader_records.proofs.RecordsLaws.{record-room, ruled_no, ruled_bad, ruled_ok}
+use Rattle.reader_records.proofs.RecordsLaws.{record_room, ruled_no, ruled_bad, ruled_ok}
 use Rattle.opened.specs.Widths.{group_wide}
 use Rattle.reader_records.proofs.group_place.Goals as goal
 
 pub group_in-v-requires : goal.group_in-v-requires
-group_in-v-requires c = record-room _ _ group_wide _ _ (sym (ap told_place c.in-At.is) ∙ c.record_at-t.ensures)
+group_in-v-requires c = record_room _ _ group_wide _ _ (sym (ap told_place c.in-At.is) ∙ c.record_at-t.ensures)
 
 pub returns-in-Refused : goal.returns-in-Refused
 unfolding group_place

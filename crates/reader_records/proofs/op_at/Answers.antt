@@ -3,12 +3,12 @@
 use mathlib.Core.Path.{sym, ap, ◌∙◌}
 use Rattle.answer.specs.Answers.{refused}
 use Rattle.reader_records.specs.Records.{told_place, op_at}
-use Rattle.reader_records.proofs.RecordsLaws.{record-room, ruled_no, ruled_bad, ruled_ok}
+use Rattle.reader_records.proofs.RecordsLaws.{record_room, ruled_no, ruled_bad, ruled_ok}
 use Rattle.opened.specs.Widths.{op_wide}
 use Rattle.reader_records.proofs.op_at.Goals as goal
 
 pub word-word-requires : goal.word-word-requires
-word-word-requires c = record-room _ _ op_wide _ _ (sym (ap told_place c.in-At.is) ∙ c.record_at-t.ensures)
+word-word-requires c = record_room _ _ op_wide _ _ (sym (ap told_place c.in-At.is) ∙ c.record_at-t.ensures)
 
 pub returns-in-Refused : goal.returns-in-Refused
 unfolding op_at

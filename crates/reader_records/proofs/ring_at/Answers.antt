@@ -3,12 +3,12 @@
 use mathlib.Core.Path.{sym, ap, ◌∙◌}
 use Rattle.answer.specs.Answers.{refused}
 use Rattle.reader_records.specs.Records.{told_place, ring_at}
-use Rattle.reader_records.proofs.RecordsLaws.{record-room, ruled_no, ruled_bad, ruled_ok}
+use Rattle.reader_records.proofs.RecordsLaws.{record_room, ruled_no, ruled_bad, ruled_ok}
 use Rattle.opened.specs.Widths.{ring_wide}
 use Rattle.reader_records.proofs.ring_at.Goals as goal
 
 pub ring_in-v-requires : goal.ring_in-v-requires
-ring_in-v-requires c = record-room _ _ ring_wide _ _ (sym (ap told_place c.in-At.is) ∙ c.record_at-t.ensures)
+ring_in-v-requires c = record_room _ _ ring_wide _ _ (sym (ap told_place c.in-At.is) ∙ c.record_at-t.ensures)
 
 pub returns-in-Refused : goal.returns-in-Refused
 unfolding ring_at

@@ -29,16 +29,16 @@ pub returns-in-Refused-t : goal.returns-in-Refused-t
 returns-in-Refused-t c =
     record {
       result_value = (map_none _ _ c.args.out.now _ (sym (ap opening_told c.in-Done.is) ∙ c.open-a.ensures) _ c.broken_rule-rule.ensures (omega (arith, c.if-rule-ne0.false)) _ c.map_into-t.ensures.memory _
-    (sym (ap text_told c.in-Refused-t.is) ∙ c.map_into-t.ensures.result_value)).0;
+          (sym (ap text_told c.in-Refused-t.is) ∙ c.map_into-t.ensures.result_value)).0;
       memory = (map_none _ _ c.args.out.now _ (sym (ap opening_told c.in-Done.is) ∙ c.open-a.ensures) _ c.broken_rule-rule.ensures (omega (arith, c.if-rule-ne0.false)) _ c.map_into-t.ensures.memory _
-    (sym (ap text_told c.in-Refused-t.is) ∙ c.map_into-t.ensures.result_value)).1;
+          (sym (ap text_told c.in-Refused-t.is) ∙ c.map_into-t.ensures.result_value)).1;
     }
 
 pub returns-in-Long : goal.returns-in-Long
 returns-in-Long c =
     record {
       result_value = (map_drawn _ _ c.args.out.now _ (sym (ap opening_told c.in-Done.is) ∙ c.open-a.ensures) _ c.broken_rule-rule.ensures (omega (arith, c.if-rule-ne0.false)) _ c.map_into-t.ensures.memory _
-    (sym (ap text_told c.in-Long.is) ∙ c.map_into-t.ensures.result_value)).0;
+          (sym (ap text_told c.in-Long.is) ∙ c.map_into-t.ensures.result_value)).0;
       memory = (map_drawn _ _ c.args.out.now _ (sym (ap opening_told c.in-Done.is) ∙ c.open-a.ensures) _ c.broken_rule-rule.ensures (omega (arith, c.if-rule-ne0.false)) _ c.map_into-t.ensures.memory _
-    (sym (ap text_told c.in-Long.is) ∙ c.map_into-t.ensures.result_value)).1;
+          (sym (ap text_told c.in-Long.is) ∙ c.map_into-t.ensures.result_value)).1;
     }

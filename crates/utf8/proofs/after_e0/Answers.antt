@@ -1,11 +1,11 @@
 -- `utf8::after_e0` meets its contract: inside the range, below it, above it.
 -- Assumes nothing.
 use native.Mathlib.Omega.{arith}
-use Rattle.utf8.proofs.Steps.{in-range, under, over}
+use Rattle.utf8.proofs.Steps.{in_range_law, under, over}
 use Rattle.utf8.proofs.after_e0.Goals as goal
 
 pub returns-in-160-to-191 : goal.returns-in-160-to-191
-returns-in-160-to-191 c = in-range 0xa0 0xbf c.args.b (omega arith) (omega arith)
+returns-in-160-to-191 c = in_range_law 0xa0 0xbf c.args.b (omega arith) (omega arith)
 
 pub returns-in_default : goal.returns-in_default
 returns-in_default c = under 0xa0 0xbf c.args.b (omega arith)
