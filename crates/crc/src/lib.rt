@@ -75,18 +75,26 @@ fn first_row(t: &mut [u32])
     }
 }
 
-// All sixteen tables: each entry after the first 256 comes from the one 256 places before it.
-pub fn tables() -> [u32; 4096]
-    ensures { Filled result 4096 }
+// All sixteen tables, written: each entry after the first 256 comes from the one 256 places before it.
+fn fill(t: &mut [u32])
+    requires { length t.old ≡ 4096 }
+    ensures { Filled t.new 4096 }
 {
-    let mut t = [0u32; 4096];
-    first_row(&mut t);
+    first_row(t);
     let mut i: usize = 256;
     while i < 4096 {
         let prev = t[i - 256];
         t[i] = t[low(wide64(prev))] ^ (prev / 256);
         i += 1;
     }
+}
+
+// All sixteen tables.
+pub fn tables() -> [u32; 4096]
+    ensures { Filled result 4096 }
+{
+    let mut t = [0u32; 4096];
+    fill(&mut t);
     t
 }
 
@@ -181,6 +189,8 @@ pub fn crc32_ieee(s: &[u8]) -> u32
     if s.len() < 0x4000 {
         return crc32_short(s);
     }
-    let t = tables();
+    // not by `tables`: an answer of 16 KB would be copied, and so take the stack twice more
+    let mut t = [0u32; 4096];
+    fill(&mut t);
     crc32_with(&t, s)
 }

@@ -1,6 +1,6 @@
 use Prim.Native.Nat.{◌-◌, ◌≤◌}
 use Rattle.checksum.specs.Crc32.{Filled}
-use Rattle.crc.proofs.tables.Given as goal
+use Rattle.crc.proofs.fill.Given as goal
 
 abbrev pub invariant-loop-i : goal.invariant-loop-i
 invariant-loop-i l = (256 ≤ l.i) × (l.i ≤ 4096) × Filled l.t l.i

@@ -3,16 +3,16 @@
 use mathlib.Core.Path.{◌≡◌, refl, ap, ◌∙◌, subst}
 use Prim.Native.Nat.{ℕ, ◌-◌, ◌/◌, ◌%◌}
 use lib.Bits.{bit_xor}
-use lib.ListN.{get_or, length-replicate}
+use lib.ListN.{get_or}
 use Rattle.checksum.specs.Crc32.{Filled}
 use Rattle.crc.proofs.Front.{back, more, later}
 use native.Mathlib.Omega.{arith}
-use Rattle.crc.proofs.tables.Goals as goal
+use Rattle.crc.proofs.fill.Goals as goal
 
 pub loop-i-init : goal.loop-i-init
 loop-i-init c =
     let f = c.first_row in
-    (omega arith, omega arith, back f.new.t (f.auto.t ∙ length-replicate {A = ℕ} 4096 0) f.ensures)
+    (omega arith, omega arith, back f.new.t (f.auto.t ∙ c.requires) f.ensures)
 
 pub loop-i-smaller : goal.loop-i-smaller
 loop-i-smaller c = omega arith
