@@ -371,6 +371,7 @@ SECTIONS {
   .text 0 : SUBALIGN(256) { *(SORT_BY_NAME(.text.tzb*)) *(SORT_BY_NAME(.text.*)) }
   .rodata.cst16 0 : { *(.rodata.cst16) }
   .rodata.cst8 0 : { *(.rodata.cst8) }
+  .rodata.cst4 0 : { *(.rodata.cst4) }
   .rodata 0 : { *(SORT_BY_NAME(.rodata.*)) }
 }
 END
