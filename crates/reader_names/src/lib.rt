@@ -32,6 +32,7 @@ fn offset(s: &[u8], at: usize, n: usize, i: usize) -> usize
 }
 
 // 23 and 24 of one offset, with the one before.
+#[tactic(auto, using(answer::proofs::CheckLaws::clear, answer::proofs::CheckLaws::barred, answer::proofs::CheckLaws::end), unfolding(crate::specs::Names::offset_rule))]
 fn offset_ok(i: usize, n: usize, prev: usize, off: usize, blob: usize) -> Checked
     ensures { checked_told result ≡ offset_rule i n prev off blob }
 {

@@ -16,4 +16,4 @@ returns-then-second-more c =
 pub returns-then-from-less_one : goal.returns-then-from-less_one
 returns-then-from-less_one c =
     c.digits_of.ensures
-    ∙ direct _ _ _ _ (omega arith) c.wide-b0.ensures.0 c.wide-b1.ensures.0 c.wide-b0.ensures.1 c.if-b0-b1.false c.if-second-more.false
+    ∙ direct _ _ _ _ (omega arith) c.wide-b0.ensures.0 c.wide-b1.ensures.0 c.wide-b0.ensures.1 c.if-b0-b1.false (omega arith)
