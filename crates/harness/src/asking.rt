@@ -1,6 +1,7 @@
 // A list of files, and of questions that are put to each with bytes that are lent for it. The number in a file's record says how many
 // times bytes are lent, and the number in their record how many questions come behind them.
-ghost use Rattle.std.specs.Prelude.{◌-◌, ◌≤◌, IfOk};
+ghost use Rattle.std.specs.Prelude.{◌-◌, ◌≤◌, ◌⊎◌, IfOk, OnErr};
+ghost use Rattle.harness.specs.Reading.{CameBefore};
 
 use crate::numbers::number;
 use crate::records::read_held;
@@ -33,7 +34,8 @@ impl Asking {
         file: &mut [u8; 1024],
         lent: &mut [u8; 1024],
     ) -> io::Result<Self>
-        ensures { IfOk result (λ a. a.tally.left ≤ self.tally.left - 1) }
+        ensures left { IfOk result (λ a. a.tally.left ≤ self.tally.left - 1) }
+        ensures err { OnErr result (CameBefore (R.remaining input.old) (R.remaining input.new) file.new ⊎ CameBefore (R.remaining input.old) (R.remaining input.new) lent.new) }
     {
         let tally = self.tally;
         if self.times == 0 {

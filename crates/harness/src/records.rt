@@ -1,5 +1,6 @@
 // The records of a list, as they come from a reader, and parts of their bytes.
-ghost use Rattle.std.specs.Prelude.{◌<◌, IfOk, IsTrue, length, take};
+ghost use Rattle.std.specs.Prelude.{◌<◌, IfOk, OnErr, IsTrue, length, take};
+ghost use Rattle.harness.specs.Reading.{CameBefore};
 ghost use Rattle.std.specs.Io.{ReadsAtMost};
 ghost use Rattle.std.specs.Io.KnownBytes.{Consumes, IsAtEnd};
 
@@ -7,11 +8,12 @@ use crate::numbers::{number, size};
 use std::io;
 use std::io::Read;
 
-// Reads until the bytes are full or the input ends. How many came.
+// Reads until the bytes are full or the input ends. How many came. Where a read fails, what came before stands in the first bytes.
 pub fn fill<R: Read>(input: &mut R, s: &mut [u8]) -> io::Result<usize>
     ensures within { ReadsAtMost result s.new }
     ensures bytes { IfOk result (λ n. Consumes (R.remaining input.old) (R.remaining input.new) (take n s.new)) }
     ensures end { IfOk result (λ n. n < length s.new → IsAtEnd (R.remaining input.new)) }
+    ensures err { OnErr result (CameBefore (R.remaining input.old) (R.remaining input.new) s.new) }
 {
     let mut n = 0;
     while n < s.len() {
@@ -28,6 +30,7 @@ pub fn fill<R: Read>(input: &mut R, s: &mut [u8]) -> io::Result<usize>
 pub fn read<R: Read>(input: &mut R, r: &mut [u8]) -> io::Result<bool>
     ensures bytes { IfOk result (λ all. IsTrue all → Consumes (R.remaining input.old) (R.remaining input.new) r.new) }
     ensures end { IfOk result (λ all. ¬ IsTrue all → IsAtEnd (R.remaining input.new)) }
+    ensures err { OnErr result (CameBefore (R.remaining input.old) (R.remaining input.new) r.new) }
 {
     let n = r.len();
     Ok(fill(input, r)? == n)
@@ -35,7 +38,8 @@ pub fn read<R: Read>(input: &mut R, r: &mut [u8]) -> io::Result<bool>
 
 // A record that holds bytes: their length, a number, the bytes, zeros. Whether it came, and the length is one that fits.
 pub fn read_held<R: Read>(input: &mut R, r: &mut [u8; 1024]) -> io::Result<bool>
-    ensures { IfOk result (λ all. IsTrue all → Consumes (R.remaining input.old) (R.remaining input.new) r.new) }
+    ensures err { OnErr result (CameBefore (R.remaining input.old) (R.remaining input.new) r.new) }
+    ensures bytes { IfOk result (λ all. IsTrue all → Consumes (R.remaining input.old) (R.remaining input.new) r.new) }
 {
     Ok(read(input, r)? & (number(r, 0) <= 1016))
 }

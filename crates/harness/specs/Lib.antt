@@ -1,0 +1,2 @@
+-- What a read leaves that fails.
+pub mod Reading
