@@ -351,7 +351,7 @@ change_byte() { # FILE AT VALUE, in octal
 disassembling() {
   prefix=
   command -v x86_64-linux-gnu-objdump >/dev/null && prefix=x86_64-linux-gnu-
-  for tool in ar ld objcopy objdump; do
+  for tool in ar as ld objcopy objdump; do
     if ! command -v $prefix$tool >/dev/null || { [ -z "$prefix" ] && [ "$(uname -m)" != x86_64 ]; }; then
       echo "scripts: the comparison of disassemblies was not tried: there is no $tool for x86-64"
       return
@@ -360,6 +360,7 @@ disassembling() {
   export TZB_HOST=another
   repository
   cp "$root/dist/$name" "$room/whole.a"
+  with_table || return
   RT_WRITES=$room/whole.a archive anew >/dev/null 2>&1 && ends 1 dist check
   cp "$staticlib/$name" "$staticlib/$name.sha256" "$staticlib/$name.origin" "$repo/dist/"
   against 0 "$room/whole.a" && says 'functions does what'
@@ -400,6 +401,43 @@ END
     against 1 "$room/table.a"
   held 'a table that leads elsewhere'
   unset TZB_HOST
+}
+
+# Today's archive has no jump table, and tomorrow's may. Where there is none, a function with one is put beside the others.
+with_table() {
+  "${prefix}ar" p "$room/whole.a" >"$room/whole.o"
+  [ -z "$(moved_table "$room/whole.o")" ] || return 0
+  cat >"$room/tabled.s" <<'END'
+	.section .text.tabled,"ax",@progbits
+	.globl tabled
+	.type tabled,@function
+tabled:
+	cmpq $1, %rdi
+	ja .Lneither
+	leaq .Ltable(%rip), %rax
+	movslq (%rax,%rdi,4), %rcx
+	addq %rax, %rcx
+	jmpq *%rcx
+.Lfirst:
+	movl $1, %eax
+	retq
+.Lsecond:
+	movl $2, %eax
+	retq
+.Lneither:
+	xorl %eax, %eax
+	retq
+	.size tabled, .-tabled
+	.section .rodata.tabled,"a",@progbits
+	.p2align 2
+.Ltable:
+	.long .Lfirst-.Ltable
+	.long .Lsecond-.Ltable
+	.section .note.GNU-stack,"",@progbits
+END
+  "${prefix}as" -o "$room/tabled.o" "$room/tabled.s" && "${prefix}ld" -r -o "$room/both.o" "$room/whole.o" "$room/tabled.o" &&
+    rm -f "$room/whole.a" && "${prefix}ar" rcs "$room/whole.a" "$room/both.o" && [ -n "$(moved_table "$room/both.o")" ]
+  held 'a function with a table beside the others'
 }
 
 # Where the first number of a jump table's relocations stands in an object file.

@@ -8,9 +8,7 @@ use mathlib.Core.List.{List, ◌++◌}
 use lib.ListN.{length, drop}
 use Rattle.basics.specs.Told.{one_told}
 use Rattle.answer.specs.declared.Refusal.{Refusal}
-use Rattle.answer.specs.declared.Checked.{Checked}
-use Rattle.answer.specs.declared.Checked.TheVariants.{Fine, Refused}
-use Rattle.answer.specs.Answers.{Answer, no, ◌then◌, need, fine, checked_told, outcome, how_many, left, holds, answered, ok, refused}
+use Rattle.answer.specs.Answers.{Answer, no, ◌then◌, need, fine, outcome, how_many, left, holds, answered, ok, refused}
 
 pub then_ok : {A B : Type 0} (x : Answer A) (k : A → Answer B) (a : A) → ok a ≡ x → k a ≡ (x then k)
 then_ok x k a e = rw (← e)
@@ -36,24 +34,8 @@ pub need_inv : {A : Type 0} (n : ℕ) (c : Bool) (x : Answer A) (a : A) → ok a
 need_inv n true x a e = (refl, e)
 need_inv n false x a e = let z : ◌≡◌ {A = ℕ} 0 1 = cc in absurd (zero_one z)
 
-pub ok_inv : {A : Type 0} (a b : A) → ok a ≡ ok b → a ≡ b
+pub ok_inv : {A : Type 0} (a b : A) → ◌≡◌ {A = Answer A} (ok a) (ok b) → a ≡ b
 ok_inv a b e = cc
-
--- an enum of the code, read back from the answer that it tells
-abbrev pub read_back : {A E : Type 0} → (A → E) → (Refusal → E) → Answer A → E
-read_back value no (ok a) = value a
-read_back value no (refused r) = no r
-
--- two of its values that tell the same are the same
-pub one_answer : {A E : Type 0} (told : E → Answer A) (value : A → E) (no : Refusal → E) → ((e : E) → read_back value no (told e) ≡ e) → (e f : E) (x : Answer A) → told e ≡ x → told f ≡ x → e ≡ f
-one_answer told value no back = one_told told (read_back value no) back
-
-pub checked_one : (r r' : Checked) → checked_told r ≡ checked_told r' → r ≡ r'
-checked_one r r' e = one_answer checked_told (λ u. Fine) Refused back r r' (checked_told r') e refl
-  where
-    back : (r : Checked) → read_back (λ u. Fine) Refused (checked_told r) ≡ r
-    back Fine = refl
-    back (Refused k) = refl
 
 -- an answer that passes a test
 module _ {A : Type 0} (P : A → Bool) (x : Answer A) where

@@ -2,13 +2,13 @@
 -- Assumes nothing.
 use Rattle.std.specs.Prelude.{ℕ, ◌≡◌, Bool, true, false, List, ◌++◌, length, drop}
 use Rattle.answer.specs.declared.Refusal.{Refusal}
-use Rattle.answer.specs.declared.Checked.{Checked}
-use Rattle.answer.specs.declared.Checked.TheVariants.{Fine, Refused}
+use Rattle.std.specs.declared.result.Result.{Result}
+pub use Rattle.std.specs.declared.result.Result.TheVariants.{Ok as ok, Err as refused}
 use Rattle.answer.specs.Refusals.{refusal, placed_at, counted_from}
 
-pub data Answer (A : Type 0) : Type 0 where
-  ok : A → Answer A
-  refused : Refusal → Answer A
+-- it is the code's Result: `ok` a value, or `refused`
+abbrev pub Answer : Type 0 → Type 0
+Answer A = Result A Refusal
 
 abbrev pub no : {A : Type 0} → ℕ → Answer A
 no n = refused (refusal n)
@@ -40,11 +40,6 @@ Check = Answer (Unit {0})
 
 abbrev pub fine : Check
 fine = ok tt
-
--- the same for each case of the code's enum
-abbrev pub checked_told : Checked → Check
-checked_told Fine = fine
-checked_told (Refused k) = refused k
 
 -- an answer that is given only after a check was fine
 infixl 20 ◌before◌

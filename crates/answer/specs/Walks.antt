@@ -6,11 +6,19 @@ use Rattle.answer.specs.declared.Refusal.{Refusal}
 use Rattle.basics.specs.Parity.{◌⊻◌}
 use Rattle.answer.specs.Refusals.{refusal, counted_from}
 use Rattle.answer.specs.Answers.{Answer, ok, refused}
+pub use Rattle.answer.specs.Answers.{refused as broken}
+use Rattle.answer.specs.declared.Walked.{Walked}
+use Rattle.answer.specs.declared.Walked.TheVariants.{On, Off}
 
-pub data Walk (A : Type 0) : Type 0 where
-  broken : Refusal → Walk A
-  on : Walk A
-  off : Bool → A → Walk A
+-- it is the code's type
+abbrev pub Walk : Type 0 → Type 0
+Walk A = Answer (Walked A)
+
+pattern abbrev pub on : {A : Type 0} → Walk A
+on = ok On
+
+pattern abbrev pub off : {A : Type 0} → Bool → A → Walk A
+off b a = ok (Off b a)
 
 -- after a stretch with that parity
 unfoldable pub add : {A : Type 0} → Bool → Walk A → Walk A

@@ -1,9 +1,10 @@
 // A box of whole numbers, asked about a point of floats or of whole numbers; the domain of points.
 #![tactic(auto)]
 
-ghost use Rattle.std.specs.Prelude.{◌≡◌};
+ghost use Rattle.std.specs.Prelude.{◌≡◌, ◌&&◌};
+ghost use Rattle.std.specs.Int.Signed.{le_z};
 ghost use Rattle.plane.specs.Domain.{in_domain};
-ghost use Rattle.boxes.specs.Box.{spans, ordered, box_in_domain, in_box, contains, relevant, right};
+ghost use Rattle.boxes.specs.Box.{spans, least, greatest, ordered, box_in_domain, in_box, contains, relevant, right};
 ghost use Rattle.plane.specs.Segment.{same_point};
 
 use plane::{I32Point, Point};
@@ -20,51 +21,68 @@ pub struct BBox {
 fn in_span(least: i32, greatest: i32, x: f64) -> bool
     ensures { result ≡ spans least greatest x }
 {
-    if x >= least as f64 {
-        x <= greatest as f64
-    } else {
-        false
-    }
+    x >= least as f64 && x <= greatest as f64
+}
+
+// The same of whole numbers.
+fn between(least: i32, greatest: i32, x: i32) -> bool
+    ensures { result ≡ (le_z least x && le_z x greatest) }
+{
+    least <= x && x <= greatest
 }
 
 impl BBox {
+    // The corner of the least coordinates, and that of the greatest.
+    fn least(self) -> I32Point
+        ensures { result ≡ least self }
+    {
+        I32Point {
+            x: self.minx,
+            y: self.miny,
+        }
+    }
+
+    fn greatest(self) -> I32Point
+        ensures { result ≡ greatest self }
+    {
+        I32Point {
+            x: self.maxx,
+            y: self.maxy,
+        }
+    }
+
+    #[tactic(auto, unfolding(crate::specs::Box::ordered))]
     pub fn ordered(self) -> bool
         ensures { result ≡ ordered self }
     {
-        (self.minx <= self.maxx) & (self.miny <= self.maxy)
+        self.minx <= self.maxx && self.miny <= self.maxy
     }
 
-    // Ordered, with all bounds in the domain.
+    // Ordered, with both corners in the domain.
+    #[tactic(auto, unfolding(crate::specs::Box::box_in_domain))]
     pub fn in_domain(self) -> bool
         ensures { result ≡ box_in_domain self }
     {
-        self.ordered()
-            & (((self.minx >= -18_000_000) & (self.maxx <= 18_000_000))
-                & ((self.miny >= -9_000_000) & (self.maxy <= 9_000_000)))
+        self.ordered() && point_in_domain(self.least()) && point_in_domain(self.greatest())
     }
 
+    #[tactic(auto, unfolding(crate::specs::Box::contains))]
     pub fn contains(self, p: Point) -> bool
         ensures { result ≡ contains self p }
     {
-        if in_span(self.minx, self.maxx, p.x) {
-            in_span(self.miny, self.maxy, p.y)
-        } else {
-            false
-        }
+        in_span(self.minx, self.maxx, p.x) && in_span(self.miny, self.maxy, p.y)
     }
 
     // Whether what lies in the box can matter to the ray from the point.
+    #[tactic(auto, unfolding(crate::specs::Box::relevant))]
     pub fn relevant(self, p: Point) -> bool
         ensures { result ≡ relevant self p }
     {
-        if in_span(self.miny, self.maxy, p.y) {
-            self.maxx as f64 >= p.x
-        } else {
-            false
-        }
+        in_span(self.miny, self.maxy, p.y) && self.maxx as f64 >= p.x
     }
 
     // Strictly to the right of the point.
+    #[tactic(auto, unfolding(crate::specs::Box::right))]
     pub fn right(self, p: Point) -> bool
         ensures { result ≡ right self p }
     {
@@ -72,21 +90,24 @@ impl BBox {
     }
 }
 
+#[tactic(auto, unfolding(plane::specs::Domain::in_domain))]
 pub fn point_in_domain(q: I32Point) -> bool
     ensures { result ≡ in_domain q }
 {
-    ((-18_000_000 <= q.x) & (q.x <= 18_000_000)) & ((-9_000_000 <= q.y) & (q.y <= 9_000_000))
+    between(-18_000_000, 18_000_000, q.x) && between(-9_000_000, 9_000_000, q.y)
 }
 
 // The box covers the point.
+#[tactic(auto, unfolding(crate::specs::Box::in_box))]
 pub fn in_box(b: BBox, q: I32Point) -> bool
     ensures { result ≡ in_box b q }
 {
-    ((b.minx <= q.x) & (q.x <= b.maxx)) & ((b.miny <= q.y) & (q.y <= b.maxy))
+    between(b.minx, b.maxx, q.x) && between(b.miny, b.maxy, q.y)
 }
 
+#[tactic(auto, unfolding(plane::specs::Segment::same_point))]
 pub fn same_point(a: I32Point, b: I32Point) -> bool
     ensures { result ≡ same_point a b }
 {
-    (a.x == b.x) & (a.y == b.y)
+    a == b
 }

@@ -3,16 +3,17 @@
 use mathlib.Core.Path.{◌≡◌, refl, sym, ap, ap₂, ◌∙◌, subst}
 use mathlib.Core.List.{List}
 use mathlib.Core.Logic.{◌⊎◌, inl, inr}
-use Prim.Native.Nat.{ℕ, suc, ◌^◌, ◌+◌, ◌-◌, ◌*◌, ◌/◌, ◌%◌, ◌≤◌, ◌<◌}
+use Prim.Native.Nat.{ℕ, ◌^◌, ◌+◌, ◌-◌, ◌*◌, ◌/◌, ◌%◌, ◌≤◌, ◌<◌}
 use native.Mathlib.Nat.{eq-or-lt_of_le, one-mul, pow-suc}
+use native.Mathlib.Numerals.{add-one}
 use native.Mathlib.Omega.{arith}
 use lib.Bits.{bit_xor, xor_comm, xor_shifted}
-use lib.Pow.{pow_pos, pow_mono}
+use lib.Pow.{pow_mono}
 use lib.ListN.{length, get_or, set, length-set}
 use lib.Seq.{get_or-set_same, get_or-set_other}
 use Rattle.checksum.specs.Crc32.{step, steps, entry, Filled}
 use Rattle.checksum.proofs.Linear.{steps_linear, steps_add, steps_split}
-use Rattle.crc.specs.Steps.{First, Power}
+use Rattle.crc.specs.Steps.{First}
 
 -- a rule that holds of the entries below i, at one more
 one_more : (f : ℕ → ℕ) (t : List ℕ) (i v : ℕ) → i < length t → ((j : ℕ) → j < i → get_or t j 0 ≡ f j) → v ≡ f i
@@ -37,40 +38,27 @@ zero_stays = refl
 pub begun : (t : List ℕ) → 256 ≤ length t → First (set t 0 0) 1
 begun t h = wider t 0 0 (omega arith) (record { room = h; at = λ j l. absurd (omega arith) }) zero_stays
 
--- the bit of a power of two is none of those below it
-apart : (p j : ℕ) → Power p → j < p → bit_xor p j ≡ p + j
-apart p j w h =
-    let q : p ≡ 1 * 2 ^ w.exponent = w.is ∙ sym (one-mul (2 ^ w.exponent)) in
-    ap (λ (x : ℕ). bit_xor x j) q ∙ xor_shifted 1 w.exponent j (subst (λ (x : ℕ). j < x) w.is h) ∙ ap (λ (x : ℕ). x + j) (sym q)
+-- the bit of 2 ^ k is none of those below it
+apart : (k j : ℕ) → j < 2 ^ k → bit_xor (2 ^ k) j ≡ 2 ^ k + j
+apart k j h =
+    let q : 2 ^ k ≡ 1 * 2 ^ k = sym (one-mul (2 ^ k)) in
+    ap (λ (x : ℕ). bit_xor x j) q ∙ xor_shifted 1 k j h ∙ ap (λ (x : ℕ). x + j) (sym q)
 
--- an entry from the one p places before it, y, and the one at p, x
-pub doubles : (t : List ℕ) (p j x y : ℕ) → Power p → j < p → First t (p + j) → x ≡ steps 8 p → y ≡ get_or t j 0 → bit_xor x y ≡ steps 8 (p + j)
-doubles t p j x y w h f e g =
-    ap₂ bit_xor e (g ∙ f.at j (omega arith)) ∙ sym (steps_linear 8 p j) ∙ ap (steps 8) (apart p j w h)
+pub one_shifted : (k : ℕ) → k < 8 → 1 * 2 ^ k % 18446744073709551616 ≡ 2 ^ k
+one_shifted k h = let most : 2 ^ k ≤ 2 ^ 7 = pow_mono {j = 7} (omega arith) in omega (arith, most)
 
-pub power_first : Power 1
-power_first = record { exponent = 0; few = omega arith; is = refl }
+-- an entry from the one 2 ^ k places before it, and the one at 2 ^ k, x
+pub doubles : (t : List ℕ) (k j p x : ℕ) → k < 8 → p ≡ 2 ^ k → j < p → First t (2 ^ k + j) → x ≡ steps 8 p → First (set t (p + j) (bit_xor x (get_or t j 0))) (2 ^ k + (j + 1))
+doubles t k j p x few e h f g =
+    let l : j < 2 ^ k = subst (λ (z : ℕ). j < z) e h in
+    let d : x ≡ steps 8 (2 ^ k) = g ∙ ap (steps 8) e in
+    let v : bit_xor x (get_or t j 0) ≡ steps 8 (2 ^ k + j) = ap₂ bit_xor d (f.at j (omega arith)) ∙ sym (steps_linear 8 (2 ^ k) j) ∙ ap (steps 8) (apart k j l) in
+    let most : 2 ^ k ≤ 2 ^ 7 = pow_mono {j = 7} (omega arith) in
+    let n : 2 ^ k + j + 1 ≡ 2 ^ k + (j + 1) = omega arith in
+    rw e (subst (First _) n (wider t (2 ^ k + j) _ (omega arith) f v))
 
--- below 256 there is another
-power_few : (p : ℕ) (w : Power p) → p < 256 → w.exponent < 8
-power_few p w h = go (eq-or-lt_of_le w.few)
-  where
-    go : (w.exponent ≡ 8) ⊎ (w.exponent < 8) → w.exponent < 8
-    go (inl q) = let e : p ≡ 256 = w.is ∙ ap (λ (k : ℕ). 2 ^ k) q in absurd (omega arith)
-    go (inr k) = k
-
-pub power_next : (p : ℕ) → Power p → p < 256 → Power (p * 2)
-power_next p w h = record {
-  exponent = suc w.exponent;
-  few = power_few p w h;
-  is = ap (λ (x : ℕ). x * 2) w.is ∙ sym (pow-suc 2 w.exponent);
-}
-
-pub power_least : (p : ℕ) → Power p → 0 < p
-power_least p w = subst (λ (x : ℕ). 0 < x) (sym w.is) (pow_pos w.exponent)
-
-pub power_most : (p : ℕ) → Power p → p ≤ 256
-power_most p w = subst (λ (x : ℕ). x ≤ 256) (sym w.is) (pow_mono w.few)
+pub twice : (k : ℕ) → 2 ^ k + 2 ^ k ≡ 2 ^ (k + 1)
+twice k = omega (arith, pow-suc 2 k, ap (λ (i : ℕ). 2 ^ i) (add-one k))
 
 -- ---- all tables
 

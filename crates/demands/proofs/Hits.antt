@@ -50,7 +50,7 @@ module _ (hit : ℕ → Answer Sought) (P : ℕ → Bool) (f : ℕ → ℕ) wher
       ∙ ap (λ (x : Answer (List ℕ)). x then λ l. ok (also (hit_of P (f i)) l)) (all_that_law n (i + 1) (λ j l m. h j (omega arith) (omega arith)))
       ∙ either (P (f i))
     where
-      either : (b : Bool) → ok (also (cond b (in_zone (f i)) nowhere) (all_that P (run f n (i + 1)))) ≡ ok (cond b (f i ∷ all_that P (run f n (i + 1))) (all_that P (run f n (i + 1))))
+      either : (b : Bool) → ◌≡◌ {A = Answer (List ℕ)} (ok (also (cond b (in_zone (f i)) nowhere) (all_that P (run f n (i + 1))))) (ok (cond b (f i ∷ all_that P (run f n (i + 1))) (all_that P (run f n (i + 1)))))
       either true = refl
       either false = refl
 

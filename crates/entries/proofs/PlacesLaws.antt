@@ -3,14 +3,14 @@
 use Prim.Native.Nat.{ℕ, zero, suc, ◌+◌, ◌-◌, ◌*◌, ◌≤◌, ◌<◌}
 use native.Mathlib.Omega.{arith}
 use native.Mathlib.Numerals.{add-one}
-use mathlib.Core.Path.{◌≡◌, refl, sym, ap, ap₂, subst, ◌∙◌}
-use mathlib.Core.List.{List, [], ◌∷◌, ◌++◌, append_assoc}
-use lib.ListN.{length, take, drop, set, get_or, replicate, length-append, length-set, length-replicate, get_or-replicate, replicate-append-replicate, get_or-append, get_or-eq_default}
-use lib.Seq.{drop-cons, set_at, append_snoc, get_or-append-add}
+use mathlib.Core.Path.{◌≡◌, refl, sym, ap, ap₂, ◌∙◌}
+use mathlib.Core.List.{List, [], ◌∷◌, ◌++◌, append-nil}
+use lib.ListN.{length, take, drop, set, get_or, replicate, length-append, length-replicate, get_or-replicate, replicate-append-replicate, drop_of_length-le}
+use lib.Seq.{drop-cons, set_at, append_snoc}
 use Rattle.fields.specs.Le.{le}
 use Rattle.fields.specs.Stores.{to_le, Laid}
 use Rattle.fields.specs.Row.{row_wide, row_bytes, row_in}
-use Rattle.fields.proofs.Rows.{in_parts, none_stored, next_stored, all_stored}
+use Rattle.fields.proofs.Rows.{in_parts, none_stored, one_on, all_stored}
 use Rattle.entries.specs.Entry.{unused, places_of}
 
 -- ---- a place takes two bytes
@@ -29,11 +29,6 @@ in_long [] s p = refl
 in_long (w ∷ ws) s p = ap suc (in_long ws s (p + w))
 
 -- ---- what stands in each of them
-pub same_at : (l : List ℕ) (i d e : ℕ) → i < length l → get_or l i d ≡ get_or l i e
-same_at [] i d e h = absurd (omega arith)
-same_at (x ∷ l) zero d e h = refl
-same_at (x ∷ l) (suc i) d e h = same_at l i d e (omega arith)
-
 pub places_long : (places : ℕ) (zones : List ℕ) → length zones ≤ places → length (places_of places zones) ≡ places
 unfolding places_of
 places_long places zones h = omega (arith, length-append zones (replicate (places - length zones) unused), length-replicate (places - length zones) unused)
@@ -62,25 +57,22 @@ module _ (places : ℕ) (zones : List ℕ) (h : length zones ≤ places) where
   pub stored_none : (out : List ℕ) → 8 + 2 * places ≤ length out → StoredTo places zones 0 out out
   stored_none out r = none_stored out halves (places_of places zones) 8 (omega arith)
 
-  pub stored_next : (i : ℕ) → i < places → (q v : ℕ) → q ≡ 8 + 2 * i → v ≡ get_or (places_of places zones) i 0 → {before mid after : List ℕ} → StoredTo places zones i before mid → Laid mid q (to_le 2 v) after → StoredTo places zones (i + 1) before after
-  stored_next i k q v eq ev {before} {mid} {after} f g =
-      let two : 2 ≡ get_or halves i 0 = sym (get_or-replicate places i 2 0 k) in
-      next_stored halves i (omega (arith, halves_long)) 8 q (eq ∙ ap (λ (x : ℕ). 8 + x) (sym (first_wide places i (omega arith)))) (places_of places zones) (places_long places zones h ∙ sym halves_long) f
-      (subst (λ (w : ℕ). Laid mid q (to_le w (get_or (places_of places zones) i 0)) after) two (subst (λ (x : ℕ). Laid mid q (to_le 2 x) after) ev g))
+  pub stored_next : (i : ℕ) → i < places → (v : ℕ) → v ≡ get_or zones i unused → {before mid after : List ℕ} → StoredTo places zones i before mid → Laid mid (8 + 2 * i) (to_le 2 v) after → StoredTo places zones (i + 1) before after
+  stored_next i k v e f g =
+      (one_on halves (places_of places zones) i 8 (8 + 2 * i) (omega (arith, halves_long)) (places_long places zones h ∙ sym halves_long) (ap (λ (x : ℕ). 8 + x) (sym (first_wide places i (omega arith))))
+      (i + 1) 2 v refl (sym (get_or-replicate places i 2 0 k)) (e ∙ place_at places zones i k) f g).1
 
   pub stored_all : (i : ℕ) → i ≤ places → places ≤ i → {before after : List ℕ} → StoredTo places zones i before after → Laid before 8 (row_bytes halves (places_of places zones)) after
   stored_all i a b f = all_stored halves (places_of places zones) i (omega (arith, halves_long)) (places_long places zones h ∙ sym halves_long) f
 
--- ---- loaded: the first i of n stand
-pub record Loaded (s out₀ out : List ℕ) (n i : ℕ) : Type 0 where
-  pub place : i ≤ n
-  pub room : n ≤ length out₀
-  pub long : length out ≡ length out₀
-  pub so_far : out ≡ row_in (replicate i 2) s 8 ++ drop i out₀
+-- ---- loaded
+-- the first i of them stand, the others as they were
+abbrev pub LoadedTo : ℕ → List ℕ → List ℕ → List ℕ → Type 0
+LoadedTo i s before after = after ≡ row_in (replicate i 2) s 8 ++ drop i before
 
-pub loaded_none : (s out : List ℕ) (n : ℕ) → n ≤ length out → Loaded s out out n 0
+pub loaded_none : (s out : List ℕ) → LoadedTo 0 s out out
 unfolding row_in
-loaded_none s out n h = record { place = omega arith; room = h; long = refl; so_far = refl }
+loaded_none s out = refl
 
 -- one place more
 row_next : (s : List ℕ) (i : ℕ) → row_in (replicate (i + 1) 2) s 8 ≡ row_in (replicate i 2) s 8 ++ le 2 s (8 + 2 * i) ∷ []
@@ -89,21 +81,15 @@ row_next s i =
     ap (λ (ws : List ℕ). row_in ws s 8) (sym (replicate-append-replicate i 1 2)) ∙ in_parts (replicate i 2) (replicate 1 2) s 8
     ∙ ap (λ (w : ℕ). row_in (replicate i 2) s 8 ++ le 2 s (8 + w) ∷ []) (halves_wide i)
 
-module _ (s out₀ out : List ℕ) (n i : ℕ) (c : Loaded s out₀ out n i) where
-  pub loaded_next : i < n → (v : ℕ) → v ≡ le 2 s (8 + 2 * i) → Loaded s out₀ (set out i v) n (i + 1)
-  loaded_next h v e = record {
-    place = omega arith;
-    room = c.room;
-    long = length-set out i v ∙ c.long;
-    so_far =
-        ap (λ (l : List ℕ). set l i v) (c.so_far ∙ ap (λ (b : List ℕ). row_in (replicate i 2) s 8 ++ b) (drop-cons out₀ i 0 (omega (arith, c.room))))
-        ∙ set_at (row_in (replicate i 2) s 8) (get_or out₀ i 0) (drop (suc i) out₀) v i (in_long (replicate i 2) s 8 ∙ length-replicate i 2)
-        ∙ sym (append_snoc (row_in (replicate i 2) s 8) v (drop (suc i) out₀))
-        ∙ ap (λ (x : ℕ). (row_in (replicate i 2) s 8 ++ x ∷ []) ++ drop (suc i) out₀) e
-        ∙ ap₂ (λ (a : List ℕ) (j : ℕ). a ++ drop j out₀) (sym (row_next s i)) (sym (add-one i));
-  }
+pub loaded_next : (s before after : List ℕ) (i : ℕ) → LoadedTo i s before after → i < length before → (v : ℕ) → v ≡ le 2 s (8 + 2 * i) → LoadedTo (i + 1) s before (set after i v)
+loaded_next s before after i c h v e =
+    ap (λ (l : List ℕ). set l i v) (c ∙ ap (λ (b : List ℕ). row_in (replicate i 2) s 8 ++ b) (drop-cons before i 0 h))
+    ∙ set_at (row_in (replicate i 2) s 8) (get_or before i 0) (drop (suc i) before) v i (in_long (replicate i 2) s 8 ∙ length-replicate i 2)
+    ∙ sym (append_snoc (row_in (replicate i 2) s 8) v (drop (suc i) before))
+    ∙ ap (λ (x : ℕ). (row_in (replicate i 2) s 8 ++ x ∷ []) ++ drop (suc i) before) e
+    ∙ ap₂ (λ (a : List ℕ) (j : ℕ). a ++ drop j before) (sym (row_next s i)) (sym (add-one i))
 
-  pub loaded_all : n ≤ i → out ≡ row_in (replicate n 2) s 8 ++ drop n out₀
-  loaded_all h =
-      let e : i ≡ n = omega (arith, c.place) in
-      c.so_far ∙ ap (λ (j : ℕ). row_in (replicate j 2) s 8 ++ drop j out₀) e
+pub loaded_all : (s before after : List ℕ) (i : ℕ) → LoadedTo i s before after → i ≤ length before → length before ≤ i → after ≡ row_in (replicate (length before) 2) s 8
+loaded_all s before after i c a b =
+    let e : i ≡ length before = omega arith in
+    c ∙ ap₂ (λ (j : ℕ) (l : List ℕ). row_in (replicate j 2) s 8 ++ l) e (drop_of_length-le before b) ∙ append-nil (row_in (replicate (length before) 2) s 8)

@@ -1,12 +1,12 @@
 -- Laws of specs/Reading, and of an entry's bytes, as proofs cite them. Nothing here need be believed.
 -- Assumes nothing.
-use Prim.Native.Nat.{ℕ, zero, suc, ◌+◌, ◌-◌, ◌*◌, ◌≤◌, ◌<◌}
+use Prim.Native.Nat.{ℕ, zero, suc, ◌+◌, ◌*◌, ◌≤◌, ◌<◌}
 use native.Mathlib.Omega.{arith}
 use mathlib.Core.Path.{◌≡◌, refl, sym, ap, ap₂, subst, ◌∙◌}
-use mathlib.Core.Bool.{Bool, true, false, ◌&&◌}
-use mathlib.Core.List.{List, [], ◌∷◌, ◌++◌, append-nil, append_assoc}
-use lib.ListN.{length, take, drop, get_or, replicate, length-append, length-replicate, length-take, drop_of_length-le}
-use lib.Seq.{take_at, get_or_at, get_or-append-add, length-take-le}
+use mathlib.Core.Bool.{Bool, true, false}
+use mathlib.Core.List.{List, [], ◌∷◌, ◌++◌, append_assoc}
+use lib.ListN.{length, take, drop, get_or, replicate, length-append, length-replicate}
+use lib.Seq.{take_at, get_or_at, get_or-append-add}
 use mir.Syntax.{w32}
 use mir.Val.{to_z, of_z}
 use Rattle.basics.specs.Picked.{and_yes, and_no}
@@ -14,18 +14,17 @@ use Rattle.basics.specs.Truth.{and_l, and_r}
 use Rattle.plane.specs.declared.I32Point.{I32Point}
 use Rattle.plane.specs.Places.{point}
 use Rattle.fields.specs.Le.{le}
-use Rattle.fields.specs.Stores.{to_le, laid, Laid}
+use Rattle.fields.specs.Stores.{laid, Laid}
 use Rattle.fields.specs.Row.{row_wide, row_bytes, row_in}
 use Rattle.fields.proofs.Rows.{row_long, in_parts, bytes_parts, wide_parts}
 use Rattle.fields.proofs.StoresLaws.{behind}
-use Rattle.answer.specs.declared.Refusal.{Refusal}
 use Rattle.answer.specs.Refusals.{refusal}
-use Rattle.answer.specs.Answers.{Answer, ok, no, refused, ◌then◌, need, fine, outcome, left}
+use Rattle.answer.specs.Answers.{Answer, ok, no, ◌then◌, need, fine, outcome, left}
 use Rattle.answer.specs.Checks.{at_most, same, failed}
 use Rattle.answer.proofs.CheckLaws.{le_at, gt_at, eq_same, ne_same, at_le, same_eq}
 use Rattle.answer.proofs.AnswersLaws.{need_met, need_not, left_no, left_is}
-use Rattle.entries.specs.Entry.{Entry, entry, unused, widths, entry_wide, places_of, numbers_of, bytes_of}
-use Rattle.entries.specs.Forms.{zones_form, refusal_form, formed, laid_of, write_of}
+use Rattle.entries.specs.Entry.{Entry, entry, widths, entry_wide, places_of, numbers_of, bytes_of}
+use Rattle.entries.specs.Forms.{formed, laid_of, write_of}
 use Rattle.entries.specs.Reading.{point_in, places_in, count_in, reason_in, entry_from, all_unused, of_forms, row_of_forms, entry_is, entry_of, read_of, head_of}
 use Rattle.entries.proofs.PlacesLaws.{halves_wide, in_long, places_long}
 
@@ -109,13 +108,12 @@ module _ (places : ℕ) (s : List ℕ) where
   pub is_room : entry_is places s ≡ true → get_or s (8 + 2 * places) 0 ≤ places
   is_room h = omega (arith, is_few h, row_count)
 
--- the same of what was loaded, part by part, with places for n numbers
+-- the same of what was loaded, part by part
 pub checked_by : (places n : ℕ) (s before held : List ℕ) (q : I32Point) (count reason : ℕ) (b : Bool) → n ≡ places → length before ≡ places → length s ≡ entry_wide places
-    → held ≡ row_in (replicate n 2) s 8 ++ drop n before → q ≡ point (to_z w32 (le 4 s 0)) (to_z w32 (le 4 s 4)) → count ≡ get_or s (8 + 2 * n) 0 → reason ≡ get_or s (8 + 2 * n + 1) 0
+    → held ≡ row_in (replicate (length before) 2) s 8 → q ≡ point (to_z w32 (le 4 s 0)) (to_z w32 (le 4 s 4)) → count ≡ get_or s (8 + 2 * n) 0 → reason ≡ get_or s (8 + 2 * n + 1) 0
     → b ≡ of_forms places q held count reason → b ≡ entry_is places s
 checked_by places n s before held q count reason b en lb ls eh eq ec er e =
-    let none : drop n before ≡ [] = drop_of_length-le before {i = n} (omega arith) in
-    let all : held ≡ halves places s = eh ∙ ap (λ (l : List ℕ). row_in (replicate n 2) s 8 ++ l) none ∙ append-nil (row_in (replicate n 2) s 8) ∙ ap (λ (k : ℕ). row_in (replicate k 2) s 8) en in
+    let all : held ≡ halves places s = eh ∙ ap (λ (k : ℕ). row_in (replicate k 2) s 8) lb in
     is_by places s ls b
     (e ∙ ap₂ (λ (p : I32Point) (l : List ℕ). of_forms places p l count reason) eq all
     ∙ ap₂ (λ (c r : ℕ). of_forms places (point (to_z w32 (le 4 s 0)) (to_z w32 (le 4 s 4))) (halves places s) c r) (count_at_law s ec en) (reason_at s er en))

@@ -1,6 +1,7 @@
 -- Document 02, 2026-04: "The forms: reason 0 with up to three different zone numbers below 65535 in the first places and that count, a count above 0 only for a position in the domain; or no zones, count 0 and reason 1 to 46."
 -- Assumes nothing.
-use Rattle.std.specs.Prelude.{ℕ, Bool, true, false, ◌&&◌, ◌||◌, not, cond, List, [], ◌∷◌, length}
+use Rattle.std.specs.Prelude.{ℕ, Bool, true, ◌&&◌, ◌||◌, not, cond, List, [], ◌∷◌, length}
+use Rattle.std.specs.List.{list_all, list_any}
 use Rattle.plane.specs.declared.I32Point.{I32Point}
 use Rattle.plane.specs.Domain.{in_domain}
 use Rattle.answer.specs.Answers.{Answer, ok, need}
@@ -9,13 +10,11 @@ use Rattle.entries.specs.Entry.{Entry, unused, entry_wide, bytes_of}
 
 -- "zone numbers below 65535"
 unfoldable pub all_below : List ℕ → Bool
-all_below [] = true
-all_below (z ∷ l) = below z unused && all_below l
+all_below l = list_all (λ z. below z unused) l
 
 -- "different"
 unfoldable pub among : ℕ → List ℕ → Bool
-among z [] = false
-among z (t ∷ l) = same z t || among z l
+among z l = list_any (λ t. same t z) l
 
 unfoldable pub all_different : List ℕ → Bool
 all_different [] = true

@@ -1,8 +1,9 @@
 -- Document 02, 2026-04: how an entry is read from bytes. "Refusals: 50 for a record of any other form, then 46." A record of another length is of no form.
 -- Assumes nothing.
-use Rattle.std.specs.Prelude.{ℕ, ◌+◌, Bool, true, ◌&&◌, List, [], ◌∷◌, length, get_or, take, drop}
+use Rattle.std.specs.Prelude.{ℕ, ◌+◌, Bool, ◌&&◌, List, length, get_or, take, drop}
 use Rattle.std.specs.Int.{w32}
 use Rattle.std.proofs.Common.{to_z, SFits}
+use Rattle.std.specs.List.{list_all}
 use Rattle.plane.specs.declared.I32Point.{I32Point}
 use Rattle.plane.specs.Places.{point}
 use Rattle.fields.specs.Row.{row_in}
@@ -30,8 +31,7 @@ entry_from places ns = entry (point_in ns) (take (count_in places ns) (places_in
 
 -- "65535 where unused"
 unfoldable pub all_unused : List ℕ → Bool
-all_unused [] = true
-all_unused (p ∷ l) = same p unused && all_unused l
+all_unused l = list_all (λ p. same p unused) l
 
 -- numbers of the forms: the zones stand in the first places, and every place from the count on is not used
 unfoldable pub of_forms : ℕ → I32Point → List ℕ → ℕ → ℕ → Bool

@@ -26,7 +26,6 @@ use Rattle.shapes.specs.Shapes.{Zone, ring_in, polygon_in, zone_in, in_box, cove
 use Rattle.shapes.specs.Words.{ring_sides, proper, has_room}
 use Rattle.shapes.specs.Layout.{group_at, leg_at, ring_at, polygon_at, zone_at}
 use Rattle.shapes.specs.Example.{zone}
-use Rattle.reader_head.specs.Magic as M
 use Rattle.reader_head.specs.Head as H
 use Rattle.reader_table.specs.Table as T
 use Rattle.reader_opened.specs.Opened as O
@@ -57,7 +56,7 @@ use Rattle.chunks.specs.Steps.{points_from}
 
 -- F1
 pub opens : ok opened ≡ P.open_of file
-unfolding file opened E.le R.step R.steps R.bytes R.crc32 K.claim K.deny K.and_then K.first K.each K.seek K.at_most K.below K.same K.both K.either M.same_from M.starts_with H.start_check H.is_count H.fields_check H.is_zero H.not_zero H.version_end H.version_check H.bounds_check H.head_check T.is_type T.has T.repeats T.banned T.apart T.apart_at T.placed_check T.typed_check T.entry_check T.entries_check T.entry_at T.section_of O.present_at O.present_check O.bit O.flag_check O.zones_check O.lengths_check O.counts_check O.sections_of O.grid_of O.directory_of O.opened_of N.shape_check N.offset_rule N.prior N.offset_check N.text_check N.text_at N.names_check S.record_at S.ruled S.box_in S.point_in S.fits_below S.list_in S.list_rule S.list_at S.ring_in S.ring_rule S.ring_at S.count_rule S.op_rule S.op_at S.group_in S.group_rule S.group_at S.chunk_in S.chunk_rule S.chunk_at D.chunk_check D.least_off D.chunk_check_at D.chunks_check total D.count_at D.group_check D.group_check_at D.groups_check P.table_check P.sizes_check P.names_in P.grid_in P.contents_check P.open_of B.contains B.relevant B.right B.ordered B.box_in_domain Deltas.fits32 Deltas.add_delta A.in_domain
+unfolding file opened E.le R.step R.steps R.bytes R.crc32 K.claim K.deny K.and_then K.first K.each K.seek K.at_most K.below K.same K.both K.either H.start_check H.is_count H.fields_check H.is_zero H.not_zero H.version_end H.version_check H.bounds_check H.head_check T.is_type T.has T.repeats T.banned T.apart T.apart_at T.placed_check T.typed_check T.entry_check T.entries_check T.entry_at T.section_of O.present_at O.present_check O.bit O.flag_check O.zones_check O.lengths_check O.counts_check O.sections_of O.grid_of O.directory_of O.opened_of N.shape_check N.offset_rule N.prior N.offset_check N.text_check N.text_at N.names_check S.record_at S.ruled S.box_in S.point_in S.fits_below S.list_in S.list_rule S.list_at S.ring_in S.ring_rule S.ring_at S.count_rule S.op_rule S.op_at S.group_in S.group_rule S.group_at S.chunk_in S.chunk_rule S.chunk_at D.chunk_check D.least_off D.chunk_check_at D.chunks_check total D.count_at D.group_check D.group_check_at D.groups_check P.table_check P.sizes_check P.names_in P.grid_in P.contents_check P.open_of B.contains B.relevant B.right B.ordered B.box_in_domain Deltas.fits32 Deltas.add_delta A.in_domain
 opens = refl
 
 -- F2 to F6

@@ -198,7 +198,7 @@ module _ (file memory : List ℕ) (r : ℤ) (after : List ℕ) (c : TzbOpen file
 -- ---- with the record as bytes
 module _ (held : List ℕ) where
   no_84 : (length held ≡ 84 → ⊥) → no 44 ≡ record_of held
-  no_84 h = record_none held (refusal 44) h refl
+  no_84 h = record_none held h
 
   is_84 : length held ≡ 84 → ok (opened_in held) ≡ record_of held
   is_84 h = record_is held (opened_in held) h refl

@@ -33,7 +33,7 @@ use Rattle.entries.proofs.RoundTrip.{written_back, written_again, read_formed}
 use Rattle.tzb_record.specs.Layout.{opened_in, record_of}
 use Rattle.tzb_record.proofs.LayoutLaws.{record_none, record_is}
 use Rattle.tzb_journal.specs.Journal.{offered, answer_of, noted, entry_for, journal_asked, journal_written, journal_read, position_of, count_and_reason}
-use Rattle.tzb_journal.proofs.JournalLaws.{note_refused, offered_fits, ask_no, ask_other, ask_is, written_other, written_is, read_no, read_on}
+use Rattle.tzb_journal.proofs.JournalLaws.{note_refused, ask_no, ask_other, ask_is, written_other, written_is, read_no, read_on}
 use Rattle.tzb_codes.specs.Codes.{done_code, number_code}
 use Rattle.tzb_codes.proofs.CodesLaws.{code_small}
 use Rattle.tzb.specs.Opening.{open_of}
@@ -163,7 +163,7 @@ module _ (places : ℕ) (g : offered places ≡ true) (s : List ℕ) where
   -- reading back gives what was written
   back : (e : Entry) → s ≡ bytes_of places e → formed places e ≡ true → Held e → ReadBack places s e
   back e b f h position zones r position' zones' c l m =
-      told_entry_law position zones r position' zones' c e (written_back places e (offered_fits places g) h f ∙ ap (entry_of places) (sym b)) l (omega (arith, formed_few places e f))
+      told_entry_law position zones r position' zones' c e (written_back places e (omega (arith, same_eq places 3 g)) h f ∙ ap (entry_of places) (sym b)) l (omega (arith, formed_few places e f))
 
 -- an entry of a position whose x and y are numbers of 32 bits
 held_by : (e : Entry) (q : I32Point) → e.at ≡ q → SFits w32 q.x → SFits w32 q.y → Held e
@@ -191,7 +191,7 @@ module _ (held file : List ℕ) (places : ℕ) (x y : ℤ) (memory : List ℕ) (
   ask_barred n l h = let t = told_no asked memory n l h in (journal_ask_answer c ∙ t.0, journal_ask_memory c ∙ t.1)
 
   ask_44 : (length held ≡ 84 → ⊥) → (r ≡ refusing 44) × (after ≡ memory)
-  ask_44 h = ask_barred 44 (omega arith) (ask_no held file places (point x y) memory (refusal 44) (record_none held (refusal 44) h refl))
+  ask_44 h = ask_barred 44 (omega arith) (ask_no held file places (point x y) memory (refusal 44) (record_none held h))
 
   module _ (h : length held ≡ 84) where
     opened_record : ok (opened_in held) ≡ record_of held

@@ -7,19 +7,19 @@ use mathlib.Core.Bool.{Bool, true, false, ◌||◌, cond, false≢true}
 use mathlib.Core.List.{List, [], ◌∷◌}
 use lib.Dec.{eqb}
 use lib.ListN.{length}
-use borrow.Author.Tests.{eq-eqb}
+use borrow.Author.Tests.{eq-eqb, ne_eqb, eqb-true, eqb-false, le-leb}
 use Rattle.basics.specs.Truth.{and_i}
 use Rattle.plane.specs.declared.I32Point.{I32Point}
 use Rattle.plane.specs.Domain.{in_domain}
 use Rattle.answer.specs.declared.Refusal.{Refusal}
 use Rattle.answer.specs.Answers.{Answer, ok, refused, ◌then◌}
 use Rattle.answer.specs.Checks.{same}
-use Rattle.answer.proofs.CheckLaws.{eq_same, le_at, not_yes}
+use Rattle.answer.proofs.CheckLaws.{not_yes}
 use Rattle.answer.proofs.AnswersLaws.{then_inv, need_inv, ok_inv}
 use Rattle.opened.specs.declared.Opened.{Opened}
 use Rattle.entries.specs.Entry.{entry}
 use Rattle.entries.specs.Forms.{all_below, among, all_different, placed, formed}
-use Rattle.entries.proofs.FormsLaws.{placed_none, placed_some, zones_all, formed_answer, formed_refusal}
+use Rattle.entries.proofs.FormsLaws.{placed_none, placed_some, zones_all, formed_answer, formed_none}
 use Rattle.reader_order.specs.Order.{times}
 use Rattle.reader_whole.specs.Whole.{whole_list}
 use Rattle.reader_whole.proofs.Meaning.{outside, list_different, list_fits}
@@ -32,10 +32,18 @@ or_none : (b : Bool) (n : ℕ) (m : Bool) → cond b 1 0 + n ≡ 0 → (n ≡ 0 
 or_none true n m h k = absurd (omega arith)
 or_none false n m h k = k (omega arith)
 
+-- the test of a list asks in the other order
+turned : (z t : ℕ) → eqb t z ≡ eqb z t
+turned z t = go (eqb z t) refl
+  where
+    go : (b : Bool) → eqb z t ≡ b → eqb t z ≡ eqb z t
+    go true e = eq-eqb t z (sym (eqb-true z t e)) ∙ sym e
+    go false e = ne_eqb t z (λ h. eqb-false z t e (sym h)) ∙ sym e
+
 not_among : (z : ℕ) (l : List ℕ) → times z l ≡ 0 → among z l ≡ false
 unfolding among times same
 not_among z [] h = refl
-not_among z (t ∷ l) h = or_none (eqb z t) (times z l) (among z l) h (not_among z l)
+not_among z (t ∷ l) h = ap (λ (b : Bool). b || among z l) (turned z t) ∙ or_none (eqb z t) (times z l) (among z l) h (not_among z l)
 
 no_more : (b : Bool) (n : ℕ) → b ≡ true → cond b 1 0 + n ≤ 1 → n ≡ 0
 no_more true n e h = omega arith
@@ -65,7 +73,7 @@ placed_by q (z ∷ l) h = go (in_domain q) refl
 -- ---- a refusal, and zones
 refusal_formed : (places : ℕ) (q : I32Point) (k : Refusal) → Numbered 46 k → formed places (entry q [] k.number) ≡ true
 refusal_formed places q k h =
-    sym (formed_refusal places (entry q [] k.number) (λ e. omega (arith, h.least)) true (sym (and_i _ _ (eq_same 0 0 refl) (le_at k.number 46 h.greatest))))
+    sym (formed_none places (entry q [] k.number) (λ e. omega (arith, h.least)) true refl refl) ∙ le-leb k.number 46 h.greatest
 
 module _ (places : ℕ) (o : Opened) (s : List ℕ) (q : I32Point) where
   -- zones that the rule answers are the list's, and fit their places

@@ -1,14 +1,11 @@
 -- One law for every width: a number of m + n bytes is one of m bytes and, above it, one of n.
 -- Assumes nothing.
 use mathlib.Core.Path.{◌≡◌, sym, ap, ◌∙◌}
-use Prim.Native.Nat.{ℕ, zero, suc, ◌+◌, ◌-◌, ◌*◌, ◌^◌, ◌≤◌, ◌<◌}
+use Prim.Native.Nat.{ℕ, zero, suc, ◌+◌, ◌*◌, ◌<◌}
 use native.Mathlib.Nat.{zero-add, suc-add, add-zero}
 use native.Mathlib.Omega.{arith}
 use mathlib.Core.List.{List}
-use lib.Arith.{sub-sub_self}
 use lib.ListN.{get_or}
-use mir.Syntax.{Width}
-use mir.Val.{to_z, bits}
 use Rattle.fields.specs.Le.{le}
 use Rattle.fields.specs.Stores.{unit}
 
@@ -29,15 +26,16 @@ join (suc m) n s p =
     above : (b x u y : ℕ) → b + 256 * (x + u * y) ≡ b + 256 * x + 256 * u * y
     above b x u y = omega arith
 
-pub two : (s : List ℕ) (p : ℕ) → le 2 s p ≡ get_or s p 0 + 256 * get_or s (p + 1) 0
+-- the first byte
+pub one : (s : List ℕ) (p : ℕ) → le 1 s p ≡ get_or s p 0
 unfolding le
-two s p = omega arith
+one s p = omega arith
+
+-- one byte more, above those that stand
+pub more : (n : ℕ) (s : List ℕ) (p : ℕ) → le (n + 1) s p ≡ le n s p + unit n * get_or s (p + n) 0
+more n s p = join n 1 s p ∙ ap (λ (x : ℕ). le n s p + unit n * x) (one s (p + n))
 
 pub fits : (n : ℕ) (s : List ℕ) (p : ℕ) → ((i : ℕ) → get_or s i 0 < 256) → le n s p < unit n
 unfolding le
 fits zero s p h = omega arith
 fits (suc n) s p h = omega (arith, h p, fits n s (p + 1) h)
-
--- one law for every signed width: the complement of the complement
-pub signed : (w : Width) (x : ℕ) → x ≤ 2 ^ bits w - 1 → to_z w (2 ^ bits w - 1 - (2 ^ bits w - 1 - x)) ≡ to_z w x
-signed w x h = ap (to_z w) (sub-sub_self h)

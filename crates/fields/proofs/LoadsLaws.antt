@@ -3,21 +3,31 @@
 use Prim.Native.Nat.{ℕ, ◌+◌, ◌-◌, ◌≤◌, ◌<◌}
 use native.Mathlib.Omega.{arith}
 use mathlib.Core.Path.{◌≡◌, refl, sym, ap, ◌∙◌}
-use mathlib.Core.Bool.{Bool, true, false, not}
+use mathlib.Core.Bool.{Bool, true, false}
 use borrow.Author.Tests.{leb-true, leb-false, le-leb, lt-leb}
 use lib.Dec.{leb}
 use mathlib.Core.List.{List}
 use lib.ListN.{length}
-use lib.IntN.{ℤ}
 use mir.Syntax.{Width}
 use mir.Val.{to_z}
 use Rattle.answer.specs.declared.Refusal.{Refusal}
 use Rattle.answer.specs.Refusals.{refusal}
-use Rattle.answer.specs.Answers.{ok, refused, ◌then◌}
-use Rattle.answer.proofs.CheckLaws.{told_yes, told_no}
+use Rattle.answer.specs.Answers.{ok, refused, fine, need, ◌then◌}
+use Rattle.answer.specs.Checks.{claim}
+use Rattle.answer.proofs.CheckLaws.{fine_claim}
 use Rattle.fields.specs.Le.{le}
-use Rattle.fields.specs.Loads.{inside, load_at, signed_at}
-use Rattle.answer.proofs.AnswersLaws.{need_met, need_not, then_ok, then_no}
+use Rattle.fields.specs.Loads.{inside, load_at, signed_at, loaded}
+
+-- ---- the two kinds of numbers
+module _ (n : ℕ) (s : List ℕ) (p : ℕ) where
+  -- a natural number's bits are it
+  pub loaded_plain : loaded (λ (x : ℕ). x) n s p ≡ load_at n s p
+  unfolding loaded
+  loaded_plain = elim (load_at n s p) as (λ v. (v then λ (x : ℕ). ok x) ≡ v) [ ok x ↦ refl | refused r ↦ refl ]
+
+  pub loaded_signed : (w : Width) → loaded (to_z w) n s p ≡ signed_at w n s p
+  unfolding loaded signed_at
+  loaded_signed w = refl
 
 -- ---- laws, once over the width
 module _ (n : ℕ) (s : List ℕ) (p : ℕ) where
@@ -34,24 +44,21 @@ module _ (n : ℕ) (s : List ℕ) (p : ℕ) where
       by true e = sym (le-leb (p + n) (length s) (omega (arith, leb-true p (length s - n) e)))
       by false e = sym (lt-leb (p + n) (length s) (omega (arith, leb-false p (length s - n) e)))
 
-  -- by the test r that was made
-  module _ (r : Bool) (e : r ≡ inside n s p) where
-    pub room : not r ≡ false → p + n ≤ length s
+  -- by the claim that was made of the test's answer b
+  module _ (b : Bool) (e : b ≡ inside n s p) where
+    pub room : fine ≡ claim 44 b → p + n ≤ length s
     unfolding inside
-    room h = leb-true _ _ (told_yes _ _ e h)
+    room h = leb-true _ _ (sym e ∙ fine_claim 44 b (sym h))
 
-    pub load_past : (k : Refusal) → not r ≡ true → k ≡ refusal 44 → refused k ≡ load_at n s p
-    unfolding load_at
-    load_past k h f = ap refused f ∙ need_not 44 _ _ (told_no _ _ e h)
+    module _ {A : Type 0} (of : ℕ → A) where
+      pub load_past : (k : Refusal) → refused k ≡ claim 44 b → refused k ≡ loaded of n s p
+      unfolding loaded load_at claim
+      load_past k h = rw (← e) (go b h)
+        where
+          go : (c : Bool) → refused k ≡ claim 44 c → refused k ≡ (need 44 c (ok (le n s p)) then λ x. ok (of x))
+          go true h = let z : ◌≡◌ {A = ℕ} 0 1 = cc in absurd (omega arith)
+          go false h = let f : k ≡ refusal 44 = cc in ap refused f
 
-    pub load_in : (x : ℕ) → not r ≡ false → x ≡ le n s p → ok x ≡ load_at n s p
-    unfolding load_at
-    load_in x h f = ap ok f ∙ need_met 44 _ _ (told_yes _ _ e h)
-
-    pub signed_past : (w : Width) (k : Refusal) → not r ≡ true → k ≡ refusal 44 → refused k ≡ signed_at w n s p
-    unfolding signed_at
-    signed_past w k h f = then_no _ _ _ (load_past k h f)
-
-    pub signed_in : (w : Width) (z : ℤ) → not r ≡ false → z ≡ to_z w (le n s p) → ok z ≡ signed_at w n s p
-    unfolding signed_at
-    signed_in w z h f = ap ok f ∙ then_ok _ (λ x. ok (to_z w x)) _ (load_in _ h refl)
+      pub load_in : (x : A) → fine ≡ claim 44 b → x ≡ of (le n s p) → ok x ≡ loaded of n s p
+      unfolding loaded load_at
+      load_in x h f = let t : inside n s p ≡ true = sym e ∙ fine_claim 44 b (sym h) in rw t (ap ok f)

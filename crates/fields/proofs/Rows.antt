@@ -104,6 +104,14 @@ module _ (ws : List ℕ) (i : ℕ) (h : i < length ws) where
           → Laid s p (row_bytes (take (i + 1) ws) (take (i + 1) ns)) after
       next_stored f g = rw row_next (behind f g (e ∙ ap (λ (x : ℕ). p + x) (sym (row_long (take i ws) (take i ns)))))
 
+-- a turn of the loop that stores: the number x, at the width w, is the next of the row
+pub one_on : (ws ns : List ℕ) (i p q : ℕ) → i < length ws → length ns ≡ length ws → q ≡ p + row_wide (take i ws) → (j w x : ℕ) → j ≡ i + 1 → w ≡ get_or ws i 0 → x ≡ get_or ns i 0
+    → {s mid after : List ℕ} → Laid s p (row_bytes (take i ws) (take i ns)) mid → Laid mid q (to_le w x) after
+    → (q + w ≡ p + row_wide (take j ws)) × Laid s p (row_bytes (take j ws) (take j ns)) after
+one_on ws ns i p q h k e j w x ej ew ex f g =
+    let g' = rw (ew, ex) at g in
+    rw (ej, ew) (next_place ws i h p q e, next_stored ws i h p q e ns k f g')
+
 -- nothing stands before the first, and after the last all stand
 pub none_stored : (s ws ns : List ℕ) (p : ℕ) → p ≤ length s → Laid s p (row_bytes (take 0 ws) (take 0 ns)) s
 unfolding row_bytes laid

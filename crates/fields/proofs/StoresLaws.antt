@@ -63,7 +63,3 @@ behind {s} {p} {a} {b} {q} {mid} {after} f g e =
       is = g.is ∙ ap₂ (λ (m : List ℕ) (k : ℕ). laid m k b) f.is e ∙ laid_on s p a b f.room;
       long = g.long ∙ f.long;
     }
-
--- the same number, however it was worked out
-pub told_by : {s : List ℕ} {p : ℕ} {x y : ℕ} {after : List ℕ} → x ≡ y → Laid s p (to_le 2 x) after → Laid s p (to_le 2 y) after
-told_by e f = rw e at f

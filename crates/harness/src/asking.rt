@@ -5,7 +5,7 @@ ghost use Rattle.harness.specs.Reading.{CameBefore};
 
 use crate::numbers::number;
 use crate::records::read_held;
-use crate::tally::{Tally, less};
+use crate::tally::Tally;
 use std::io;
 use std::io::Read;
 
@@ -62,7 +62,7 @@ impl Asking {
         Asking {
             tally: tally.with(right),
             times: self.times,
-            questions: less(self.questions),
+            questions: self.questions.saturating_sub(1),
         }
     }
 }

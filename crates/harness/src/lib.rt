@@ -10,6 +10,6 @@ mod tally;
 
 pub use asking::Asking;
 pub use numbers::{float, number, size, whole};
-pub use records::{fill, held, part, read, read_held};
-pub use said::{Said, count, place};
-pub use tally::{Tally, tell, write};
+pub use records::{fill, held, next, part, read, read_held};
+pub use said::{Said, count, is_counted, place};
+pub use tally::{Tally, replay, tell, write};

@@ -1,11 +1,13 @@
 // The numbers in a record, the least significant byte first. A read past its end has one too, so that no program has to ask.
-use fields::{Loaded32, Loaded64, LoadedI32};
+ghost use Rattle.std.specs.Prelude.{◌≡◌, ◌+◌, ◌≤◌, length};
+ghost use Rattle.fields.specs.Le.{le};
 
-pub fn number(r: &[u8], at: usize) -> u32 {
-    match fields::u32_le(r, at) {
-        Loaded32::Value(n) => n,
-        Loaded32::Refused(_) => 0xffff_ffff,
-    }
+use fields::load;
+
+pub fn number(r: &[u8], at: usize) -> u32
+    ensures { at + 4 ≤ length r.now → result ≡ le 4 r.now at }
+{
+    load::<u32>(r, at).unwrap_or(0xffff_ffff)
 }
 
 pub fn size(r: &[u8], at: usize) -> usize {
@@ -13,10 +15,7 @@ pub fn size(r: &[u8], at: usize) -> usize {
 }
 
 pub fn whole(r: &[u8], at: usize) -> i32 {
-    match fields::i32_le(r, at) {
-        LoadedI32::Value(n) => n,
-        LoadedI32::Refused(_) => 0,
-    }
+    load::<i32>(r, at).unwrap_or(0)
 }
 
 // The float of a pattern. All patterns of NaN are one value.
@@ -29,8 +28,5 @@ fn float_of(bits: u64) -> f64 {
 }
 
 pub fn float(r: &[u8], at: usize) -> f64 {
-    match fields::u64_le(r, at) {
-        Loaded64::Value(bits) => float_of(bits),
-        Loaded64::Refused(_) => 0.0,
-    }
+    load::<u64>(r, at).map_or(0.0, float_of)
 }

@@ -1,22 +1,18 @@
 // The count of what is answered as a list says, and the line that tells it.
-ghost use Rattle.std.specs.Prelude.{◌≡◌, ◌-◌, ◌≤◌, ◌++◌, OnOk};
+ghost use Rattle.std.specs.Prelude.{◌-◌, ◌≤◌, ◌++◌, OnOk, IfOk};
 ghost use Rattle.std.specs.Fmt.{decimal};
 ghost use Rattle.std.specs.Io.KnownBytes.{Appends};
 
 use std::io;
-use std::io::Write;
+use std::io::{Read, Write};
 
-// One less, and 0 for 0.
-pub fn less(n: u32) -> u32
-    ensures { result ≡ n - 1 }
-{
-    if n == 0 { 0 } else { n - 1 }
-}
+// How many records a list may have. Nothing says that standard input ends, so this ends every program.
+const MOST: u32 = 1_000_000;
 
 #[derive(Clone, Copy)]
 pub struct Tally {
     pub right: u64,
-    // How many more records may come. Nothing says that standard input ends, so this ends every program.
+    // How many more records may come.
     pub left: u32,
 }
 
@@ -24,7 +20,7 @@ impl Tally {
     pub fn new() -> Self {
         Tally {
             right: 0,
-            left: 1_000_000,
+            left: MOST,
         }
     }
 
@@ -32,15 +28,9 @@ impl Tally {
     pub fn past(self, fine: bool) -> Self
         ensures { result.left ≤ self.left - 1 }
     {
-        if !fine {
-            return Tally {
-                right: self.right,
-                left: 0,
-            };
-        }
         Tally {
             right: self.right,
-            left: less(self.left),
+            left: if fine { self.left.saturating_sub(1) } else { 0 },
         }
     }
 
@@ -48,15 +38,28 @@ impl Tally {
     pub fn with(self, right: bool) -> Self
         ensures { result.left ≤ self.left - 1 }
     {
-        let t = self.past(right);
-        if !right {
-            return t;
-        }
         Tally {
-            right: t.right.wrapping_add(1),
-            left: t.left,
+            right: self.right.wrapping_add(u64::from(right)),
+            left: self.past(right).left,
         }
     }
+}
+
+// Replays records one after another: how many are answered as they say, before the first that is not, or the list's end. `next` reads
+// one, and says whether it came and is answered so.
+pub fn replay<R: Read, F: FnMut(&mut R) -> io::Result<bool>>(
+    input: &mut R,
+    mut next: F,
+) -> io::Result<u64>
+    requires { F.IsAlwaysCallable next }
+    ensures { IfOk result (λ n. n ≤ 1_000_000) }
+{
+    for n in 0..MOST {
+        if !next(input)? {
+            return Ok(u64::from(n));
+        }
+    }
+    Ok(u64::from(MOST))
 }
 
 pub fn write<W: Write>(out: &mut W, text: &[u8]) -> io::Result<()>

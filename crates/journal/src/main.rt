@@ -7,15 +7,16 @@
 ghost use Rattle.std.specs.Prelude.{◌≡◌, ◌++◌, ◌+◌, ◌*◌, ◌/◌, ◌<◌, ◌≤◌, length, take, drop, IsNone, OnOk};
 ghost use Rattle.std.specs.Io.KnownBytes.{Consumes, Appends, IsAtEnd};
 ghost use Rattle.entries.specs.Entry.{entry_wide, bytes_of};
-ghost use Rattle.replies.specs.Replies.{opening_told};
 ghost use Rattle.tzb_journal.specs.Journal.{entry_for};
 ghost use Rattle.journal.specs.Answered.{places, position_at, entries_of};
 ghost use Rattle.journal.specs.Counts.{IsPrefixLen};
 ghost use Rattle.journal.specs.Runs.{TurnEnds, RunEnds, AllAnswered};
 ghost use Rattle.tzb.specs.Opening.{open_of};
 
+use answer::Answer;
+use fields::Number;
+use opened::Opened;
 use plane::I32Point;
-use replies::Opening;
 use std::fs::File;
 use std::io::{Read, Write};
 use std::rt::Files;
@@ -37,29 +38,31 @@ const LONGEST: usize = 65536;
 // ---- on slices
 
 // The position that stands there.
+// kept: the promise counts positions by their places in one input
 fn position_at(s: &[u8], at: usize) -> I32Point
     requires { at + 8 ≤ length s.now }
     ensures { result ≡ position_at s.now at }
 {
     I32Point {
-        x: fields::i32_at(s, at),
-        y: fields::i32_at(s, at + 4),
+        x: i32::at(s, at),
+        y: i32::at(s, at + 4),
     }
 }
 
+// kept: the bytes and a place in them; the entry goes into lent memory of its own.
 // The entry of the position that stands there, into the first bytes of what is lent.
-fn note_one(opening: Opening, file: &[u8], input: &[u8], at: usize, out: &mut [u8])
+fn note_one(opening: Answer<Opened>, file: &[u8], input: &[u8], at: usize, out: &mut [u8])
     requires { (at + 8 ≤ length input.now) × (entry_wide places ≤ length out.old) }
-    ensures { out.new ≡ bytes_of places (entry_for places (opening_told opening) file.now (position_at input.now at)) ++ drop (entry_wide places) out.old }
+    ensures { out.new ≡ bytes_of places (entry_for places (opening) file.now (position_at input.now at)) ++ drop (entry_wide places) out.old }
 {
     let q = position_at(input, at);
-    tzb_journal::note(PLACES as u8, opening, file, q, out);
+    let _ = tzb_journal::note(PLACES as u8, opening, file, q, out);
 }
 
 // The entries of all whole positions, one behind another, into the first bytes of what is lent, and how many bytes they take.
-fn note_all(opening: Opening, file: &[u8], input: &[u8], out: &mut [u8]) -> usize
+fn note_all(opening: Answer<Opened>, file: &[u8], input: &[u8], out: &mut [u8]) -> usize
     requires { entry_wide places * (length input.now / 8) ≤ length out.old }
-    ensures out_after { out.new ≡ entries_of (opening_told opening) file.now input.now (length input.now / 8) ++ drop result out.old }
+    ensures out_after { out.new ≡ entries_of (opening) file.now input.now (length input.now / 8) ++ drop result out.old }
     ensures value { (result ≡ entry_wide places * (length input.now / 8)) × IsPrefixLen result out.new }
 {
     let n = input.len() / POSITION;
@@ -132,6 +135,7 @@ fn read<R: Read>(from: &mut R, buf: &mut [u8]) -> Came
     ensures end { result.count < length buf.new → IsNone result.failed → IsAtEnd (R.remaining from.new) }
 {
     let mut n = 0;
+    // kept: no read of std fills the bytes and says how many came where it fails
     while n < buf.len() {
         let came = read_some(from, &mut buf[n..]);
         if came.count == 0 {
@@ -149,9 +153,9 @@ fn read<R: Read>(from: &mut R, buf: &mut [u8]) -> Came
 }
 
 // Writes the entries of all whole positions.
-fn write<W: Write>(to: &mut W, opening: Opening, file: &[u8], input: &[u8]) -> io::Result<()>
+fn write<W: Write>(to: &mut W, opening: Answer<Opened>, file: &[u8], input: &[u8]) -> io::Result<()>
     requires { length input.now ≤ 4096 }
-    ensures { OnOk result (Appends (W.contents to.old) (W.contents to.new) (entries_of (opening_told opening) file.now input.now (length input.now / 8))) }
+    ensures { OnOk result (Appends (W.contents to.old) (W.contents to.new) (entries_of (opening) file.now input.now (length input.now / 8))) }
 {
     let mut out = [0u8; MANY * ENTRY];
     let n = note_all(opening, file, input, &mut out);
@@ -162,17 +166,15 @@ fn write<W: Write>(to: &mut W, opening: Opening, file: &[u8], input: &[u8]) -> i
 fn turn<R: Read, W: Write>(
     from: &mut R,
     to: &mut W,
-    opening: Opening,
+    opening: Answer<Opened>,
     file: &[u8],
 ) -> Result<bool, Stop<'static>>
-    ensures { TurnEnds (opening_told opening) file.now (R.remaining from.old) (R.remaining from.new) (W.contents to.old) (W.contents to.new) result }
+    ensures { TurnEnds (opening) file.now (R.remaining from.old) (R.remaining from.new) (W.contents to.old) (W.contents to.new) result }
 {
     let mut input = [0u8; MANY * POSITION];
     let came = read(from, &mut input);
     let n = came.count;
-    if let Err(why) = write(to, opening, file, &input[..n]) {
-        return Err(Stop::Output(why));
-    }
+    write(to, opening, file, &input[..n]).map_err(|why| Stop::Output(why))?;
     if let Some(why) = came.failed {
         return Err(Stop::Input(why));
     }
@@ -198,10 +200,7 @@ fn answer<R: Read, W: Write>(from: &mut R, to: &mut W, file: &[u8]) -> Result<()
 
 // Reads the file, with room for one byte more than it may have.
 fn read_file<'a>(rt: &impl Files, name: &'a str, file: &mut [u8]) -> Result<usize, Stop<'a>> {
-    let mut from = match File::open(rt, name) {
-        Ok(from) => from,
-        Err(why) => return Err(Stop::Index(name, why)),
-    };
+    let mut from = File::open(rt, name).map_err(|why| Stop::Index(name, why))?;
     let came = read(&mut from, file);
     match came.failed {
         Some(why) => Err(Stop::Index(name, why)),

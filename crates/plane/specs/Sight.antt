@@ -4,13 +4,14 @@ use Rattle.std.specs.Prelude.{Bool}
 use Rattle.plane.specs.declared.Seen.{Seen}
 use Rattle.plane.specs.declared.Seen.TheVariants as S
 
-pub data Sight : Type 0 where
-  -- on the segment (M9: on)
-  On : Sight
-  -- not on it, and whether the segment counts (true is M10: counts; false is M11: neither); of many, whether an odd number counts
-  Off : Bool → Sight
+-- it is the code's type
+abbrev pub Sight : Type 0
+Sight = Seen
 
--- what the enum of the code says
-abbrev pub seen_told : Seen → Sight
-seen_told S.On = On
-seen_told (S.Off counts) = Off counts
+-- on the segment (M9: on)
+pattern abbrev pub On : Sight
+On = S.On
+
+-- not on it, and whether the segment counts (true is M10: counts; false is M11: neither); of many, whether an odd number counts
+pattern abbrev pub Off : Bool → Sight
+Off counts = S.Off counts

@@ -7,7 +7,7 @@ pub struct Point {
     pub y: f64,
 }
 
-#[derive(Clone, Copy)]
+#[derive(Clone, Copy, PartialEq, Eq)]
 pub struct I32Point {
     pub x: i32,
     pub y: i32,

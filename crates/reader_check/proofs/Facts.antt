@@ -18,9 +18,8 @@ use Rattle.reader_records.specs.declared.ChunkRecord.{ChunkRecord}
 use Rattle.reader_records.specs.Records.{poly_at, ring_at, op_at, group_at, group_index, chunk_at, count_rule, tz_at}
 use Rattle.reader_chunks.specs.Chunks.{first_at, chunk_points}
 use Rattle.reader_cover.specs.Cover.{points_add, chunk_covers, joint_covers, joints_cover, chunk_under, group_under, ring_under, poly_under, ends_fit, group_covers, ring_covers, poly_covers, zone_covers, group_of_op, sum_of_ops}
-use Rattle.reader_check.specs.declared.Demand.{Demand}
-use Rattle.reader_check.specs.declared.Demand.TheVariants as D
-use Rattle.reader_check.specs.FullCheck.{asked, met, all_met, records_hold, chunks_decode, rings_have_room, chunk_boxes_cover, groups_cover, boxes_cover}
+use Rattle.reader_check.specs.FullCheck as D
+use Rattle.reader_check.specs.FullCheck.{Demand, asked, met, all_met, records_hold, chunks_decode, rings_have_room, chunk_boxes_cover, groups_cover, boxes_cover}
 use Rattle.reader_cover.specs.All.{all}
 use Rattle.shapes.specs.Words.{has_room}
 use Rattle.shapes.specs.Layout as Layout

@@ -3,38 +3,13 @@
 use Prim.Native.Nat.{ℕ, zero, suc, ◌<◌}
 use native.Mathlib.Omega.{arith}
 use mathlib.Core.Path.{◌≡◌, refl, sym, ap, ◌∙◌}
-use mathlib.Core.Bool.{Bool, true, false}
 use mathlib.Core.List.{List}
-use mathlib.Core.Logic.{◌≢◌}
 use Rattle.answer.specs.declared.Refusal.{Refusal}
 use Rattle.answer.specs.Refusals.{refusal}
 use Rattle.answer.specs.Answers.{Answer, ok, refused}
 use Rattle.opened.specs.declared.Opened.{Opened}
 use Rattle.replies.specs.Replies.{accepted, refused_by, broken_at}
-use Rattle.reader_check.specs.FullCheck.{rule, lowest_broken, judged, check_of}
-use Rattle.reader_check.specs.Steps.{found}
-
-module _ (n : ℕ) (b : Bool) (after : ℕ) where
-  pub rule_broken : b ≡ false → n ≡ rule n b after
-  unfolding rule
-  rule_broken e = rw e
-
-  pub rule_met : b ≡ true → (x : ℕ) → x ≡ after → x ≡ rule n b after
-  unfolding rule
-  rule_met e x h = rw e h
-
-module _ (k after : ℕ) where
-  pub found_one : k ≢ 0 → k ≡ found k after
-  unfolding found
-  found_one h = by k h
-    where
-      by : (k : ℕ) → k ≢ 0 → k ≡ found k after
-      by zero h = absurd (h refl)
-      by (suc k) h = refl
-
-  pub found_none : k ≡ 0 → (x : ℕ) → x ≡ after → x ≡ found k after
-  unfolding found
-  found_none e x h = rw e h
+use Rattle.reader_check.specs.FullCheck.{lowest_broken, judged, check_of}
 
 module _ (x : Answer Opened) (s : List ℕ) where
   pub check_refused : (r : Refusal) → refused r ≡ x → refused_by r ≡ check_of x s

@@ -1,6 +1,5 @@
--- A rule's demands one after the other; what the rules say, by index; what the full check accepts; and that its answer is determined.
+-- What the rules say, by index; what the full check accepts; and that its answer is determined.
 pub mod FullCheckLaws
-pub mod Judging
 pub mod Lowest
 pub mod Facts
 pub mod Rooms

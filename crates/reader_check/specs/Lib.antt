@@ -1,3 +1,2 @@
 -- Document 01, "What the full check demands".
 pub mod FullCheck
-pub mod Steps

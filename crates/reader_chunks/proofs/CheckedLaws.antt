@@ -7,11 +7,12 @@ use mathlib.Core.List.{List}
 use lib.ListN.{length}
 use lib.Dec.{ltb, leb}
 use lib.IntN.{ℤ}
-use borrow.Author.Tests.{lt-leb, le-leb, lt-ltb, ltb-true, leb-true}
+use borrow.Author.Tests.{ltb-true, leb-true}
 use Rattle.plane.specs.declared.I32Point.{I32Point}
 use Rattle.answer.specs.declared.Refusal.{Refusal}
-use Rattle.answer.specs.Answers.{Answer, ok, refused, no, ◌then◌, need, ◌before◌, behind, Check, fine, outcome}
-use Rattle.answer.proofs.AnswersLaws.{need_inv}
+use Rattle.answer.specs.Answers.{Answer, ok, refused, ◌then◌, need, ◌before◌, behind, Check, fine, outcome}
+use Rattle.answer.specs.Checks.{claim}
+use Rattle.answer.proofs.AnswersLaws.{need_inv, zero_one}
 use Rattle.answer.proofs.RefusalsLaws.{behind_outcome}
 use Rattle.boxes.specs.declared.BBox.{BBox}
 use Rattle.chunks.specs.Decode.{points_of}
@@ -24,19 +25,30 @@ use Rattle.reader_chunks.specs.Chunks.{start_of, end_of, span, trace_in, trace_a
 use Rattle.reader_chunks.specs.Steps.{points_in, room_for}
 use Rattle.reader_chunks.proofs.ChunksLaws.{trace_at_far, trace_at_is, by_far, by_is, in_is}
 
+-- ---- the claims of the code
+claim_no : {A : Type 0} (n : ℕ) (b : Bool) (x : Answer A) (r : Refusal) → refused r ≡ claim n b → refused r ≡ need n b x
+unfolding claim
+claim_no n true x r e = let z : ◌≡◌ {A = ℕ} 0 1 = cc in absurd (zero_one z)
+claim_no n false x r e = let z : r ≡ _ = cc in ap refused z
+
+claim_met : {A : Type 0} (n : ℕ) (b : Bool) (x : Answer A) → fine ≡ claim n b → x ≡ need n b x
+unfolding claim
+claim_met n true x e = refl
+claim_met n false x e = let z : ◌≡◌ {A = ℕ} 0 1 = cc in absurd (zero_one z)
+
 -- ---- 32 and 46
 module _ (n room : ℕ) where
-  pub room_none : n ≡ 0 → no 32 ≡ room_for n room
+  pub room_barred : (r : Refusal) → refused r ≡ claim 32 (ltb 0 n) → refused r ≡ room_for n room
   unfolding room_for
-  room_none z = rw z
+  room_barred r h = claim_no 32 (ltb 0 n) (need 46 (leb (2 * n) room) fine) r h
 
-  pub room_short : 0 < n → room < 2 * n → no 46 ≡ room_for n room
-  unfolding room_for
-  room_short h l = rw (lt-ltb 0 n h, lt-leb (2 * n) room l)
-
-  pub room_is : 0 < n → 2 * n ≤ room → fine ≡ room_for n room
-  unfolding room_for
-  room_is h l = rw (lt-ltb 0 n h, le-leb (2 * n) room l)
+  pub room_told : fine ≡ claim 32 (ltb 0 n) → claim 46 (leb (2 * n) room) ≡ room_for n room
+  unfolding room_for claim
+  room_told h = last (leb (2 * n) room) ∙ claim_met 32 (ltb 0 n) (need 46 (leb (2 * n) room) fine) h
+    where
+      last : (b : Bool) → claim 46 b ≡ need 46 b fine
+      last true = refl
+      last false = refl
 
   -- and back
   pub room_fine : fine ≡ room_for n room → (0 < n) × (2 * n ≤ room)

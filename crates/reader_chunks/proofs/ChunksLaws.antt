@@ -25,10 +25,6 @@ use Rattle.reader_records.specs.Records.{chunk_at}
 use Rattle.reader_chunks.specs.Chunks.{start_of, end_of, span, bytes_of, first_in, scan_in, trace_in, count_in, first_at, trace_at, count_at, decode_by, decode_in}
 use Rattle.reader_chunks.specs.Steps.{points_in}
 
-pub start_is : (o : Opened) (v : ChunkRecord) → o.points.off + v.off ≡ start_of o v
-unfolding start_of
-start_is o v = refl
-
 module _ (o : Opened) (s : List ℕ) (i : ℕ) where
   pub end_last : o.chunks.count ≤ i + 1 → ok (o.points.off + o.points.len) ≡ end_of o s i
   unfolding end_of

@@ -6,15 +6,15 @@ use mathlib.Core.List.{List}
 use lib.ListN.{length}
 use lib.Dec.{ltb, leb}
 use borrow.Author.Tests.{ltb-true, leb-true}
-use Rattle.answer.specs.Answers.{ok, need, fine, outcome}
+use Rattle.answer.specs.Answers.{ok, need}
 use Rattle.fields.specs.Part.{part}
 use Rattle.opened.specs.declared.Opened.{Opened}
 use Rattle.opened.specs.Widths.{chunk_wide}
 use Rattle.reader_records.specs.declared.ChunkRecord.{ChunkRecord}
 use Rattle.reader_records.specs.Records.{chunk_in, chunk_rule, chunk_at}
 use Rattle.reader_chunks.specs.Chunks.{span, start_of, end_of}
-use Rattle.answer.proofs.AnswersLaws.{need_inv, outcome_fine}
-use Rattle.reader_chunks.proofs.ChunksLaws.{end_is, span_is}
+use Rattle.answer.proofs.AnswersLaws.{need_inv}
+use Rattle.reader_chunks.proofs.ChunksLaws.{end_is}
 use Rattle.reader_records.proofs.RecordsLaws.{ruled_inside}
 
 pub span_in : (s : List ℕ) (a e : ℕ) (b : List ℕ) → ok b ≡ span s a e → (a < e) × (e ≤ length s)
@@ -23,13 +23,6 @@ span_in s a e b h =
     let f = need_inv 37 (ltb a e) (need 44 (leb e (length s)) (ok (part s a e))) b h in
     let g = need_inv 44 (leb e (length s)) (ok (part s a e)) b f.1 in
     (ltb-true a e f.0, leb-true e (length s) g.0)
-
-pub span_fine : (s : List ℕ) (a e : ℕ) → fine ≡ outcome (span s a e) → (a < e) × (e ≤ length s)
-span_fine s a e h = let f = outcome_fine (span s a e) h in span_in s a e f.0 f.1
-
--- so the chunk's own bytes are the range's
-pub span_part : (s : List ℕ) (a e : ℕ) → fine ≡ outcome (span s a e) → ok (part s a e) ≡ span s a e
-span_part s a e h = let f = span_fine s a e h in span_is s a e f.0 f.1
 
 -- a chunk that there is has its index in the directory
 pub chunk_inside : (o : Opened) (s : List ℕ) (i : ℕ) (n : ChunkRecord) → ok n ≡ chunk_at o s i → i < o.chunks.count

@@ -4,7 +4,7 @@
 use Rattle.std.specs.Prelude.{ℕ, ◌+◌, ◌*◌, Bool, cond, List, length, ltb, leb, ℤ}
 use Rattle.plane.specs.declared.Point.{Point}
 use Rattle.plane.specs.declared.I32Point.{I32Point}
-use Rattle.answer.specs.Answers.{Answer, ok, refused, ◌then◌, need, behind, Check, outcome}
+use Rattle.answer.specs.Answers.{Answer, ok, ◌then◌, need, behind, Check, outcome}
 use Rattle.answer.specs.Walks.{Walk, ◌yields◌, walk_behind}
 use Rattle.boxes.specs.declared.BBox.{BBox}
 use Rattle.fields.specs.Part.{part}
@@ -16,19 +16,6 @@ use Rattle.chunks.specs.Count.{count_of}
 use Rattle.opened.specs.declared.Opened.{Opened}
 use Rattle.reader_records.specs.declared.ChunkRecord.{ChunkRecord}
 use Rattle.reader_records.specs.Records.{chunk_at}
-use Rattle.reader_chunks.specs.declared.Offset.{Offset}
-use Rattle.reader_chunks.specs.declared.Offset.TheVariants as O
-use Rattle.reader_chunks.specs.declared.PointAt.{PointAt}
-use Rattle.reader_chunks.specs.declared.PointAt.TheVariants as P
-
--- what each enum tells
-abbrev pub told_offset : Offset → Answer ℕ
-told_offset (O.At e) = ok e
-told_offset (O.Refused k) = refused k
-
-abbrev pub told_point : PointAt → Answer I32Point
-told_point (P.At q) = ok q
-told_point (P.Refused k) = refused k
 
 -- where a chunk's first byte stands
 unfoldable pub start_of : Opened → ChunkRecord → ℕ

@@ -1,4 +1,4 @@
--- A ring's point counts, added one by one: what is left to add decides as the whole does.
+-- A ring's point counts, added one by one: the sum so far and what is left to add are the whole.
 -- Assumes nothing.
 use Prim.Native.Nat.{ℕ, zero, suc, ◌+◌, ◌-◌, ◌≤◌, ◌<◌}
 use native.Mathlib.Omega.{arith}
@@ -9,25 +9,23 @@ use mathlib.Core.Logic.{◌≢◌}
 use lib.Dec.{eqb}
 use borrow.Author.Tests.{eqb-true, eqb-false}
 use Rattle.answer.specs.declared.Refusal.{Refusal}
-use Rattle.answer.specs.Answers.{Answer, ok, refused, ◌then◌, holds}
+use Rattle.answer.specs.Answers.{Answer, ok, refused, ◌then◌}
 use Rattle.opened.specs.declared.Opened.{Opened}
-use Rattle.reader_records.specs.declared.RingRecord.{RingRecord}
 use Rattle.reader_records.specs.declared.GroupRecord.{GroupRecord}
-use Rattle.reader_records.specs.Records.{count_rule}
 use Rattle.answer.proofs.AnswersLaws.{then_inv}
-use Rattle.reader_cover.specs.Cover.{points_add, group_of_op, sum_of_ops}
+use Rattle.reader_cover.specs.Cover.{group_of_op, sum_of_ops}
 
--- with `sum` counted so far, n ops from op j on
-unfoldable pub adds_up : Opened → List ℕ → RingRecord → ℕ → ℕ → ℕ → Bool
-adds_up o s v sum n j = holds (λ t. count_rule v (sum + t)) (sum_of_ops o s n j)
+-- with `sum` counted so far, and what is left to add
+unfoldable pub added : ℕ → Answer ℕ → Answer ℕ
+added sum x = x then λ t. ok (sum + t)
 
-module _ (o : Opened) (s : List ℕ) (v : RingRecord) where
-  pub adds_start : (j : ℕ) → j ≡ v.first → adds_up o s v 0 v.count j ≡ points_add o s v
-  unfolding adds_up points_add holds
-  adds_start j e = rw e (go (sum_of_ops o s v.count v.first))
+module _ (o : Opened) (s : List ℕ) where
+  pub adds_start : (m n j : ℕ) → m ≡ n → added 0 (sum_of_ops o s m j) ≡ sum_of_ops o s n j
+  unfolding added
+  adds_start m n j e = rw e (go (sum_of_ops o s n j))
     where
-      go : (x : Answer ℕ) → holds (λ t. count_rule v (0 + t)) x ≡ holds (count_rule v) x
-      go (ok t) = let z : 0 + t ≡ t = omega arith in ap (count_rule v) z
+      go : (x : Answer ℕ) → added 0 x ≡ x
+      go (ok t) = let z : 0 + t ≡ t = omega arith in ap ok z
       go (refused r) = refl
 
   module _ (n j : ℕ) (h : 0 < n) where
@@ -37,32 +35,36 @@ module _ (o : Opened) (s : List ℕ) (v : RingRecord) where
         let m : n ≡ suc (n - 1) = omega arith in
         rw (m, ← e)
 
-    one_more : (g : GroupRecord) → ok g ≡ group_of_op o s j → sum_of_ops o s n j ≡ (sum_of_ops o s (n - 1) (j + 1) then λ t. ok (g.points + t))
-    unfolding sum_of_ops
+    one_more : (g : GroupRecord) → ok g ≡ group_of_op o s j → sum_of_ops o s n j ≡ added g.points (sum_of_ops o s (n - 1) (j + 1))
+    unfolding sum_of_ops added
     one_more g e = ap (λ (k : ℕ). sum_of_ops o s k j) m ∙ ap (λ (y : Answer GroupRecord). y then λ g. sum_of_ops o s (n - 1) (j + 1) then λ t. ok (g.points + t)) (sym e)
       where
         m : n ≡ suc (n - 1)
         m = omega arith
 
-  module _ (sum n j : ℕ) (whole : Bool) (inv : adds_up o s v sum n j ≡ whole) where
-    pub adds_no : 0 < n → (r : Refusal) → refused r ≡ group_of_op o s j → false ≡ whole
-    unfolding adds_up holds
-    adds_no h r e = ap (holds (λ t. count_rule v (sum + t))) (sym (one_no n j h r e)) ∙ inv
+  module _ (to j sum : ℕ) (whole : Answer ℕ) (inv : added sum (sum_of_ops o s (to - j) j) ≡ whole) where
+    pub adds_no : j < to → (r : Refusal) → refused r ≡ group_of_op o s j → refused r ≡ whole
+    unfolding added
+    adds_no h r e = ap (added sum) (sym (one_no (to - j) j (omega arith) r e)) ∙ inv
 
-    pub adds_on : 0 < n → (g : GroupRecord) → ok g ≡ group_of_op o s j → (x : ℕ) → x ≡ g.points → adds_up o s v (sum + x) (n - 1) (j + 1) ≡ whole
-    unfolding adds_up holds
-    adds_on h g e x f = step (sum_of_ops o s (n - 1) (j + 1)) ∙ ap (holds (λ t. count_rule v (sum + t))) (sym (one_more n j h g e)) ∙ inv
+    pub adds_on : j < to → (g : GroupRecord) → ok g ≡ group_of_op o s j → added (sum + g.points) (sum_of_ops o s (to - (j + 1)) (j + 1)) ≡ whole
+    unfolding added
+    adds_on h g e = rw m (step (sum_of_ops o s (to - j - 1) (j + 1)) ∙ ap (added sum) (sym (one_more (to - j) j (omega arith) g e)) ∙ inv)
       where
-        step : (y : Answer ℕ) → holds (λ t. count_rule v (sum + x + t)) y ≡ holds (λ t. count_rule v (sum + t)) (y then λ t. ok (g.points + t))
-        step (ok t) = let z : sum + x + t ≡ sum + (g.points + t) = omega arith in ap (count_rule v) z
+        m : to - (j + 1) ≡ to - j - 1
+        m = omega arith
+
+        step : (y : Answer ℕ) → added (sum + g.points) y ≡ added sum (added g.points y)
+        step (ok t) = let z : sum + g.points + t ≡ sum + (g.points + t) = omega arith in ap ok z
         step (refused r) = refl
 
-    pub adds_end : n ≡ 0 → count_rule v sum ≡ whole
-    unfolding adds_up sum_of_ops holds
-    adds_end z =
-        let y : sum + 0 ≡ sum = omega arith in
-        let i : count_rule v (sum + 0) ≡ whole = rw z at inv in
-        ap (count_rule v) (sym y) ∙ i
+    pub adds_end : to ≤ j → ok sum ≡ whole
+    unfolding added sum_of_ops
+    adds_end h =
+        let n : to - j ≡ 0 = omega arith in
+        let i : ok (sum + 0) ≡ whole = rw n at inv in
+        let z : sum ≡ sum + 0 = omega arith in
+        ap ok z ∙ i
 
 -- where a sum is answered, so is every group that it adds
 pub sum_each : (o : Opened) (s : List ℕ) (n j t : ℕ) → ok t ≡ sum_of_ops o s n j → (i : ℕ) → j ≤ i → i < j + n → (g : GroupRecord) × (ok g ≡ group_of_op o s i)

@@ -19,7 +19,6 @@ use Rattle.reader_records.specs.declared.ChunkRecord.{ChunkRecord}
 use Rattle.reader_records.specs.Records.{chunk_at}
 use Rattle.reader_chunks.specs.Chunks.{start_of, end_of, span, bytes_of, trace_in, trace_at, chunk_points}
 use Rattle.reader_cover.specs.Cover.{chunk_covers}
-use Rattle.answer.proofs.AnswersLaws.{holds_no, holds_ok}
 use Rattle.answer.proofs.RefusalsLaws.{holds_behind}
 use Rattle.chunks.proofs.DecodeLaws.{points_are}
 use Rattle.plane.specs.Segment.{same_point}
@@ -78,7 +77,7 @@ module _ (o : Opened) (s : List ℕ) (i : ℕ) where
       go (refused r) = refl
 
   -- F4
-  trace_covers : holds (λ t. t.0) (trace_at o s i) ≡ chunk_covers o s i
+  pub trace_covers : holds (λ t. t.0) (trace_at o s i) ≡ chunk_covers o s i
   unfolding trace_at chunk_covers chunk_points holds
   trace_covers = go (chunk_at o s i)
     where
@@ -86,25 +85,11 @@ module _ (o : Opened) (s : List ℕ) (i : ℕ) where
       go (ok v) = record_holds v (every (in_box v.bbox)) (λ t. t.0) (λ l. refl)
       go (refused r) = refl
 
-  pub covers_no : (r : Refusal) → refused r ≡ trace_at o s i → false ≡ chunk_covers o s i
-  covers_no r e = holds_no (λ t. t.0) (trace_at o s i) r e ∙ trace_covers
-
-  pub covers_ok : (inside : Bool) (p : I32Point) → ok (inside, p) ≡ trace_at o s i → inside ≡ chunk_covers o s i
-  covers_ok inside p e = holds_ok (λ t. t.0) (trace_at o s i) (inside, p) e inside refl ∙ trace_covers
-
   -- F3
-  pub decodes_no : (r : Refusal) → refused r ≡ trace_at o s i → false ≡ answered (chunk_points o s i)
+  pub trace_decodes : answered (trace_at o s i) ≡ answered (chunk_points o s i)
   unfolding answered
-  decodes_no r e = holds_no (λ t. true) (trace_at o s i) r e ∙ trace_holds (λ l. true) (λ t. true) (λ b l. refl)
-
-  pub decodes_ok : (t : Bool × I32Point) → ok t ≡ trace_at o s i → true ≡ answered (chunk_points o s i)
-  unfolding answered
-  decodes_ok t e = holds_ok (λ t. true) (trace_at o s i) t e true refl ∙ trace_holds (λ l. true) (λ t. true) (λ b l. refl)
+  trace_decodes = trace_holds (λ l. true) (λ t. true) (λ b l. refl)
 
   -- F5: the last point
-  module _ (q : I32Point) where
-    pub last_no : (r : Refusal) → refused r ≡ trace_at o s i → false ≡ holds (λ l. same_point q (last_of l)) (chunk_points o s i)
-    last_no r e = holds_no (λ t. same_point q t.1) (trace_at o s i) r e ∙ trace_holds (λ l. same_point q (last_of l)) (λ t. same_point q t.1) (λ b l. refl)
-
-    pub last_ok : (inside : Bool) (p : I32Point) → ok (inside, p) ≡ trace_at o s i → (r : Bool) → r ≡ same_point q p → r ≡ holds (λ l. same_point q (last_of l)) (chunk_points o s i)
-    last_ok inside p e r h = holds_ok (λ t. same_point q t.1) (trace_at o s i) (inside, p) e r h ∙ trace_holds (λ l. same_point q (last_of l)) (λ t. same_point q t.1) (λ b l. refl)
+  pub trace_last : (q : I32Point) → holds (λ t. same_point q t.1) (trace_at o s i) ≡ holds (λ l. same_point q (last_of l)) (chunk_points o s i)
+  trace_last q = trace_holds (λ l. same_point q (last_of l)) (λ t. same_point q t.1) (λ b l. refl)

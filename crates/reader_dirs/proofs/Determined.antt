@@ -4,10 +4,9 @@ use mathlib.Core.Path.{sym, ◌∙◌}
 use Rattle.basics.specs.Determined.{Determined}
 use Rattle.reader_dirs.proofs.chunks.Reads as chunks-reads
 use Rattle.reader_dirs.proofs.groups.Reads as groups-reads
-use Rattle.answer.proofs.AnswersLaws.{checked_one}
 
 pub chunks : Determined chunks-reads.Learnt
-chunks κ a r r' e e' p q = checked_one r r' (p ∙ sym q)
+chunks κ a r r' e e' p q = p ∙ sym q
 
 pub groups : Determined groups-reads.Learnt
-groups κ a r r' e e' p q = checked_one r r' (p ∙ sym q)
+groups κ a r r' e e' p q = p ∙ sym q

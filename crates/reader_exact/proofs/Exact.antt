@@ -8,7 +8,7 @@ use borrow.Author.Tests.{lt-ltb}
 use Rattle.plane.specs.declared.I32Point.{I32Point}
 use Rattle.plane.specs.Segment.{seg}
 use Rattle.plane.specs.Domain.{in_domain}
-use Rattle.answer.specs.Answers.{ok}
+use Rattle.answer.specs.Answers.{Answer, ok}
 use Rattle.shapes.specs.Shapes.{zone_in}
 use Rattle.shapes.specs.Layout.{Named, Covered, Domain, zone_at}
 use Rattle.shapes.proofs.File.{float_file_exact, file_elsewhere}
@@ -58,7 +58,7 @@ module _ (o : Opened) (s : List ℕ) (k : Sound o s) where
     pub walk_exact : in_domain q ≡ true → zone_of o s (point_of q) i ≡ ok (zone_in (seg q) (zone_at (directories o s) i))
     walk_exact e = zone_walk_law o s k (point_of q) i h ∙ ap ok (float_file_exact (directories o s) sound_named c sound_domain q e i there)
 
-    elsewhere : in_domain q ≡ false → ok false ≡ ok (zone_in (seg q) (zone_at (directories o s) i))
+    elsewhere : in_domain q ≡ false → ◌≡◌ {A = Answer Bool} (ok false) (ok (zone_in (seg q) (zone_at (directories o s) i)))
     elsewhere e = ap ok (sym (file_elsewhere (directories o s) sound_named c sound_domain q e i there))
 
     -- and the question of scanners, at any point

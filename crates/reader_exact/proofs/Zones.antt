@@ -52,7 +52,7 @@ module _ (o : Opened) (s : List ℕ) (k : Sound o s) (p : Point) where
         )
         (either in_outer in_hole)
       where
-        either : (b c : Bool) → cond b (ok (cond c false true)) (ok false) ≡ ok (b && not c)
+        either : (b c : Bool) → ◌≡◌ {A = Answer Bool} (cond b (ok (cond c false true)) (ok false)) (ok (b && not c))
         either true true = refl
         either true false = refl
         either false c = refl
@@ -73,7 +73,7 @@ module _ (o : Opened) (s : List ℕ) (k : Sound o s) (p : Point) where
       in_some : Bool
       in_some = some (polygon_walk (float_tests p)) (run (polygon_at (directories o s)) (zone_record o s i).count (zone_record o s i).first)
 
-      yes : (b : Bool) → ok (cond b true false) ≡ ok b
+      yes : (b : Bool) → ◌≡◌ {A = Answer Bool} (ok (cond b true false)) (ok b)
       yes true = refl
       yes false = refl
 

@@ -2,13 +2,13 @@
 #![tactic(auto)]
 
 ghost use Rattle.std.specs.Prelude.{◌≡◌, ◌+◌, ◌*◌, ◌≤◌, ◌<◌, length};
-ghost use Rattle.answer.specs.Answers.{checked_told};
 ghost use Rattle.answer.specs.Checks.{each};
 ghost use Rattle.reader_grid.specs.Word.{word_count, word_offset, range_check};
 ghost use Rattle.reader_grid.specs.Grid.{last_of, dimensions, candidate_check, cell_check, grid_check};
 ghost use Rattle.opened.specs.Within.{Within};
 
-use answer::Checked;
+use answer::Answer;
+use fields::Number;
 use opened::{Grid, Section};
 
 // The last longitude or latitude.
@@ -28,30 +28,6 @@ fn dimensions(g: Grid) -> bool
         & (g.total < 0x1000_0000)
 }
 
-// 31, the j-th candidate from `at` on.
-fn zone_listed(s: &[u8], at: usize, zones: usize, j: usize) -> Checked
-    requires { (at + 2 * j + 2 ≤ length s.now) × (length s.now < 0x1_0000_0000) }
-    ensures { checked_told result ≡ candidate_check s.now at zones j }
-{
-    answer::claim(31, fields::half(s, at + 2 * j) < zones)
-}
-
-// 31, of n candidates from `at` on.
-fn zones_listed(s: &[u8], at: usize, zones: usize, n: usize) -> Checked
-    requires { (at + 2 * n ≤ length s.now) × (length s.now < 0x1_0000_0000) }
-    ensures { checked_told result ≡ each (candidate_check s.now at zones) n 0 }
-{
-    let mut j = 0;
-    while j < n {
-        let a = zone_listed(s, at, zones, j);
-        if let Checked::Refused(k) = a {
-            return Checked::Refused(k);
-        }
-        j += 1;
-    }
-    Checked::Fine
-}
-
 fn top(w: usize) -> usize
     ensures { result ≡ word_count w }
 {
@@ -65,40 +41,72 @@ fn low(w: usize) -> usize
 }
 
 // 30 of a cell's word.
-fn range(w: usize, total: usize) -> Checked
+#[tactic(auto, unfolding(crate::specs::Word::range_check, answer::specs::Checks::at_most))]
+fn range(w: usize, total: usize) -> Answer<()>
     requires { w < 0x1_0000_0000 }
-    ensures { checked_told result ≡ range_check w total }
+    ensures { result ≡ range_check w total }
 {
     answer::claim(30, low(w) + top(w) <= total)
 }
 
-// 30 and 31 of a cell. The cells stand from `at` on, the candidates from `cands` on.
-fn cell(s: &[u8], at: usize, cands: usize, total: usize, zones: usize, i: usize) -> Checked
-    requires { (at + 4 * i + 4 ≤ length s.now) × (cands + 2 * total ≤ length s.now) × (length s.now < 0x1_0000_0000) }
-    ensures { checked_told result ≡ cell_check s.now at cands total zones i }
-{
-    let w = fields::word(s, at + 4 * i);
-    let a = range(w, total);
-    if let Checked::Refused(k) = a {
-        return Checked::Refused(k);
-    }
-    zones_listed(s, cands + 2 * low(w), zones, top(w))
+// The cells of a GRID, which stand from `at` on, and behind them the candidates: how many of both there are, and how many zones.
+#[derive(Clone, Copy)]
+struct Cells<'a> {
+    s: &'a [u8],
+    at: usize,
+    count: usize,
+    total: usize,
+    zones: usize,
+    ghost fits: { at + 4 * count + 2 * total ≤ length s.now },
+    ghost small: { length s.now < 0x1_0000_0000 },
 }
 
-fn cells(s: &[u8], at: usize, n: usize, total: usize, zones: usize) -> Checked
-    requires { (at + 4 * n + 2 * total ≤ length s.now) × (length s.now < 0x1_0000_0000) }
-    ensures { checked_told result ≡ each (cell_check s.now at (at + 4 * n) total zones) n 0 }
-{
-    let cands = at + 4 * n;
-    let mut i = 0;
-    while i < n {
-        let a = cell(s, at, cands, total, zones, i);
-        if let Checked::Refused(k) = a {
-            return Checked::Refused(k);
-        }
-        i += 1;
+impl Cells<'_> {
+    // 31, the j-th candidate from place `from` on.
+    #[tactic(auto, unfolding(crate::specs::Grid::candidate_check, answer::specs::Checks::below))]
+    fn zone_listed(self, from: usize, j: usize) -> Answer<()>
+        requires { from + j < self.total }
+        ensures { result ≡ candidate_check self.entry.s.now (self.entry.at + 4 * self.entry.count + 2 * from) self.entry.zones j }
+    {
+        let cands = self.at + 4 * self.count;
+        answer::claim(
+            31,
+            (u16::at(self.s, cands + 2 * from + 2 * j) as usize) < self.zones,
+        )
     }
-    Checked::Fine
+
+    // 31, of n candidates.
+    #[tactic(auto, using(answer::proofs::CheckLaws::each_start, answer::proofs::CheckLaws::each_stop, answer::proofs::CheckLaws::each_fine, answer::proofs::CheckLaws::each_end))]
+    fn zones_listed(self, from: usize, n: usize) -> Answer<()>
+        requires { from + n ≤ self.total }
+        ensures { result ≡ each (candidate_check self.entry.s.now (self.entry.at + 4 * self.entry.count + 2 * from) self.entry.zones) n 0 }
+    {
+        for j in 0..n {
+            self.zone_listed(from, j)?;
+        }
+        Ok(())
+    }
+
+    // 30 and 31 of a cell.
+    #[tactic(auto, using(answer::proofs::CheckLaws::checks, crate::proofs::Checking::ranged), unfolding(crate::specs::Grid::cell_check))]
+    fn cell(self, i: usize) -> Answer<()>
+        requires { i < self.count }
+        ensures { result ≡ cell_check self.entry.s.now self.entry.at (self.entry.at + 4 * self.entry.count) self.entry.total self.entry.zones i }
+    {
+        let w = u32::at(self.s, self.at + 4 * i) as usize;
+        range(w, self.total)?;
+        self.zones_listed(low(w), top(w))
+    }
+
+    #[tactic(auto, using(answer::proofs::CheckLaws::each_start, answer::proofs::CheckLaws::each_stop, answer::proofs::CheckLaws::each_fine, answer::proofs::CheckLaws::each_end))]
+    fn all(self) -> Answer<()>
+        ensures { result ≡ each (cell_check self.entry.s.now self.entry.at (self.entry.at + 4 * self.entry.count) self.entry.total self.entry.zones) self.entry.count 0 }
+    {
+        for i in 0..self.count {
+            self.cell(i)?;
+        }
+        Ok(())
+    }
 }
 
 // How many cells there are.
@@ -109,24 +117,23 @@ pub fn area(cols: u16, rows: u16) -> usize
 }
 
 // 27 to 31, of a section and what its first bytes say.
-pub fn grid(s: &[u8], sec: Section, g: Grid, zones: usize) -> Checked
+#[tactic(auto, using(answer::proofs::CheckLaws::checks), unfolding(crate::specs::Grid::grid_check))]
+pub fn grid(s: &[u8], sec: Section, g: Grid, zones: usize) -> Answer<()>
     requires { Within s.now sec × (length s.now < 0x1_0000_0000) }
-    ensures { checked_told result ≡ grid_check s.now sec g zones }
+    ensures { result ≡ grid_check s.now sec g zones }
 {
-    let len = fields::wide(sec.len);
-    if len < 12 {
-        return answer::fail(27);
-    }
-    if !dimensions(g) {
-        return answer::fail(28);
-    }
-    let n = area(g.cols, g.rows);
-    let total = fields::wide(g.total);
-    if 12 + 4 * n + 2 * total != len {
-        return answer::fail(29);
-    }
-    let at = fields::wide(sec.off);
-    cells(s, at + 12, n, total, zones)
+    let len = sec.len as usize;
+    answer::claim(27, 12 <= len)?;
+    answer::claim(28, dimensions(g))?;
+    let count = area(g.cols, g.rows);
+    let total = g.total as usize;
+    answer::claim(29, 12 + 4 * count + 2 * total == len)?;
+    let cells = Cells {
+        s,
+        at: sec.off as usize + 12,
+        count,
+        total,
+        zones,
+    };
+    cells.all()
 }
-
-// ---- asking

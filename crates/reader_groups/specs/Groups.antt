@@ -4,7 +4,7 @@ use Rattle.std.specs.Prelude.{ℕ, zero, suc, ◌+◌, ◌-◌, Bool, cond, List
 use Rattle.plane.specs.declared.Point.{Point}
 use Rattle.plane.specs.declared.I32Point.{I32Point}
 use Rattle.answer.specs.Answers.{Answer, ◌then◌}
-use Rattle.answer.specs.Walks.{Walk, broken, on, off, ◌go◌, ◌yields◌, done}
+use Rattle.answer.specs.Walks.{Walk, off, ◌go◌, ◌yields◌, done}
 use Rattle.boxes.specs.Box.{relevant, right}
 use Rattle.rays.specs.Ray.{ray_of, parity_of}
 use Rattle.chunks.specs.Scan.{past}
@@ -13,18 +13,10 @@ use Rattle.reader_records.specs.declared.GroupRecord.{GroupRecord}
 use Rattle.reader_records.specs.declared.ChunkRecord.{ChunkRecord}
 use Rattle.reader_records.specs.Records.{chunk_at}
 use Rattle.reader_chunks.specs.Chunks.{start_of, end_of, first_in, scan_in}
-use Rattle.reader_groups.specs.declared.Went.{Went}
-use Rattle.reader_groups.specs.declared.Went.TheVariants as W
 
 -- a walk that hands nothing on
 abbrev pub One : Type 0
 One = Unit {0}
-
--- ---- what the enum of the code says
-abbrev pub went : Went → Walk One
-went (W.Refused r) = broken r
-went W.On = on
-went (W.Off b) = off b tt
 
 -- the first point of chunk i + 1, with record n
 unfoldable pub next_first : Opened → List ℕ → ℕ → ChunkRecord → Answer I32Point

@@ -1,6 +1,6 @@
 -- Nothing here need be believed: the code's own steps cite it, and no public promise does.
 -- Assumes nothing.
-use Rattle.std.specs.Prelude.{ℕ, ◌+◌, List, ◌≡◌}
+use Rattle.std.specs.Prelude.{ℕ, List, ◌≡◌, Option, Some, None}
 use Rattle.plane.specs.declared.Point.{Point}
 use Rattle.plane.specs.declared.I32Point.{I32Point}
 use Rattle.answer.specs.Answers.{Answer, ◌then◌, ok}
@@ -8,24 +8,19 @@ use Rattle.answer.specs.Walks.{Walk, broken, on, off, ◌go◌, done}
 use Rattle.opened.specs.declared.Opened.{Opened}
 use Rattle.reader_records.specs.declared.ChunkRecord.{ChunkRecord}
 use Rattle.reader_chunks.specs.Chunks.{start_of, end_of, first_in}
-use Rattle.reader_groups.specs.declared.Joined.{Joined}
-use Rattle.reader_groups.specs.declared.Joined.TheVariants as J
-use Rattle.reader_groups.specs.declared.Pass.{Pass}
-use Rattle.reader_groups.specs.declared.Pass.TheVariants as P
+use Rattle.reader_groups.specs.declared.reached.Reached.{Reached}
 use Rattle.reader_groups.specs.Groups.{One, pass_at}
-use Rattle.reader_groups.specs.declared.Known.{Known}
-use Rattle.reader_groups.specs.declared.Known.TheVariants as K
 
--- ---- what the enums of the code say
-abbrev pub joined : Joined → Walk One
-joined (J.Refused r) = broken r
-joined J.On = on
-joined (J.Off b k) = off b tt
+-- ---- what a walk hands on, dropped; of a chunk that it reaches, the record alone
+abbrev pub dropped : {A : Type 0} → Walk A → Walk One
+dropped (broken r) = broken r
+dropped on = on
+dropped (off b a) = off b tt
 
-abbrev pub passed : Pass → Walk ChunkRecord
-passed (P.Refused r) = broken r
-passed P.On = on
-passed (P.Off b v k) = off b v
+abbrev pub passed : Walk Reached → Walk ChunkRecord
+passed (broken r) = broken r
+passed on = on
+passed (off b c) = off b c.record
 
 -- past chunk i, with record v, which another follows, handing nothing on
 unfoldable pub pass_alone : Opened → List ℕ → Point → ℕ → ChunkRecord → Walk One
@@ -37,18 +32,18 @@ unfoldable pub own_first : Opened → List ℕ → ℕ → ChunkRecord → Answe
 own_first o s i v = end_of o s i then λ e. first_in s (start_of o v) e
 
 -- what is known of an answer
-abbrev pub Kept : Known → Answer I32Point → Type 0
-Kept K.Unread x = One
-Kept (K.Read q) x = ok q ≡ x
+abbrev pub Kept : Option I32Point → Answer I32Point → Type 0
+Kept None x = One
+Kept (Some q) x = ok q ≡ x
 
 -- what a chunk leaves known of x
-abbrev pub Leaves : Answer I32Point → Joined → Type 0
-Leaves x (J.Refused r) = One
-Leaves x J.On = One
-Leaves x (J.Off b k) = Kept k x
+abbrev pub Leaves : Answer I32Point → Walk (Option I32Point) → Type 0
+Leaves x (broken r) = One
+Leaves x on = One
+Leaves x (off b k) = Kept k x
 
--- what is known of the next chunk's first point, past chunk i
-abbrev pub Hands : Opened → List ℕ → ℕ → Pass → Type 0
-Hands o s i (P.Refused r) = One
-Hands o s i P.On = One
-Hands o s i (P.Off b v k) = Kept k (own_first o s (i + 1) v)
+-- the chunk reached is that one, and of its first point is known what reading would give
+abbrev pub Hands : Opened → List ℕ → ℕ → Walk Reached → Type 0
+Hands o s i (broken r) = One
+Hands o s i on = One
+Hands o s i (off b c) = (c.index ≡ i) × Kept c.first (own_first o s i c.record)

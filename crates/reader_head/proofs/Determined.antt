@@ -4,10 +4,9 @@ use mathlib.Core.Path.{sym, ◌∙◌}
 use Rattle.basics.specs.Determined.{Determined}
 use Rattle.reader_head.proofs.text_end.Reads as text-end-reads
 use Rattle.reader_head.proofs.head.Reads as head-reads
-use Rattle.answer.proofs.AnswersLaws.{checked_one}
 
 pub text_end : Determined text-end-reads.Learnt
 text_end κ a r r' e e' p q = p.0 ∙ sym q.0
 
 pub head : Determined head-reads.Learnt
-head κ a r r' e e' p q = checked_one r r' (p ∙ sym q)
+head κ a r r' e e' p q = p ∙ sym q

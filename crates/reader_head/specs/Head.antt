@@ -7,14 +7,18 @@ use Rattle.utf8.specs.Rfc3629.{utf8}
 use Rattle.checksum.specs.Crc32.{crc32}
 use Rattle.answer.specs.Answers.{Check}
 use Rattle.answer.specs.Checks.{claim, deny, first, seek, at_most, same}
-use Rattle.reader_head.specs.Magic.{starts_with, tzfb}
+use Rattle.std.specs.List.{starts_with}
+
+-- "TZFB"
+abbrev pub tzfb : List ℕ
+tzfb = 84 ∷ 90 ∷ 70 ∷ 66 ∷ []
 
 -- Size 68 to 4,294,967,295 (1). The first four bytes are "TZFB" and byte 4 is 1 (2). Byte 48: 0 goes on, 1 is 3, else 4.
 unfoldable pub start_check : List ℕ → Check
 start_check s =
     first
     (deny 1 (ltb (length s) 68 || ltb 4_294_967_295 (length s))
-    ∷ claim 2 (starts_with s tzfb)
+    ∷ claim 2 (starts_with eqb s tzfb)
     ∷ claim 2 (same (get_or s 4 0) 1)
     ∷ deny 3 (same (get_or s 48 0) 1)
     ∷ claim 4 (eqb (get_or s 48 0) 0)

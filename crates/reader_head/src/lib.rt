@@ -1,73 +1,49 @@
 // Opening, 1 to 11: the header, the table's bounds, the checksum.
 #![tactic(auto)]
 
-ghost use Rattle.std.specs.Prelude.{◌≡◌, ◌+◌, ◌-◌, ◌*◌, ◌≤◌, ◌<◌, length};
-ghost use Rattle.answer.specs.Answers.{checked_told};
+ghost use Rattle.std.specs.Prelude.{◌≡◌, ◌==◌, ◌+◌, ◌-◌, ◌≤◌, length};
+ghost use Rattle.std.specs.List.{position, list_all};
 ghost use Rattle.answer.specs.Checks.{seek};
-ghost use Rattle.reader_head.specs.Magic.{starts_with};
-ghost use Rattle.reader_head.specs.Head.{start_check, is_count, fields_check, version_check, bounds_check, head_check, is_zero, not_zero};
-ghost use Rattle.reader_head.specs.Steps.{Long};
+ghost use Rattle.reader_head.specs.Head.{start_check, is_count, fields_check, version_check, bounds_check, head_check, is_zero};
 
-use answer::Checked;
-
-fn starts_with(s: &[u8], t: &[u8]) -> bool
-    ensures { result ≡ starts_with s.now t.now }
-{
-    if s.len() < t.len() {
-        return false;
-    }
-    let mut i = 0;
-    while i < t.len() {
-        if s[i] != t[i] {
-            return false;
-        }
-        i += 1;
-    }
-    true
-}
+use answer::Answer;
+use fields::Number;
 
 // 1 to 4: size, magic and major, profile.
-fn start(s: &[u8]) -> Checked
-    ensures { checked_told result ≡ start_check s.now }
+#[tactic(auto, using(answer::proofs::CheckLaws::checks), unfolding(crate::specs::Head::start_check))]
+fn start(s: &[u8]) -> Answer<()>
+    ensures { result ≡ start_check s.now }
 {
     if (s.len() < 68) | (s.len() > 0xffff_ffff) {
         return answer::fail(1);
     }
-    if !starts_with(s, b"TZFB") {
-        return answer::fail(2);
+    answer::claim(2, s.starts_with(b"TZFB"))?;
+    answer::claim(2, s[4] == 1)?;
+    match s[48] {
+        0 => Ok(()),
+        1 => answer::fail(3),
+        _ => answer::fail(4),
     }
-    if s[4] != 1 {
-        return answer::fail(2);
-    }
-    let profile = s[48];
-    if profile == 1 {
-        return answer::fail(3);
-    }
-    answer::claim(4, profile == 0)
 }
 
 // From 1 to 65,535.
-fn is_count(n: usize) -> bool
+#[tactic(auto, unfolding(crate::specs::Head::is_count))]
+fn is_count(n: u32) -> bool
     ensures { result ≡ is_count n }
 {
     (1 <= n) & (n <= 65_535)
 }
 
-// 5 to 7: header fields, zone count, chunk target.
-fn fields(s: &[u8]) -> Checked
-    requires { Long s.now }
-    ensures { checked_told result ≡ fields_check s.now }
+fn first_zero(s: &[u8]) -> Option<usize>
+    ensures { result ≡ position (λ b. b == 0) s.now }
 {
-    let size = s.len();
-    if (fields::half(s, 6) != 64)
-        | ((fields::word(s, 12) != 100_000) | (fields::word(s, 16) != size))
-    {
-        return answer::fail(5);
-    }
-    if !is_count(fields::word(s, 40)) {
-        return answer::fail(6);
-    }
-    answer::claim(7, is_count(fields::word(s, 44)))
+    s.iter().position(|b| *b == 0)
+}
+
+fn all_zero(s: &[u8]) -> bool
+    ensures { result ≡ list_all (λ b. b == 0) s.now }
+{
+    s.iter().all(|b| *b == 0)
 }
 
 // The first of the places from `from` on, and before `to`, at which a zero stands.
@@ -75,76 +51,62 @@ pub fn text_end(s: &[u8], from: usize, to: usize) -> usize
     requires { (from ≤ to) × (to ≤ length s.now) }
     ensures { (result ≡ seek (is_zero s.now) (to - from) from) × (from ≤ result) × (result ≤ to) }
 {
-    let mut i = from;
-    while i < to {
-        if s[i] == 0 {
-            return i;
+    match first_zero(&s[from..to]) {
+        Some(k) => from + k,
+        None => to,
+    }
+}
+
+// A file with as many bytes as a header and a sum take.
+#[derive(Clone, Copy)]
+struct Header<'a> {
+    s: &'a [u8],
+    ghost long: { 68 ≤ length s.now },
+}
+
+impl Header<'_> {
+    // 5 to 7: header fields, zone count, chunk target.
+    #[tactic(auto, using(answer::proofs::CheckLaws::checks), unfolding(crate::specs::Head::fields_check))]
+    fn fields(self) -> Answer<()>
+        ensures { result ≡ fields_check self.entry.s.now }
+    {
+        if (u16::at(self.s, 6) != 64)
+            | ((u32::at(self.s, 12) != 100_000) | (u32::at(self.s, 16) as usize != self.s.len()))
+        {
+            return answer::fail(5);
         }
-        i += 1;
+        answer::claim(6, is_count(u32::at(self.s, 40)))?;
+        answer::claim(7, is_count(u32::at(self.s, 44)))
     }
-    i
-}
 
-// The same for what is no zero.
-fn zeros_end(s: &[u8], from: usize, to: usize) -> usize
-    requires { (from ≤ to) × (to ≤ length s.now) }
-    ensures { result ≡ seek (not_zero s.now) (to - from) from }
-{
-    let mut i = from;
-    while i < to {
-        if s[i] != 0 {
-            return i;
-        }
-        i += 1;
+    // 8 and 9: version padding, version UTF-8.
+    fn version(self) -> Answer<()>
+        ensures { result ≡ version_check self.entry.s.now }
+    {
+        let e = text_end(self.s, 24, 40);
+        answer::claim(8, all_zero(&self.s[e..40]))?;
+        answer::claim(9, utf8::utf8_ok(&self.s[24..e]))
     }
-    i
-}
 
-// 8 and 9: version padding, version UTF-8.
-fn version(s: &[u8]) -> Checked
-    requires { Long s.now }
-    ensures { checked_told result ≡ version_check s.now }
-{
-    let e = text_end(s, 24, 40);
-    if zeros_end(s, e, 40) != 40 {
-        return answer::fail(8);
+    // 10 and 11: section table bounds, CRC-32.
+    #[tactic(auto, using(answer::proofs::CheckLaws::checks), unfolding(crate::specs::Head::bounds_check))]
+    fn bounds(self) -> Answer<()>
+        ensures { result ≡ bounds_check self.entry.s.now }
+    {
+        let end = self.s.len() - 4;
+        answer::claim(10, 64 + 16 * u32::at(self.s, 20) as usize <= end)?;
+        answer::claim(11, crc::crc32_ieee(&self.s[..end]) == u32::at(self.s, end))
     }
-    if !utf8::utf8_ok(&s[24..e]) {
-        return answer::fail(9);
-    }
-    Checked::Fine
-}
-
-// 10 and 11: section table bounds, CRC-32.
-fn bounds(s: &[u8]) -> Checked
-    requires { Long s.now }
-    ensures { checked_told result ≡ bounds_check s.now }
-{
-    let end = s.len() - 4;
-    if end < 64 + 16 * fields::word(s, 20) {
-        return answer::fail(10);
-    }
-    if crc::crc32_ieee(&s[..end]) != fields::u32_at(s, end) {
-        return answer::fail(11);
-    }
-    Checked::Fine
 }
 
 // 1 to 11.
-pub fn head(s: &[u8]) -> Checked
-    ensures { checked_told result ≡ head_check s.now }
+#[tactic(auto, using(answer::proofs::CheckLaws::checks, crate::proofs::HeadLaws::started), unfolding(crate::specs::Head::head_check))]
+pub fn head(s: &[u8]) -> Answer<()>
+    ensures { result ≡ head_check s.now }
 {
-    let a = start(s);
-    if let Checked::Refused(k) = a {
-        return Checked::Refused(k);
-    }
-    let b = fields(s);
-    if let Checked::Refused(k) = b {
-        return Checked::Refused(k);
-    }
-    let v = version(s);
-    if let Checked::Refused(k) = v {
-        return Checked::Refused(k);
-    }
-    bounds(s)
+    start(s)?;
+    let header = Header { s };
+    header.fields()?;
+    header.version()?;
+    header.bounds()
 }

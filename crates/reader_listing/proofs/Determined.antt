@@ -1,4 +1,4 @@
--- Any two answers that a promise allows are equal, and so is the lent memory: stated over the contracts themselves. Two values of an enum that tell the same are the same.
+-- Any two answers that a promise allows are equal, and so is the lent memory: stated over the contracts themselves.
 -- Assumes nothing.
 use mathlib.Core.Path.{sym, ◌∙◌}
 use Rattle.basics.specs.Determined.{Determined, DeterminedMemory}
@@ -6,25 +6,24 @@ use Rattle.reader_listing.proofs.list_in.Reads as list-in-reads
 use Rattle.reader_listing.proofs.lookup_into_by.Reads as lookup-into-by-reads
 use Rattle.reader_listing.proofs.lookup_into.Reads as lookup-into-reads
 use Rattle.reader_listing.proofs.count_into_by.Reads as count-into-by-reads
-use Rattle.replies.proofs.One.{one_listing}
 
 pub list_in_law : Determined list-in-reads.Learnt
-list_in_law κ a r r' e e' p q = one_listing r r' _ p.0 q.0
+list_in_law κ a r r' e e' p q = p.0 ∙ sym q.0
 
 pub lookup_into_by : Determined lookup-into-by-reads.Learnt
-lookup_into_by κ a r r' e e' p q = one_listing r r' _ p.0 q.0
+lookup_into_by κ a r r' e e' p q = p.0 ∙ sym q.0
 
 pub lookup_into : Determined lookup-into-reads.Learnt
-lookup_into κ a r r' e e' p q = one_listing r r' _ p.0 q.0
+lookup_into κ a r r' e e' p q = p.0 ∙ sym q.0
 
 pub count_into_by : Determined count-into-by-reads.Learnt
-count_into_by κ a r r' e e' p q = one_listing r r' _ p q
+count_into_by κ a r r' e e' p q = p ∙ sym q
 
 -- the lent zones at exit
-pub list_in_memory : DeterminedMemory list-in-reads.Learnt (λ κ e. e.1.1.1.1.1.1.1.1.0.now)
+pub list_in_memory : DeterminedMemory list-in-reads.Learnt (λ κ e. e.1.1.1.1.1.0.now)
 list_in_memory κ a r r' e e' p q = p.1 ∙ sym q.1
 
-pub lookup_into_by_memory : DeterminedMemory lookup-into-by-reads.Learnt (λ κ e. e.1.1.1.1.1.1.0.now)
+pub lookup_into_by_memory : DeterminedMemory lookup-into-by-reads.Learnt (λ κ e. e.1.1.1.1.1.0.now)
 lookup_into_by_memory κ a r r' e e' p q = p.1 ∙ sym q.1
 
 pub lookup_into_memory : DeterminedMemory lookup-into-reads.Learnt (λ κ e. e.1.1.1.1.0.now)

@@ -1,6 +1,5 @@
 -- Laws of the list, and that answers are determined.
 pub mod AllLaws
-pub mod Named
 pub mod Gathered
 pub mod Placed
 pub mod Meaning

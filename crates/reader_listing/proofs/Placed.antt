@@ -3,13 +3,17 @@
 use Prim.Native.Nat.{ℕ, zero, suc, ◌+◌, ◌≤◌, ◌<◌}
 use native.Mathlib.Omega.{arith}
 use mathlib.Core.Path.{◌≡◌, refl, sym, ap, ap₂, ◌∙◌}
-use mathlib.Core.List.{List, ◌++◌}
-use lib.ListN.{length, take, drop}
-use lib.Seq.{sets, sets-eq, length-sets, take_at, drop_at}
+use mathlib.Core.List.{List, ◌++◌, append-nil}
+use lib.ListN.{length, take, drop, drop_of_length-le}
+use lib.Seq.{sets, sets-eq, length-sets, take_at}
 use Rattle.answer.specs.declared.Refusal.{Refusal}
 use Rattle.answer.specs.Answers.{Answer, ok, refused, no, ◌then◌, ◌before◌, Check, fine, how_many, left}
-use Rattle.answer.specs.Checks.{and_then}
-use Rattle.answer.proofs.CheckLaws.{le_at, gt_at}
+use Rattle.answer.specs.Refusals.{refusal}
+use Rattle.answer.specs.Checks.{and_then, claim}
+use Rattle.answer.proofs.CheckLaws.{le_at, gt_at, fine_claim}
+use borrow.Author.Tests.{leb-true, leb-false}
+use lib.Dec.{leb}
+use mathlib.Core.Bool.{Bool, true, false}
 use Rattle.opened.specs.declared.Opened.{Opened}
 use Rattle.reader_named.specs.Asked.{name_or}
 use Rattle.reader_order.specs.Order.{ordered}
@@ -36,25 +40,36 @@ seen_all hit (suc n) i l e =
     ∙ sym (ok_inv _ _ g.2)
 
 -- ---- the places
+-- what a claim of a test says
+pub claim_yes : (n a b : ℕ) → fine ≡ claim n (leb a b) → a ≤ b
+claim_yes n a b e = leb-true a b (fine_claim n (leb a b) (sym e))
+
+pub claim_no : (n a b : ℕ) (r : Refusal) → ◌≡◌ {A = Check} (refused r) (claim n (leb a b)) → (b < a) × (r ≡ refusal n)
+unfolding claim
+claim_no n a b r e = go (leb a b) refl e
+  where
+    go : (t : Bool) → leb a b ≡ t → ◌≡◌ {A = Check} (refused r) (claim n t) → (b < a) × (r ≡ refusal n)
+    go true h e = let z : ◌≡◌ {A = ℕ} 0 1 = cc in absurd (zero_one z)
+    go false h e = (leb-false a b h, inside e)
+      where
+        inside : ◌≡◌ {A = Check} (refused r) (refused (refusal n)) → r ≡ refusal n
+        inside e = cc
+
 pub kept_by : (zones held : List ℕ) (k m : ℕ) → Kept zones held k → m ≡ k → Kept zones held m
 kept_by zones held k m h e = record { count = e ∙ h.count; kept = λ g. ap (λ (j : ℕ). take j held) e ∙ h.kept (omega arith) }
 
-module _ (zones held : List ℕ) (k : ℕ) (h : Kept zones held k) (out next : List ℕ) where
-  pub from_held : k ≤ length held → next ≡ take k held ++ drop k out → next ≡ zones ++ drop k out
-  from_held g e = e ∙ ap (λ (l : List ℕ). l ++ drop k out) (h.kept g)
-
-  pub from_again : k ≤ length out → next ≡ sets out 0 zones → next ≡ zones ++ drop k out
-  from_again g e =
-      let n : 0 + length zones ≡ k = omega (arith, h.count) in
-      e ∙ sets-eq zones out 0 (omega (arith, h.count)) ∙ ap (λ (j : ℕ). zones ++ drop j out) n
+pub from_again : (zones held out next : List ℕ) → Kept zones held (length out) → next ≡ sets out 0 zones → next ≡ zones
+from_again zones held out next h e =
+    let n : 0 + length zones ≡ length out = omega (arith, h.count) in
+    e ∙ sets-eq zones out 0 (omega (arith, h.count)) ∙ ap (λ (l : List ℕ). zones ++ l) (drop_of_length-le out (omega (arith, n))) ∙ append-nil zones
 
 -- 46, or as many as there are, into that many places
-module _ (zones : List ℕ) (k : ℕ) (h : k ≡ length zones) (o : Opened) (s : List ℕ) (places m : ℕ) (e : m ≡ k) where
-  pub place_short : places < m → no 46 ≡ placed o s places zones
+module _ (zones : List ℕ) (k : ℕ) (h : k ≡ length zones) (o : Opened) (s : List ℕ) (places : ℕ) where
+  pub place_short : places < k → no 46 ≡ placed o s places zones
   unfolding placed
   place_short g = need_not 46 _ _ (gt_at (length zones) places (omega arith))
 
-  module _ (g : m ≤ places) where
+  module _ (g : k ≤ places) where
     pub place_done : ok (ordered (name_or o s) zones) ≡ placed o s places zones
     unfolding placed
     place_done = need_met 46 _ _ (le_at (length zones) places (omega arith))
@@ -62,15 +77,13 @@ module _ (zones : List ℕ) (k : ℕ) (h : k ≡ length zones) (o : Opened) (s :
     pub place_count : ok k ≡ how_many (placed o s places zones)
     place_count = ap ok (h ∙ sym (same_length (name_or o s) zones)) ∙ ap how_many place_done
 
--- in the order of the names: the zones in candidate order in front of what was there; then the first m in order
-pub place_memory : (zones : List ℕ) (k : ℕ) → k ≡ length zones → (o : Opened) (s out : List ℕ) (m : ℕ) → m ≡ k → m ≤ length out
-    → (next : List ℕ) → next ≡ zones ++ drop m out → (front : List ℕ) → front ≡ ordered (name_or o s) (take m next) → front ++ drop m next ≡ left out (placed o s (length out) zones)
-place_memory zones k h o s out m e g next w front f =
-    let c : length zones ≡ m = sym h ∙ sym e in
+-- in the order of the names, in front of what lies behind
+pub place_memory : (zones : List ℕ) (k : ℕ) → k ≡ length zones → (o : Opened) (s out : List ℕ) → k ≤ length out
+    → (next front : List ℕ) → next ≡ zones → front ≡ ordered (name_or o s) next → front ++ drop k out ≡ left out (placed o s (length out) zones)
+place_memory zones k h o s out g next front w f =
     let name = name_or o s in
-    ap₂ (λ (a b : List ℕ). a ++ b) (f ∙ ap (ordered name) (ap (take m) w ∙ take_at zones (drop m out) m c)) (ap (drop m) w ∙ drop_at zones (drop m out) m c)
-    ∙ ap (λ (j : ℕ). ordered name zones ++ drop j out) (sym c ∙ sym (same_length name zones))
-    ∙ ap (left out) (place_done zones k h o s (length out) m e g)
+    ap₂ (λ (a : List ℕ) (j : ℕ). a ++ drop j out) (f ∙ ap (ordered name) w) (h ∙ sym (same_length name zones))
+    ∙ ap (left out) (place_done zones k h o s (length out) g)
 
 -- ---- the list
 module _ (o : Opened) (s : List ℕ) (hit : ℕ → Answer Sought) (n from : ℕ) where
@@ -112,12 +125,12 @@ module _ (o : Opened) (s : List ℕ) (hit : ℕ → Answer Sought) (n from : ℕ
     list_is places = rw (← zones_are.0, zones_are.1)
 
     -- how many they are, in that many places
-    module _ (places m : ℕ) (e : m ≡ k) where
-      pub list_short : places < m → no 46 ≡ how_many (all_hits hit n from then list_for o s places)
-      list_short g = ap how_many (place_short (seen hit n from) k zones_are.2 o s places m e g ∙ list_is places)
+    module _ (places : ℕ) where
+      pub list_short : places < k → no 46 ≡ how_many (all_hits hit n from then list_for o s places)
+      list_short g = ap how_many (place_short (seen hit n from) k zones_are.2 o s places g ∙ list_is places)
 
-      pub list_count : m ≤ places → ok k ≡ how_many (all_hits hit n from then list_for o s places)
-      list_count g = place_count (seen hit n from) k zones_are.2 o s places m e g ∙ ap how_many (list_is places)
+      pub list_count : k ≤ places → ok k ≡ how_many (all_hits hit n from then list_for o s places)
+      list_count g = place_count (seen hit n from) k zones_are.2 o s places g ∙ ap how_many (list_is places)
 
     pub list_kept : (held₀ held : List ℕ) → held ≡ sets held₀ 0 (seen hit n from) → Kept (seen hit n from) held k
     list_kept held₀ held e = record { count = zones_are.2; kept = kept }

@@ -2,15 +2,23 @@
 #![tactic(auto)]
 
 ghost use Rattle.std.specs.Prelude.{◌≡◌, ◌+◌, ◌<◌};
-ghost use Rattle.reader_lookup.specs.Asking.{scaled, candidate_of, hit_at, first_hit, unlooked, lookup_among, lookup_by, lookup_of};
-ghost use Rattle.answer.specs.Answers.{ok, ◌then◌, left};
-ghost use Rattle.reader_cells.specs.Asked.{candidate_at};
+ghost use Rattle.reader_lookup.specs.Asking.{scaled, hit_at, first_hit, unlooked, lookup_by, lookup_of};
 ghost use Rattle.reader_ways.specs.Ways.{way_of};
-ghost use Rattle.replies.specs.Replies.{found_told, in_zone, candidate_told, listed};
 
+use answer::Answer;
 use opened::Opened;
 use plane::Point;
-use replies::{Candidate, Choice, Found, Verdict};
+use reader_ways::Way;
+use replies::Choice;
+
+// Candidates in a row: of the candidate list, or all zones in order. How many, and the place of the first.
+#[derive(Clone, Copy)]
+pub struct Candidates {
+    pub grid: bool,
+    pub count: u32,
+    pub from: u32,
+    ghost fits: { from + count < 0x1_0000_0000 },
+}
 
 // A position in hundred-thousandths of a degree.
 pub fn scaled_at(lng: f64, lat: f64) -> Point
@@ -31,122 +39,70 @@ fn is_unlooked(o: Opened, n: u32, lng: f64, lat: f64) -> bool
             & (((-179.0 < lng) & (lng < 179.0)) & ((-89.0 < lat) & (lat < 89.0))))
 }
 
-// The candidate at a place.
-fn candidate(o: Opened, s: &[u8], grid: bool, place: u32) -> Candidate
-    ensures { candidate_told result ≡ candidate_of o s.now grid place }
-{
-    if grid {
-        return reader_cells::candidate_at(o, s, place);
-    }
-    Candidate::Zone(place)
-}
-
 // The candidate at a place, where it contains the point.
+// kept: the flag stands beside the place as in the definition `hit_at`, which the demands cite.
+#[tactic(auto, unfolding(crate::specs::Asking::hit_at, crate::specs::Asking::candidate_of))]
 pub fn hit_at(
-    striped: bool,
-    numbers: &[u32],
+    way: Way<'_>,
     o: Opened,
     s: &[u8],
     p: Point,
     grid: bool,
     place: u32,
-) -> Found
-    ensures { found_told result ≡ hit_at (way_of striped numbers.now) o s.now p grid place }
+) -> Answer<Option<u32>>
+    ensures { result ≡ hit_at (way_of way.entry) o s.now p grid place }
 {
-    let c = candidate(o, s, grid, place);
-    match c {
-        Candidate::Refused(k) => Found::Refused(k),
-        Candidate::Zone(zone) => {
-            let v = reader_zones::timezone_contains(striped, numbers, o, s, p, fields::wide(zone));
-            match v {
-                Verdict::Refused(k) => Found::Refused(k),
-                Verdict::Is(b) => { if b { Found::Zone(zone) } else { Found::None } }
-            }
+    let zone = if grid {
+        reader_cells::candidate_at(o, s, place)?
+    } else {
+        place
+    };
+    let b = reader_zones::timezone_contains(way, o, s, p, zone as usize)?;
+    if b { Ok(Some(zone)) } else { Ok(None) }
+}
+
+// The first of the candidates that contains the point.
+#[tactic(auto, using(crate::proofs::AskingLaws::first_start, crate::proofs::AskingLaws::first_no, crate::proofs::AskingLaws::first_yes, crate::proofs::AskingLaws::first_on, crate::proofs::AskingLaws::first_end))]
+fn first_in(way: Way<'_>, o: Opened, s: &[u8], p: Point, c: Candidates) -> Answer<Option<u32>>
+    ensures { result ≡ first_hit (hit_at (way_of way.entry) o s.now p c.grid) c.count c.from }
+{
+    for place in c.from..c.from + c.count {
+        if let Some(zone) = hit_at(way, o, s, p, c.grid, place)? {
+            return Ok(Some(zone));
         }
     }
-}
-
-// The first of n candidates from a place on that contains the point.
-fn first_in(
-    striped: bool,
-    numbers: &[u32],
-    o: Opened,
-    s: &[u8],
-    p: Point,
-    grid: bool,
-    n: u32,
-    from: u32,
-) -> Found
-    requires { from + n < 0x1_0000_0000 }
-    ensures { found_told result ≡ first_hit (hit_at (way_of striped numbers.now) o s.now p grid) n from }
-{
-    let mut place = from;
-    let mut left = n;
-    while 0 < left {
-        let h = hit_at(striped, numbers, o, s, p, grid, place);
-        match h {
-            Found::None => {}
-            Found::Zone(zone) => {
-                return Found::Zone(zone);
-            }
-            Found::Refused(k) => {
-                return Found::Refused(k);
-            }
-        }
-        place += 1;
-        left -= 1;
-    }
-    Found::None
-}
-
-// One candidate unlooked-at.
-fn zone_listed(o: Opened, s: &[u8], place: u32) -> Found
-    ensures { found_told result ≡ (candidate_at o s.now place then λ zone. ok (in_zone zone)) }
-{
-    let c = reader_cells::candidate_at(o, s, place);
-    match c {
-        Candidate::Zone(zone) => Found::Zone(zone),
-        Candidate::Refused(k) => Found::Refused(k),
-    }
-}
-
-// Among n listed candidates from a place on: unlooked-at, or the first that contains the point.
-fn lookup_listed(
-    striped: bool,
-    numbers: &[u32],
-    o: Opened,
-    s: &[u8],
-    lng: f64,
-    lat: f64,
-    n: u32,
-    place: u32,
-) -> Found
-    requires { place + n < 0x1_0000_0000 }
-    ensures { found_told result ≡ lookup_among (way_of striped numbers.now) o s.now lng lat (listed n place) }
-{
-    if is_unlooked(o, n, lng, lat) {
-        return zone_listed(o, s, place);
-    }
-    first_in(striped, numbers, o, s, scaled_at(lng, lat), true, n, place)
+    Ok(None)
 }
 
 // The zone that a position lies in.
-pub fn lookup_by(striped: bool, numbers: &[u32], o: Opened, s: &[u8], lng: f64, lat: f64) -> Found
-    ensures { found_told result ≡ lookup_by (way_of striped numbers.now) o s.now lng lat }
+#[tactic(auto, unfolding(crate::specs::Asking::lookup_by, crate::specs::Asking::lookup_among))]
+pub fn lookup_by(way: Way<'_>, o: Opened, s: &[u8], lng: f64, lat: f64) -> Answer<Option<u32>>
+    ensures { result ≡ lookup_by (way_of way.entry) o s.now lng lat }
 {
-    let c = reader_cells::candidates(o, s, lng, lat);
-    match c {
-        Choice::None => Found::None,
-        Choice::All(n) => first_in(striped, numbers, o, s, scaled_at(lng, lat), false, n, 0),
-        Choice::Listed(n, place) => lookup_listed(striped, numbers, o, s, lng, lat, n, place),
-        Choice::Refused(k) => Found::Refused(k),
-    }
+    let c = match reader_cells::candidates(o, s, lng, lat)? {
+        Choice::None => return Ok(None),
+        Choice::All(count) => Candidates {
+            grid: false,
+            count,
+            from: 0,
+        },
+        Choice::Listed(count, from) => {
+            if is_unlooked(o, count, lng, lat) {
+                return Ok(Some(reader_cells::candidate_at(o, s, from)?));
+            }
+            Candidates {
+                grid: true,
+                count,
+                from,
+            }
+        }
+    };
+    first_in(way, o, s, scaled_at(lng, lat), c)
 }
 
 // The same by the plain walk.
-pub fn lookup(o: Opened, s: &[u8], lng: f64, lat: f64) -> Found
-    ensures { found_told result ≡ lookup_of o s.now lng lat }
+pub fn lookup(o: Opened, s: &[u8], lng: f64, lat: f64) -> Answer<Option<u32>>
+    ensures { result ≡ lookup_of o s.now lng lat }
 {
-    let none = [0u32; 0];
-    lookup_by(false, &none, o, s, lng, lat)
+    lookup_by(Way::Plain, o, s, lng, lat)
 }

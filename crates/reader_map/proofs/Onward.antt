@@ -3,7 +3,7 @@
 use Prim.Native.Nat.{ℕ, zero, suc, ◌+◌, ◌-◌, ◌*◌, ◌≤◌, ◌<◌}
 use native.Mathlib.Nat.{suc-mul}
 use native.Mathlib.Omega.{arith}
-use mathlib.Core.Path.{◌≡◌, refl, sym, ap, ap₂, ◌∙◌}
+use mathlib.Core.Path.{◌≡◌, refl, sym, ap, ap₂, ◌∙◌, subst}
 use mathlib.Core.Bool.{Bool, true, false, ◌&&◌, false≢true}
 use mathlib.Core.List.{List, [], ◌∷◌, ◌++◌}
 use lib.ListN.{length}
@@ -53,6 +53,10 @@ module _ {fits : Bool} {text : List ℕ} {most at : ℕ} {before after : List �
       record { told = ap refused e ∙ need_not 48 fits (ok (at + length text)) f; laid = λ g. absurd (false≢true (sym f ∙ g)); short = λ g. absurd (false≢true (sym f ∙ g)) }
 
   module _ {r : Answer ℕ} (d : DrawnAs fits text most at r before after) where
+    -- the same answer, told otherwise
+    pub drawn_same : {x : Answer ℕ} → x ≡ r → DrawnAs fits text most at x before after
+    drawn_same e = record { told = e ∙ d.told; laid = d.laid; short = d.short }
+
     -- a place is answered: all of it stands there
     pub drawn_was : (e : ℕ) → r ≡ ok e → (fits ≡ true) × Written before at text e after × (length text ≤ most)
     drawn_was e h =
@@ -102,6 +106,10 @@ less_room each at q (suc n) all h k l = let e : suc n - 1 ≡ n = omega arith in
 module _ {A : Type 0} {P : A → Bool} {g : ℕ → A} {text : ℕ → List ℕ} {each : ℕ} {count first from : ℕ} {before : List ℕ} where
   pub row_start : Row P g text each count first from before 91 count first from before
   row_start = record { going = record { laid = refl; ends = refl }; fits = refl; room = omega arith; place = refl; same = refl }
+
+  -- the same number of elements, told otherwise
+  pub row_along : {m n n' i at : ℕ} {out : List ℕ} → Row P g text each count first from before m n i at out → n ≡ n' → Row P g text each count first from before m n' i at out
+  row_along {m} {i = i} {at = at} {out = out} row e = subst (λ (x : ℕ). Row P g text each count first from before m x i at out) e row
 
   module _ {m n i at : ℕ} {out : List ℕ} (row : Row P g text each count first from before m n i at out) where
     module _ (h : 0 < n) where

@@ -3,19 +3,12 @@
 -- Asked only after the full check has accepted the file: its refusals are given before anything here is asked.
 -- Assumes nothing.
 use Rattle.std.specs.Prelude.{ℕ, List, length, leb, ltb}
-use Rattle.answer.specs.Answers.{Answer, ok, refused, ◌then◌, need}
+use Rattle.answer.specs.Answers.{Answer, ok, ◌then◌, need}
 use Rattle.shapes.specs.Layout.{zone_at}
 use Rattle.shapes.specs.Outline.{outlines, zone_drawable}
 use Rattle.geojson.specs.Text.{map_text}
 use Rattle.opened.specs.declared.Opened.{Opened}
 use Rattle.directories.specs.Directories.{directories}
-use Rattle.reader_map.specs.declared.Text.{Text}
-use Rattle.reader_map.specs.declared.Text.TheVariants as T
-
--- what each case of the code's enum tells: how many bytes the text takes, or a refusal
-abbrev pub text_told : Text → Answer ℕ
-text_told (T.Long n) = ok n
-text_told (T.Refused k) = refused k
 
 -- 45, then 48, then the text
 unfoldable pub zone_text : Opened → List ℕ → ℕ → Answer (List ℕ)

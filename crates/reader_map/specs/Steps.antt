@@ -24,12 +24,12 @@ pub record DrawnAs (fits : Bool) (text : List ℕ) (most : ℕ) (at : ℕ) (r : 
   pub laid : fits ≡ true → after ≡ over before at text
   pub short : fits ≡ true → length text ≤ most
 
--- ---- a ring: positions one way round or the other, one of them by what is left, and its text
+-- ---- a ring: positions one way round or the other, the place of the i-th of k, and its text
 unfoldable pub way : Bool → List I32Point → List I32Point
 way back l = cond back (reverse l) l
 
 abbrev pub spot_of : Bool → ℕ → ℕ → ℕ
-spot_of back k left = cond back (left - 1) (k - left)
+spot_of back k i = cond back (k - 1 - i) i
 
 unfoldable pub spot_text : List I32Point → ℕ → List ℕ
 spot_text l i = position_text (get_or l i origin)

@@ -8,7 +8,6 @@ use Rattle.basics.specs.Determined.{Determined}
 use Rattle.reader_named.proofs.name_bounds.Reads as name-bounds-reads
 use Rattle.reader_named.proofs.name.Reads as name-reads
 use Rattle.reader_named.proofs.name_refusal.Reads as name-refusal-reads
-use Rattle.replies.proofs.One.{one_bounds}
 
 -- the same for a promise whose answer is lent: any two that it allows are the same bytes at the same place in memory. (Of a reference the logic also has a name, by which proofs follow it; no code sees it.)
 abbrev pub SamePart : {K : Type 0} {A E : K → Type 0} → ((κ : K) → A κ → Bor (List ℕ) → E κ → Type 0) → Type 0
@@ -21,4 +20,4 @@ pub name_refusal : Determined name-refusal-reads.Learnt
 name_refusal κ a r r' e e' p q = p ∙ sym q
 
 pub name_bounds : Determined name-bounds-reads.Learnt
-name_bounds κ a r r' e e' p q = one_bounds r r' _ p q
+name_bounds κ a r r' e e' p q = p ∙ sym q

@@ -3,7 +3,6 @@
 use mathlib.Core.Path.{sym, ◌∙◌}
 use Rattle.basics.specs.Determined.{Determined}
 use Rattle.reader_names.proofs.names.Reads as names-reads
-use Rattle.answer.proofs.AnswersLaws.{checked_one}
 
 pub names : Determined names-reads.Learnt
-names κ a r r' e e' p q = checked_one r r' (p ∙ sym q)
+names κ a r r' e e' p q = p ∙ sym q

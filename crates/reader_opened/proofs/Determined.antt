@@ -10,22 +10,21 @@ use Rattle.reader_opened.proofs.counts.Reads as counts-reads
 use Rattle.reader_opened.proofs.grid_of.Reads as grid-of-reads
 use Rattle.reader_opened.proofs.read_sections.Reads as read-sections-reads
 use Rattle.reader_opened.proofs.opened_of.Reads as opened-of-reads
-use Rattle.answer.proofs.AnswersLaws.{checked_one}
 
 pub present : Determined present-reads.Learnt
-present κ a r r' e e' p q = checked_one r r' (p ∙ sym q)
+present κ a r r' e e' p q = p ∙ sym q
 
 pub flag : Determined flag-reads.Learnt
-flag κ a r r' e e' p q = checked_one r r' (p ∙ sym q)
+flag κ a r r' e e' p q = p ∙ sym q
 
 pub zone_length : Determined zone-length-reads.Learnt
-zone_length κ a r r' e e' p q = checked_one r r' (p ∙ sym q)
+zone_length κ a r r' e e' p q = p ∙ sym q
 
 pub lengths : Determined lengths-reads.Learnt
-lengths κ a r r' e e' p q = checked_one r r' (p ∙ sym q)
+lengths κ a r r' e e' p q = p ∙ sym q
 
 pub counts : Determined counts-reads.Learnt
-counts κ a r r' e e' p q = checked_one r r' (p ∙ sym q)
+counts κ a r r' e e' p q = p ∙ sym q
 
 pub grid_of_law : Determined grid-of-reads.Learnt
 grid_of_law κ a r r' e e' p q = p ∙ sym q

@@ -15,12 +15,8 @@ use Rattle.answer.specs.Checks.{seek, below}
 use Rattle.answer.proofs.CheckLaws.{fine_one, fine_rest, fine_claim, at_le, below_lt, le_at, gt_at, each_at}
 use Rattle.opened.specs.declared.Section.{Section}
 use Rattle.reader_table.specs.Table.{sections, has, off_at, len_at, is_type, entries_check, entry_check, placed_check, section_of, entry_at, pick_section}
-use Rattle.reader_opened.specs.declared.Sections.{Sections}
-use Rattle.opened.specs.declared.Directory.{Directory}
-use Rattle.opened.specs.declared.Grid.{Grid}
 use Rattle.opened.specs.Within.{Within}
-use Rattle.opened.specs.Widths.{list_wide, ring_wide, op_wide, group_wide, chunk_wide}
-use Rattle.reader_opened.specs.Opened.{sections_of, no_grid, grid_of, directory_of, opened_of, Tabled}
+use Rattle.reader_opened.specs.Opened.{no_grid, grid_of, Tabled}
 
 placed_in : (s : List ℕ) (k : ℕ) → entry_check s k ≡ fine → off_at s k + len_at s k ≤ length s - 4
 unfolding entry_check placed_check
@@ -47,17 +43,3 @@ module _ (s : List ℕ) (p : Section) where
       → c ≡ le 2 s (at + 4) → d ≡ le 2 s (at + 6) → z ≡ le 4 s (at + 8) → record { off = p.off; lng = x; lat = y; cols = c; rows = d; total = z } ≡ grid_of s p
   unfolding grid_of
   grid_is_law at x y c d z h e ex ey ec ed ez = rw (le_at 12 p.len h, ex, ey, ec, ed, ez, e)
-
-pub sections_are : (s : List ℕ) (f z : ℕ) (p1 p2 p3 p4 p5 p6 p7 p8 p9 : Section) → f ≡ le 4 s 8 → z ≡ le 4 s 40
-    → p1 ≡ section_of s 1 → p2 ≡ section_of s 2 → p3 ≡ section_of s 3 → p4 ≡ section_of s 4 → p5 ≡ section_of s 5 → p6 ≡ section_of s 6
-    → p7 ≡ section_of s 7 → p8 ≡ section_of s 8 → p9 ≡ section_of s 9
-    → record { flags = f; zones = z; names = p1; tzdir = p2; polydir = p3; ringdir = p4; ringops = p5; groupdir = p6; chunkdir = p7; gridpart = p8; points = p9 } ≡ sections_of s
-unfolding sections_of
-sections_are s f z p1 p2 p3 p4 p5 p6 p7 p8 p9 ef ez e1 e2 e3 e4 e5 e6 e7 e8 e9 = rw (ef, ez, e1, e2, e3, e4, e5, e6, e7, e8, e9)
-
-module _ (p : Sections) (g : Grid) where
-  pub opened_is_law : (p3 p4 p5 p6 p7 : Directory) → p3 ≡ directory_of p.polydir list_wide → p4 ≡ directory_of p.ringdir ring_wide → p5 ≡ directory_of p.ringops op_wide
-      → p6 ≡ directory_of p.groupdir group_wide → p7 ≡ directory_of p.chunkdir chunk_wide
-      → record { flags = p.flags; names = p.names; zones = record { off = p.tzdir.off; count = p.zones }; polys = p3; rings = p4; ops = p5; groups = p6; chunks = p7; points = p.points; grid = g } ≡ opened_of p g
-  unfolding opened_of
-  opened_is_law p3 p4 p5 p6 p7 e3 e4 e5 e6 e7 = rw (e3, e4, e5, e6, e7)

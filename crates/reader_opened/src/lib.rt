@@ -1,16 +1,16 @@
 // Opening, 17 to 20, and how the opened record is made: of numbers of 32 bits or fewer, so that no sum of a question wraps in 64.
 #![tactic(auto)]
 
-ghost use Rattle.std.specs.Prelude.{◌≡◌, ◌+◌, ◌-◌, ◌*◌, ◌<◌};
-ghost use Rattle.answer.specs.Answers.{checked_told};
-ghost use Rattle.reader_head.specs.Head.{Headed};
-ghost use Rattle.answer.specs.Checks.{each};
+ghost use Rattle.std.specs.Prelude.{◌≡◌, ◌+◌, ◌-◌, ◌*◌, ◌%◌, ◌<◌};
+ghost use Rattle.answer.specs.Checks.{claim, each, at_most, same};
 ghost use Rattle.opened.specs.declared.Section.{Section};
-ghost use Rattle.reader_opened.specs.Opened.{grid_of, sections_of, directory_of, opened_of, present_at, present_check, bit, flag_check, zones_check, lengths_check, counts_check, Tabled};
+ghost use Rattle.reader_opened.specs.Opened.{grid_of, sections_of, directory_of, opened_of, present_at, present_check, flag_check, zones_check, lengths_check, counts_check};
 ghost use Rattle.opened.specs.Within.{Within};
 
-use answer::Checked;
+use answer::Answer;
+use fields::Number;
 use opened::{Directory, Grid, Opened, Section};
+use reader_table::Table;
 
 // What the table says of a file: where each section lies. 0 and 0 for one that is not there.
 #[derive(Clone, Copy)]
@@ -29,59 +29,40 @@ pub struct Sections {
 }
 
 // 17, of one type.
-fn has_type(s: &[u8], t: usize) -> Checked
-    requires { Headed s.now }
-    ensures { checked_told result ≡ present_at s.now t }
+#[tactic(auto, unfolding(crate::specs::Opened::present_at))]
+fn has_type(table: Table<'_>, t: usize) -> Answer<()>
+    ensures { result ≡ present_at table.entry.s.now t }
 {
-    let n = reader_table::count(s);
-    answer::claim(17, reader_table::seen(s, t, n))
+    answer::claim(17, table.seen(t, table.count()))
 }
 
 // 17, of the types 1 to 7.
-fn has_types(s: &[u8]) -> Checked
-    requires { Headed s.now }
-    ensures { checked_told result ≡ each (present_at s.now) 7 1 }
+#[tactic(auto, using(answer::proofs::CheckLaws::each_stop, answer::proofs::CheckLaws::each_fine, answer::proofs::CheckLaws::each_end))]
+fn has_types(table: Table<'_>) -> Answer<()>
+    ensures { result ≡ each (present_at table.entry.s.now) 7 1 }
 {
-    let mut t = 1;
-    while t < 8 {
-        let a = has_type(s, t);
-        if let Checked::Refused(k) = a {
-            return Checked::Refused(k);
-        }
-        t += 1;
+    for t in 1..8 {
+        has_type(table, t)?;
     }
-    Checked::Fine
+    Ok(())
 }
 
 // 17.
-pub fn present(s: &[u8]) -> Checked
-    requires { Headed s.now }
-    ensures { checked_told result ≡ present_check s.now }
+#[tactic(auto, using(answer::proofs::CheckLaws::checks), unfolding(crate::specs::Opened::present_check))]
+pub fn present(table: Table<'_>) -> Answer<()>
+    ensures { result ≡ present_check table.entry.s.now }
 {
-    let a = has_types(s);
-    if let Checked::Refused(k) = a {
-        return Checked::Refused(k);
-    }
-    has_type(s, 9)
-}
-
-fn as_bit(b: bool) -> usize
-    ensures { result ≡ bit b }
-{
-    if b { 1 } else { 0 }
+    has_types(table)?;
+    has_type(table, 9)
 }
 
 // 18.
-pub fn flag(s: &[u8]) -> Checked
-    requires { Headed s.now }
-    ensures { checked_told result ≡ flag_check s.now }
+#[tactic(auto, using(answer::proofs::CheckLaws::checks), unfolding(crate::specs::Opened::flag_check, crate::specs::Opened::bit))]
+pub fn flag(table: Table<'_>) -> Answer<()>
+    ensures { result ≡ flag_check table.entry.s.now }
 {
-    let n = reader_table::count(s);
-    let g = as_bit(reader_table::seen(s, 8, n));
-    if fields::word(s, 8) % 2 != g {
-        return answer::fail(18);
-    }
-    Checked::Fine
+    let grid = table.seen(8, table.count());
+    answer::claim(18, u32::at(table.s, 8) % 2 == u32::from(grid))
 }
 
 // How many bytes a record of each directory takes, as a section's length counts them.
@@ -98,56 +79,53 @@ const CHUNK: u32 = opened::CHUNK_WIDE as u32;
 const GRID: u32 = opened::GRID_WIDE as u32;
 
 // 19.
-pub fn zone_length(o: Sections) -> Checked
-    ensures { checked_told result ≡ zones_check o }
+#[tactic(auto, using(answer::proofs::CheckLaws::checks), unfolding(crate::specs::Opened::zones_check, answer::specs::Checks::same))]
+pub fn zone_length(o: Sections) -> Answer<()>
+    ensures { result ≡ zones_check o }
 {
-    if fields::wide(o.tzdir.len) != opened::LIST_WIDE * fields::wide(o.zones) {
-        return answer::fail(19);
-    }
-    Checked::Fine
+    answer::claim(
+        19,
+        o.tzdir.len as usize == opened::LIST_WIDE * o.zones as usize,
+    )
 }
 
-pub fn lengths(o: Sections) -> Checked
-    ensures { checked_told result ≡ lengths_check o }
+// 19, of a section's records, each `width` bytes long.
+#[tactic(auto, unfolding(answer::specs::Checks::same))]
+fn whole(p: Section, width: u32) -> Answer<()>
+    requires { 0 < width }
+    ensures { result ≡ claim 19 (same (p.len % width) 0) }
 {
-    if o.polydir.len % LIST != 0 {
-        return answer::fail(19);
-    }
-    if o.ringdir.len % RING != 0 {
-        return answer::fail(19);
-    }
-    if o.ringops.len % OP != 0 {
-        return answer::fail(19);
-    }
-    if o.groupdir.len % GROUP != 0 {
-        return answer::fail(19);
-    }
-    if o.chunkdir.len % CHUNK != 0 {
-        return answer::fail(19);
-    }
-    Checked::Fine
+    answer::claim(19, p.len % width == 0)
 }
 
-// 20.
-pub fn counts(o: Sections) -> Checked
-    ensures { checked_told result ≡ counts_check o }
+#[tactic(auto, using(answer::proofs::CheckLaws::checks), unfolding(crate::specs::Opened::lengths_check))]
+pub fn lengths(o: Sections) -> Answer<()>
+    ensures { result ≡ lengths_check o }
 {
-    if o.polydir.len < LIST {
-        return answer::fail(20);
-    }
-    if o.ringdir.len < RING {
-        return answer::fail(20);
-    }
-    if o.ringops.len < OP {
-        return answer::fail(20);
-    }
-    if o.groupdir.len < GROUP {
-        return answer::fail(20);
-    }
-    if o.chunkdir.len < CHUNK {
-        return answer::fail(20);
-    }
-    Checked::Fine
+    whole(o.polydir, LIST)?;
+    whole(o.ringdir, RING)?;
+    whole(o.ringops, OP)?;
+    whole(o.groupdir, GROUP)?;
+    whole(o.chunkdir, CHUNK)
+}
+
+// 20, likewise.
+#[tactic(auto, unfolding(answer::specs::Checks::at_most))]
+fn some(p: Section, width: u32) -> Answer<()>
+    ensures { result ≡ claim 20 (at_most width p.len) }
+{
+    answer::claim(20, width <= p.len)
+}
+
+#[tactic(auto, using(answer::proofs::CheckLaws::checks), unfolding(crate::specs::Opened::counts_check))]
+pub fn counts(o: Sections) -> Answer<()>
+    ensures { result ≡ counts_check o }
+{
+    some(o.polydir, LIST)?;
+    some(o.ringdir, RING)?;
+    some(o.ringops, OP)?;
+    some(o.groupdir, GROUP)?;
+    some(o.chunkdir, CHUNK)
 }
 
 // What GRID's first bytes say; nothing where it has too few.
@@ -165,48 +143,38 @@ pub fn grid_of(s: &[u8], p: Section) -> Grid
             total: 0,
         };
     }
-    let at = fields::wide(p.off);
+    let at = p.off as usize;
     Grid {
         off: p.off,
-        lng: fields::i16_at(s, at),
-        lat: fields::i16_at(s, at + 2),
-        cols: fields::u16_at(s, at + 4),
-        rows: fields::u16_at(s, at + 6),
-        total: fields::u32_at(s, at + 8),
+        lng: i16::at(s, at),
+        lat: i16::at(s, at + 2),
+        cols: u16::at(s, at + 4),
+        rows: u16::at(s, at + 6),
+        total: u32::at(s, at + 8),
     }
 }
 
-pub fn read_sections(s: &[u8]) -> Sections
-    requires { Tabled s.now }
-    ensures { result ≡ sections_of s.now }
+#[tactic(auto, unfolding(crate::specs::Opened::sections_of))]
+pub fn read_sections(table: Table<'_>) -> Sections
+    ensures { result ≡ sections_of table.entry.s.now }
 {
-    let flags = fields::u32_at(s, 8);
-    let zones = fields::u32_at(s, 40);
-    let names = reader_table::section_of(s, 1);
-    let tzdir = reader_table::section_of(s, 2);
-    let polydir = reader_table::section_of(s, 3);
-    let ringdir = reader_table::section_of(s, 4);
-    let ringops = reader_table::section_of(s, 5);
-    let groupdir = reader_table::section_of(s, 6);
-    let chunkdir = reader_table::section_of(s, 7);
-    let gridpart = reader_table::section_of(s, 8);
-    let points = reader_table::section_of(s, 9);
     Sections {
-        flags,
-        zones,
-        names,
-        tzdir,
-        polydir,
-        ringdir,
-        ringops,
-        groupdir,
-        chunkdir,
-        gridpart,
-        points,
+        flags: u32::at(table.s, 8),
+        zones: u32::at(table.s, 40),
+        names: table.section(1),
+        tzdir: table.section(2),
+        polydir: table.section(3),
+        ringdir: table.section(4),
+        ringops: table.section(5),
+        groupdir: table.section(6),
+        chunkdir: table.section(7),
+        gridpart: table.section(8),
+        points: table.section(9),
     }
 }
 
 // The records of a section, each `width` bytes long.
+#[tactic(auto, unfolding(crate::specs::Opened::directory_of))]
 fn records_of(p: Section, width: u32) -> Directory
     requires { 0 < width }
     ensures { result ≡ directory_of p width }
@@ -217,31 +185,23 @@ fn records_of(p: Section, width: u32) -> Directory
     }
 }
 
+#[tactic(auto, unfolding(crate::specs::Opened::opened_of))]
 pub fn opened_of(p: Sections, grid: Grid) -> Opened
     ensures { result ≡ opened_of p grid }
 {
-    let names = p.names;
-    let tzdir = p.tzdir;
-    let zones = Directory {
-        off: tzdir.off,
-        count: p.zones,
-    };
-    let polys = records_of(p.polydir, LIST);
-    let rings = records_of(p.ringdir, RING);
-    let ops = records_of(p.ringops, OP);
-    let groups = records_of(p.groupdir, GROUP);
-    let chunks = records_of(p.chunkdir, CHUNK);
-    let points = p.points;
     Opened {
         flags: p.flags,
-        names,
-        zones,
-        polys,
-        rings,
-        ops,
-        groups,
-        chunks,
-        points,
+        names: p.names,
+        zones: Directory {
+            off: p.tzdir.off,
+            count: p.zones,
+        },
+        polys: records_of(p.polydir, LIST),
+        rings: records_of(p.ringdir, RING),
+        ops: records_of(p.ringops, OP),
+        groups: records_of(p.groupdir, GROUP),
+        chunks: records_of(p.chunkdir, CHUNK),
+        points: p.points,
         grid,
     }
 }

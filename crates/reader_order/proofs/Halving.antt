@@ -8,9 +8,10 @@ use mathlib.Core.Path.{◌≡◌, refl, sym, ap, ◌∙◌}
 use mathlib.Core.Bool.{Bool, true, false, cond}
 use mathlib.Core.List.{List, [], ◌∷◌, ◌++◌}
 use lib.ListN.{length, take, drop, set, get_or}
-use lib.Seq.{get_or-take, length-take-le, take-take}
+use lib.Seq.{length-take-le, take-take}
 use Rattle.reader_order.specs.Order.{insert, in_order}
-use Rattle.reader_order.specs.Steps.{place_for, moved_up}
+use Rattle.std.specs.List.{copy_within}
+use Rattle.reader_order.specs.Steps.{place_for}
 use Rattle.texts.proofs.Bytes.{not_before}
 use Rattle.reader_order.proofs.Sorted.{From, Sorted, sorted_in}
 use Rattle.reader_order.proofs.Shift.{written}
@@ -53,63 +54,49 @@ module _ (name : ℕ → List ℕ) where
         let j : i < length l = omega (arith, k) in
         rw (not_before (name x) (name (get_or l i 0)) own (from_at x l i j s.0) h) (omega (arith, place_up l i j s.1 h))
 
+  pub place_inside : (own l : List ℕ) (place : ℕ) → place ≡ place_for name own l → place ≤ length l
+  place_inside own l place p = omega (arith, p, place_most own l)
+
   -- ---- the loop: the place lies from low to high
-  pub record Halving (m own : List ℕ) (k low high : ℕ) : Type 0 where
-    pub room : k ≤ length m
-    pub sorted : in_order name (take k m) ≡ true
-    pub from_low : low ≤ place_for name own (take k m)
-    pub to_high : place_for name own (take k m) ≤ high
-    pub inside : high ≤ k
+  pub record Halving (m own : List ℕ) (low high : ℕ) : Type 0 where
+    pub sorted : in_order name m ≡ true
+    pub from_low : low ≤ place_for name own m
+    pub to_high : place_for name own m ≤ high
+    pub inside : high ≤ length m
 
-  module _ (m own : List ℕ) (k : ℕ) where
-    pub place_inside : k ≤ length m → (place : ℕ) → place ≡ place_for name own (take k m) → place ≤ k
-    place_inside h place p = omega (arith, p, place_most own (take k m), length-take-le k m h)
-
-    pub halving_start : k ≤ length m → in_order name (take k m) ≡ true → Halving m own k 0 k
-    halving_start h s = record {
-      room = h;
+  module _ (m own : List ℕ) where
+    pub halving_start : in_order name m ≡ true → Halving m own 0 (length m)
+    halving_start s = record {
       sorted = s;
       from_low = omega arith;
-      to_high = place_inside h _ refl;
+      to_high = place_most own m;
       inside = omega arith;
     }
 
-    module _ (low high : ℕ) (h : Halving m own k low high) where
-      pub halving_end : high ≤ low → low ≡ place_for name own (take k m)
+    module _ (low high : ℕ) (h : Halving m own low high) where
+      pub halving_end : high ≤ low → low ≡ place_for name own m
       halving_end e = omega (arith, e, h.from_low, h.to_high)
 
       -- the zone at a place between, and the test whether own comes before it
-      module _ (i : ℕ) (g : i < high) (r : Bool) (t : r ≡ comes_before own (name (get_or m i 0))) where
-        within : i < length (take k m)
-        within = omega (arith, g, h.inside, length-take-le k m h.room)
+      module _ (i : ℕ) (g : i < high) (r : Bool) (t : r ≡ comes_before own (name (get_or m i 0))) (l u : ℕ) where
+        within : i < length m
+        within = omega (arith, g, h.inside)
 
-        test_is : r ≡ comes_before own (name (get_or (take k m) i 0))
-        test_is = t ∙ ap (λ (z : ℕ). comes_before own (name z)) (sym (get_or-take k m i 0 (omega (arith, g, h.inside))))
-
-        halve_down : r ≡ true → Halving m own k low i
-        halve_down e = record {
-          room = h.room;
+        pub halves_down : r ≡ true → l ≡ low → u ≡ i → Halving m own l u
+        halves_down e p q = rw (p, q) (record {
           sorted = h.sorted;
           from_low = h.from_low;
-          to_high = place_down own (take k m) i within (sym test_is ∙ e);
+          to_high = place_down own m i within (sym t ∙ e);
           inside = omega (arith, g, h.inside);
-        }
+        })
 
-        halve_up : r ≡ false → Halving m own k (i + 1) high
-        halve_up e = record {
-          room = h.room;
+        pub halves_up : r ≡ false → l ≡ i + 1 → u ≡ high → Halving m own l u
+        halves_up e p q = rw (p, q) (record {
           sorted = h.sorted;
-          from_low = omega (arith, place_up own (take k m) i within (sorted_in name (take k m) h.sorted) (sym test_is ∙ e));
+          from_low = omega (arith, place_up own m i within (sorted_in name m h.sorted) (sym t ∙ e));
           to_high = h.to_high;
           inside = h.inside;
-        }
-
-        module _ (l u : ℕ) where
-          pub halves_down : r ≡ true → l ≡ low → u ≡ i → Halving m own k l u
-          halves_down e p q = rw (p, q) (halve_down e)
-
-          pub halves_up : r ≡ false → l ≡ i + 1 → u ≡ high → Halving m own k l u
-          halves_up e p q = rw (p, q) (halve_up e)
+        })
 
   -- ---- the insertion, at that place
   insert_at : (z : ℕ) (l : List ℕ) → insert name z l ≡ take (place_for name (name z) l) l ++ z ∷ drop (place_for name (name z) l) l
@@ -123,19 +110,21 @@ module _ (name : ℕ → List ℕ) where
       go false h = rw (add-one (place_for name (name z) l)) (ap (λ (k : List ℕ). x ∷ k) h)
 
   -- the zone at k, put into the zones before it
-  module _ (m : List ℕ) (k : ℕ) (room : k < length m) (own : List ℕ) (e : own ≡ name (get_or m k 0)) where
-    inside : (place : ℕ) → place ≡ place_for name own (take k m) → place ≤ k
-    inside = place_inside m own k (le_of_lt room)
+  module _ (m : List ℕ) (k : ℕ) (room : k < length m) (own : List ℕ) (e : own ≡ name (get_or m k 0)) (place : ℕ) (p : place ≡ place_for name own (take k m)) where
+    pub before : place ≤ k
+    before = omega (arith, place_inside own (take k m) place p, length-take-le k m (le_of_lt room))
 
-    at_place : (place : ℕ) → place ≡ place_for name own (take k m) → take place m ++ get_or m k 0 ∷ drop place (take k m) ++ drop (k + 1) m ≡ insert name (get_or m k 0) (take k m) ++ drop (k + 1) m
-    at_place place p =
+    at_place : take place m ++ get_or m k 0 ∷ drop place (take k m) ++ drop (k + 1) m ≡ insert name (get_or m k 0) (take k m) ++ drop (k + 1) m
+    at_place =
         let z : ℕ = get_or m k 0 in
         let q : place ≡ place_for name (name z) (take k m) = p ∙ ap (λ (n : List ℕ). place_for name n (take k m)) e in
-        ap (λ (f : List ℕ). f ++ z ∷ drop place (take k m) ++ drop (k + 1) m) (sym (take-take place k m (inside place p)))
+        ap (λ (f : List ℕ). f ++ z ∷ drop place (take k m) ++ drop (k + 1) m) (sym (take-take place k m before))
         ∙ ap (λ (f : List ℕ). f ++ drop (k + 1) m) (ap (λ (i : ℕ). take i (take k m) ++ z ∷ drop i (take k m)) q ∙ sym (insert_at z (take k m)))
 
     -- those from its place on moved up, and the zone written there
-    pub settled : (place : ℕ) → place ≡ place_for name own (take k m) → (l : List ℕ) → l ≡ moved_up m place k 1 → set l place (get_or m k 0) ≡ insert name (get_or m k 0) (take k m) ++ drop (k + 1) m
-    settled place p l g =
-        let i : place < length m = omega (arith, inside place p, room) in
-        ap (λ (x : List ℕ). set x place (get_or m k 0)) g ∙ written m place k 1 place (get_or m k 0) (add-one place) i ∙ at_place place p
+    pub settled : (l : List ℕ) → l ≡ copy_within m place k (place + 1) → set l place (get_or m k 0) ≡ insert name (get_or m k 0) (take k m) ++ drop (k + 1) m
+    settled l g =
+        let i : place < length m = omega (arith, before, room) in
+        let end : place + 1 + (k - place) ≡ k + 1 = omega (arith, before) in
+        ap (λ (x : List ℕ). set x place (get_or m k 0)) g ∙ written m place k (place + 1) place (get_or m k 0) before (add-one place) i
+        ∙ ap (λ (j : ℕ). take place m ++ get_or m k 0 ∷ drop place (take k m) ++ drop j m) end ∙ at_place

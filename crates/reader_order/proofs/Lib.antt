@@ -5,4 +5,3 @@ pub mod Shift
 pub mod Halving
 pub mod Merged
 pub mod Determined
-pub mod Holding

@@ -1,6 +1,7 @@
 -- Zones in order put into others in order, the last of them first, as the code merges them; and the sort block by block: m are the zones as they were, l as they are.
 -- Assumes nothing.
-use Prim.Native.Nat.{ℕ, suc, ◌+◌, ◌-◌, ◌≤◌, ◌<◌}
+use Prim.Native.Nat.{ℕ, suc, ◌+◌, ◌-◌, ◌≤◌, ◌<◌, min}
+use Rattle.std.proofs.lemmas.Grind.{common_steps}
 use native.Mathlib.Omega.{arith}
 use native.Mathlib.Nat.{le_of_lt}
 use native.Mathlib.Numerals.{add-one}
@@ -12,30 +13,24 @@ use lib.Seq.{take-length, take-suc, take-take, take_all, take-add, take_at, take
 use Rattle.reader_order.specs.Order.{insert, insert_all, ordered, in_order, called}
 use Rattle.texts.proofs.Bytes.{not_before}
 use Rattle.reader_order.proofs.Sorted.{From, Sorted, sorted_in, in_sorted, sorted_take, insert_here, insert_on, all_last, all_sorted, all_called, is_ordered, as_they_came, same_length}
-use Rattle.reader_order.proofs.Shift.{written, moved_length, Sorting, all_there}
+use Rattle.reader_order.proofs.Shift.{written, Sorting, all_there}
 use Rattle.reader_order.proofs.Halving.{place_inside}
 use Rattle.reader_order.proofs.Only.{only_ordered}
 use Rattle.texts.specs.Spelled.{comes_before, same_bytes}
-use Rattle.reader_order.specs.Steps.{place_for, moved_up}
+use Rattle.std.specs.List.{copy_within}
+use Rattle.reader_order.specs.Steps.{place_for}
+
+-- ---- the first zones, up to the end of all where that is nearer
+take_min : (n : ℕ) (l : List ℕ) → take (min (length l) n) l ≡ take n l
+take_min n l = grind (arith, common_steps)
+
+drop_min : (n : ℕ) (l : List ℕ) → drop (min (length l) n) l ≡ drop n l
+drop_min n l = grind (arith, common_steps)
 
 -- ---- the zones from place k on
 module _ (m : List ℕ) (k : ℕ) (h : k ≤ length m) where
   pub part_is : take (length m - k) (drop k m) ≡ drop k m
   part_is = take_all (length m - k) (drop k m) (omega (arith, length-drop k m))
-
-  -- held in other memory
-  module _ (before held : List ℕ) (e : held ≡ take (length m - k) (drop k m) ++ drop (length (take (length m - k) (drop k m))) before) where
-    pub held_part : take (length m - k) held ≡ drop k m
-    held_part =
-        ap (take (length m - k)) e
-        ∙ take_at (take (length m - k) (drop k m)) (drop (length (take (length m - k) (drop k m))) before) (length m - k) (ap length part_is ∙ length-drop k m)
-        ∙ part_is
-
-    pub held_room : length m - k ≤ length held
-    held_room = omega (arith, ap length e, length-append (take (length m - k) (drop k m)) (drop (length (take (length m - k) (drop k m))) before), ap length part_is, length-drop k m)
-
-    pub held_length : k + length (take (length m - k) held) ≡ length m
-    held_length = omega (arith, h, ap length held_part, length-drop k m)
 
 module _ (name : ℕ → List ℕ) where
   -- no zone of the list comes after y
@@ -195,7 +190,7 @@ module _ (name : ℕ → List ℕ) where
     -- the last of the zones that are left goes in
     module _ (g : 0 < j) (own : List ℕ) (e : own ≡ name (get_or held (j - 1) 0)) (place : ℕ) (p : place ≡ place_for name own (take i l)) where
       pub fits : place ≤ i
-      fits = place_inside name l own i still_room place p
+      fits = omega (arith, place_inside name own (take i l) place p, length-take-le i l still_room)
 
       pub room_above : i + j ≤ length l
       room_above = omega (arith, h.front, h.left, h.same, h.room)
@@ -205,9 +200,6 @@ module _ (name : ℕ → List ℕ) where
 
       abbrev pub y : ℕ
       y = get_or held (j - 1) 0
-
-      left_is : place + j ≡ suc n
-      left_is = omega (arith, g)
 
       pub inside : n < length l
       inside = omega (arith, g, fits, room_above)
@@ -229,11 +221,13 @@ module _ (name : ℕ → List ℕ) where
       none_after : NoneAfter y (take (j - 1) held)
       none_after = sorted_last (take (j - 1) held) y (rw held_is at (sorted_take name held (length held) j h.left (rw (take-length held) h.held_sorted)))
 
-      module _ (next : List ℕ) (v : next ≡ moved_up l place i j) where
+      module _ (next : List ℕ) (v : next ≡ copy_within l place i (n + 1)) (s : length next ≡ length l) where
         now_is : set next n y ≡ take n l ++ (y ∷ drop place (take i m) ++ drop (i + j) l)
         now_is =
+            let end : n + 1 + (i - place) ≡ i + j = omega (arith, g, fits) in
             ap (λ (x : List ℕ). set x n y) v
-            ∙ written l place i j n y left_is inside
+            ∙ written l place i (n + 1) n y fits (add-one n) inside
+            ∙ ap (λ (k : ℕ). take n l ++ y ∷ drop place (take i l) ++ drop k l) end
             ∙ ap (λ (f : List ℕ). take n l ++ y ∷ drop place f ++ drop (i + j) l) front_is
             ∙ append_assoc (take n l) (y ∷ drop place (take i m)) (drop (i + j) l)
 
@@ -247,7 +241,7 @@ module _ (name : ℕ → List ℕ) where
           held_sorted = h.held_sorted;
           front = omega (arith, fits, h.front);
           left = omega (arith, h.left);
-          same = length-set next n y ∙ ap length v ∙ moved_length l place i j fits room_above ∙ h.same;
+          same = length-set next n y ∙ s ∙ h.same;
           kept =
               ap (take place) now_is
               ∙ take-append-le place (take n l) (y ∷ drop place (take i m) ++ drop (i + j) l) (omega (arith, short))
@@ -292,15 +286,41 @@ module _ (name : ℕ → List ℕ) where
           ap (λ (l : List ℕ). take k m ++ l)
           (ap₂ (λ (f c : List ℕ). f ++ c) (e ∙ ap (ordered name) (part_is m k h)) (drop_of_length-le (drop k m) {i = length m - k} (omega (arith, length-drop k m))) ∙ append-nil (ordered name (drop k m)))
 
-      pub block_front : take k (take k m ++ (b ++ drop (length m - k) (drop k m))) ≡ take k m
+      block_front : take k (take k m ++ (b ++ drop (length m - k) (drop k m))) ≡ take k m
       block_front = take_at (take k m) (b ++ drop (length m - k) (drop k m)) k short_front
 
-      pub block_back : drop k (take k m ++ (b ++ drop (length m - k) (drop k m))) ≡ ordered name (drop k m)
+      block_back : drop k (take k m ++ (b ++ drop (length m - k) (drop k m))) ≡ ordered name (drop k m)
       block_back = ap (drop k) block_is ∙ drop_at (take k m) (ordered name (drop k m)) k short_front
 
-      pub block_length : length (take k m ++ (b ++ drop (length m - k) (drop k m))) ≡ length m
+      block_length : length (take k m ++ (b ++ drop (length m - k) (drop k m))) ≡ length m
       block_length =
           ap length block_is ∙ omega (arith, h, length-append (take k m) (ordered name (drop k m)), short_front, same_length name (drop k m), length-drop k m)
+
+      -- and held in other memory
+      module _ (held : List ℕ) (g : held ≡ take (length (take k m ++ (b ++ drop (length m - k) (drop k m))) - k) (drop k (take k m ++ (b ++ drop (length m - k) (drop k m))))) where
+        kept_is : held ≡ drop k (take k m ++ (b ++ drop (length m - k) (drop k m)))
+        kept_is = g ∙ part_is (take k m ++ (b ++ drop (length m - k) (drop k m))) k (omega (arith, h, block_length))
+
+        pub held_in_order : in_order name held ≡ true
+        held_in_order = ap (in_order name) (kept_is ∙ block_back) ∙ is_ordered name (drop k m)
+
+        held_length : length held ≡ length (take k m ++ (b ++ drop (length m - k) (drop k m))) - k
+        held_length = ap length kept_is ∙ length-drop k (take k m ++ (b ++ drop (length m - k) (drop k m)))
+
+        pub held_room : length held ≤ length (take k m ++ (b ++ drop (length m - k) (drop k m)))
+        held_room = omega (arith, held_length)
+
+        before_held : length (take k m ++ (b ++ drop (length m - k) (drop k m))) - length held ≡ k
+        before_held = omega (arith, h, block_length, held_length)
+
+        held_front : take (length (take k m ++ (b ++ drop (length m - k) (drop k m))) - length held) (take k m ++ (b ++ drop (length m - k) (drop k m))) ≡ take k m
+        held_front = ap (λ (i : ℕ). take i (take k m ++ (b ++ drop (length m - k) (drop k m)))) before_held ∙ block_front
+
+        pub front_in_order : in_order name (take k m) ≡ true → in_order name (take (length (take k m ++ (b ++ drop (length m - k) (drop k m))) - length held) (take k m ++ (b ++ drop (length m - k) (drop k m)))) ≡ true
+        front_in_order s = ap (in_order name) held_front ∙ s
+
+        pub block_merged : insert_all name (take (length (take k m ++ (b ++ drop (length m - k) (drop k m))) - length held) (take k m ++ (b ++ drop (length m - k) (drop k m)))) held ≡ insert_all name (take k m) (ordered name (drop k m))
+        block_merged = ap₂ (insert_all name) held_front (kept_is ∙ block_back)
 
       pub block_alone : k ≤ 0 → take k m ++ (b ++ drop (length m - k) (drop k m)) ≡ insert_all name (take k m) (ordered name (drop k m))
       unfolding ordered
@@ -356,3 +376,11 @@ module _ (name : ℕ → List ℕ) where
               (e ∙ ap₂ (λ (x y : List ℕ). insert_all name x (ordered name y)) f b ∙ joined (take k m) (drop k (take end m)) ∙ ap (ordered name) a)
               (behind l ∙ ap (drop (end - k)) back_of ∙ sym (behind m));
         }
+
+    -- the same where the end is the end of all zones, or that of a whole block
+    pub block_on : (n next : ℕ) → end ≡ min (length m) n → n ≡ next → (r : List ℕ) → r ≡ insert_all name (take k (take end l)) (ordered name (drop k (take end l))) → Sorting name m (r ++ drop end l) next
+    block_on n next a q r e =
+        let s = blocks_on r e in
+        rw (← q) (record {
+          so_far = s.so_far ∙ ap₂ (λ (x y : List ℕ). ordered name x ++ y) (ap (λ (i : ℕ). take i m) a ∙ take_min n m) (ap (λ (i : ℕ). drop i m) a ∙ drop_min n m);
+        })

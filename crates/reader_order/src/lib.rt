@@ -1,10 +1,10 @@
 // Zones in the order of their names: the sort, in lent memory.
 #![tactic(auto)]
 
-ghost use Rattle.std.specs.Prelude.{◌≡◌, true, ◌++◌, ◌+◌, ◌<◌, ◌≤◌, length, take, drop, get_or};
+ghost use Rattle.std.specs.Prelude.{◌≡◌, true, ◌++◌, ◌+◌, ◌-◌, ◌<◌, ◌≤◌, length, take, drop, get_or};
 ghost use Rattle.reader_named.specs.Asked.{name_or};
 ghost use Rattle.reader_order.specs.Order.{insert, insert_all, ordered, in_order};
-ghost use Rattle.reader_order.specs.Steps.{place_for, moved_up};
+ghost use Rattle.reader_order.specs.Steps.{place_for};
 ghost use Rattle.texts.specs.Spelled.{comes_before};
 
 use opened::Opened;
@@ -16,19 +16,18 @@ fn before_zone(o: Opened, s: &[u8], own: &[u8], zone: u32) -> bool
     texts::comes_before(own, reader_named::name(o, s, zone))
 }
 
-// The place of the first zone, of the first k, whose name comes after own: k where there is none. The first k are in order: the last is looked at first, then the place is found by halving. `after` is the place after the one that is looked at.
-fn place_for(o: Opened, s: &[u8], zones: &[u32], own: &[u8], k: usize) -> usize
-    requires k_in_bounds { k ≤ length zones.now }
-    requires zones_value { in_order (name_or o s.now) (take k zones.now) ≡ true }
-    ensures { result ≡ place_for (name_or o s.now) own.now (take k zones.now) }
+// The place of the first zone whose name comes after own: behind all where there is none. The zones are in order: the last is looked at first, then the place is found by halving. `after` is the place after the one that is looked at.
+fn place_for(o: Opened, s: &[u8], zones: &[u32], own: &[u8]) -> usize
+    requires { in_order (name_or o s.now) zones.now ≡ true }
+    ensures { result ≡ place_for (name_or o s.now) own.now zones.now }
 {
     let mut low = 0;
-    let mut high = k;
-    let mut after = k;
+    let mut high = zones.len();
+    let mut after = high;
+    // kept: a search of std looks at the middle first, and zones that are in order already would no more cost one comparison each
     while low < high {
         let middle = after - 1;
-        let zone = zones[middle];
-        if before_zone(o, s, own, zone) {
+        if before_zone(o, s, own, zones[middle]) {
             high = middle;
         } else {
             low = after;
@@ -38,19 +37,7 @@ fn place_for(o: Opened, s: &[u8], zones: &[u32], own: &[u8], k: usize) -> usize
     low
 }
 
-// The zones of the places from one to another move up by some places, the last first.
-fn move_up(zones: &mut [u32], from: usize, to: usize, by: usize)
-    requires { (from ≤ to) × (to + by ≤ length zones.old) }
-    ensures { zones.new ≡ moved_up zones.old from to by }
-{
-    let mut i = to;
-    while from < i {
-        i -= 1;
-        let zone = zones[i];
-        zones[i + by] = zone;
-    }
-}
-
+// kept: the zones up to k and behind it are one lent slice, in which the move crosses k.
 // The zone at place k put into the zones before it, which are in order.
 fn settle(o: Opened, s: &[u8], zones: &mut [u32], k: usize)
     requires k_in_bounds { k < length zones.old }
@@ -59,8 +46,8 @@ fn settle(o: Opened, s: &[u8], zones: &mut [u32], k: usize)
 {
     let zone = zones[k];
     let own = reader_named::name(o, s, zone);
-    let place = place_for(o, s, zones, own, k);
-    move_up(zones, place, k, 1);
+    let place = place_for(o, s, &zones[..k], own);
+    zones.copy_within(place..k, place + 1);
     zones[place] = zone;
 }
 
@@ -68,70 +55,32 @@ fn settle(o: Opened, s: &[u8], zones: &mut [u32], k: usize)
 fn sort_few(o: Opened, s: &[u8], zones: &mut [u32])
     ensures { zones.new ≡ ordered (name_or o s.now) zones.old }
 {
-    let mut k = 1;
-    while k < zones.len() {
+    for k in 1..zones.len() {
         settle(o, s, zones, k);
-        k += 1;
     }
 }
 
-// Zones kept in the first places of other memory.
-fn hold(zones: &[u32], held: &mut [u32])
-    requires { length zones.now ≤ length held.old }
-    ensures { held.new ≡ zones.now ++ drop (length zones.now) held.old }
+// The held zones put into the zones, of which the last, as many as are held, are written over. Both are in order. The last held goes first: then no zone is written over that is still to move.
+fn merge_held(o: Opened, s: &[u8], zones: &mut [u32], held: &[u32])
+    requires room { length held.now ≤ length zones.old }
+    requires zones_value { in_order (name_or o s.now) (take (length zones.old - length held.now) zones.old) ≡ true }
+    requires held_value { in_order (name_or o s.now) held.now ≡ true }
+    ensures { zones.new ≡ insert_all (name_or o s.now) (take (length zones.old - length held.now) zones.old) held.now }
 {
-    let mut i = 0;
-    while i < zones.len() {
-        let zone = zones[i];
-        held[i] = zone;
-        i += 1;
-    }
-}
-
-// The held zones put into those before place k, both in order. The last goes first: then no zone is written over that is still to move.
-fn merge_held(o: Opened, s: &[u8], zones: &mut [u32], k: usize, held: &[u32])
-    requires held_value { k + length held.now ≡ length zones.old }
-    requires zones_value { in_order (name_or o s.now) (take k zones.old) ≡ true }
-    requires held_value_2 { in_order (name_or o s.now) held.now ≡ true }
-    ensures { zones.new ≡ insert_all (name_or o s.now) (take k zones.old) held.now }
-{
-    let mut i = k;
-    let mut j = held.len();
-    while 0 < j {
-        let zone = held[j - 1];
+    let mut end = zones.len() - held.len();
+    for j in (0..held.len()).rev() {
+        let zone = held[j];
         let own = reader_named::name(o, s, zone);
-        let place = place_for(o, s, zones, own, i);
-        move_up(zones, place, i, j);
-        i = place;
-        j -= 1;
-        zones[i + j] = zone;
+        let place = place_for(o, s, &zones[..end], own);
+        zones.copy_within(place..end, place + j + 1);
+        zones[place + j] = zone;
+        end = place;
     }
 }
 
-// The zones from place k on, in order, put into those before it, which are in order too, with memory that holds them.
-fn merge_with(o: Opened, s: &[u8], zones: &mut [u32], k: usize, held: &mut [u32])
-    requires k_in_bounds { (k ≤ length zones.old) × (length zones.old ≤ k + length held.old) }
-    requires zones_value { in_order (name_or o s.now) (take k zones.old) ≡ true }
-    requires zones_value_2 { in_order (name_or o s.now) (drop k zones.old) ≡ true }
-    ensures { zones.new ≡ insert_all (name_or o s.now) (take k zones.old) (drop k zones.old) }
-{
-    let n = zones.len() - k;
-    hold(&zones[k..], held);
-    merge_held(o, s, zones, k, &held[..n]);
-}
-
-// The same with memory of its own, for at most 256 zones.
-fn merge(o: Opened, s: &[u8], zones: &mut [u32], k: usize)
-    requires k_in_bounds { (k ≤ length zones.old) × (length zones.old ≤ k + 256) }
-    requires zones_value { in_order (name_or o s.now) (take k zones.old) ≡ true }
-    requires zones_value_2 { in_order (name_or o s.now) (drop k zones.old) ≡ true }
-    ensures { zones.new ≡ insert_all (name_or o s.now) (take k zones.old) (drop k zones.old) }
-{
-    let mut held = [0u32; 256];
-    merge_with(o, s, zones, k, &mut held)
-}
-
+// kept: the zones up to k and behind it are one lent slice, in which the moves cross k.
 // The zones from place k on, at most 256, sorted and put into those before it, which are in order.
+#[tactic(auto, using(crate::proofs::Merged::block_merged, crate::proofs::Merged::block_alone))]
 fn add_block(o: Opened, s: &[u8], zones: &mut [u32], k: usize)
     requires k_in_bounds { (k ≤ length zones.old) × (length zones.old ≤ k + 256) }
     requires zones_value { in_order (name_or o s.now) (take k zones.old) ≡ true }
@@ -139,19 +88,11 @@ fn add_block(o: Opened, s: &[u8], zones: &mut [u32], k: usize)
 {
     sort_few(o, s, &mut zones[k..]);
     if 0 < k {
-        merge(o, s, zones, k);
+        let mut held = [0u32; 256];
+        let held = &mut held[..zones.len() - k];
+        held.copy_from_slice(&zones[k..]);
+        merge_held(o, s, zones, held);
     }
-}
-
-// Where the block from place k on ends.
-fn block_end(k: usize, n: usize) -> usize
-    requires { k < n }
-    ensures { (k < result) × (result ≤ n) × (result ≤ k + 256) }
-{
-    if n - k <= 256 {
-        return n;
-    }
-    k + 256
 }
 
 // Zones in the order of their names, equal names as they come. Blocks of 256 are sorted and put into what is sorted already: so each zone costs few comparisons, and each block one move of the zones before it. Names that are in order already cost one comparison each, two where there are more blocks.
@@ -159,10 +100,8 @@ pub fn sort_zones(o: Opened, s: &[u8], zones: &mut [u32])
     ensures { zones.new ≡ ordered (name_or o s.now) zones.old }
 {
     let n = zones.len();
-    let mut k = 0;
-    while k < n {
-        let end = block_end(k, n);
-        add_block(o, s, &mut zones[..end], k);
-        k = end;
+    for block in 0..n.div_ceil(256) {
+        let k = 256 * block;
+        add_block(o, s, &mut zones[..n.min(k + 256)], k);
     }
 }

@@ -9,6 +9,7 @@ use lib.ListN.{length, take, drop, length-append, length-drop, drop_of_length-le
 use lib.Seq.{take_all}
 use lib.IntN.{ℤ}
 use lib.Dec.{leb}
+use borrow.Rule.Slice.PartMut.{mid_of, put_mid, same_len_mid}
 use borrow.Author.Tests.{le-leb, lt-leb, leb-true, leb-false}
 use Rattle.plane.specs.declared.I32Point.{I32Point}
 use Rattle.answer.specs.declared.Refusal.{Refusal}
@@ -106,30 +107,30 @@ module _ (o : Opened) (s : List ℕ) (i : ℕ) (l : List I32Point) (p : ok l ≡
 
   -- the room behind the first k positions, as it is lent, and the numbers afterwards
   module _ (m : List ℤ) (k : ℕ) (n : length m ≡ 20_000) (h : k ≤ 10_000) where
-    lent : take (length m - 2 * k) (drop (2 * k) m) ≡ drop (2 * k) m
-    lent = take_all (length m - 2 * k) (drop (2 * k) m) (omega (arith, length-drop (2 * k) m))
+    lent : mid_of (2 * k) (20_000 - 2 * k) m ≡ drop (2 * k) m
+    lent = take_all (20_000 - 2 * k) (drop (2 * k) m) (omega (arith, n, length-drop (2 * k) m))
 
-    pub chunk_over : (r : Refusal) → refused r ≡ decode_at o s i (take (length m - 2 * k) (drop (2 * k) m)) → (w : List ℤ) → (no 48 ≡ few_enough (points_in m k ++ l)) × Keeps w (points_in m k ++ l)
+    pub chunk_over : (r : Refusal) → refused r ≡ decode_at o s i (mid_of (2 * k) (20_000 - 2 * k) m) → (w : List ℤ) → (no 48 ≡ few_enough (points_in m k ++ l)) × Keeps w (points_in m k ++ l)
     chunk_over r e w =
         let f = no_room (drop (2 * k) m) r (e ∙ ap (decode_at o s i) lent) in
         let g : 10_000 < length (points_in m k ++ l) = omega (arith, n, h, f, length-drop (2 * k) m, length-append (points_in m k) l, points_length k m (omega arith)) in
         (counted_over (points_in m k ++ l) g, keeps_none w (points_in m k ++ l) g)
 
-    pub chunk_in_law : fine ≡ decode_at o s i (take (length m - 2 * k) (drop (2 * k) m)) → (v : ChunkRecord) → ok v ≡ chunk_at o s i → (c : ℕ) → c ≡ v.count
-        → (part : List ℤ) → part ≡ decoded_at o s i (take (length m - 2 * k) (drop (2 * k) m)) → (w : List ℤ) → length w ≡ length m → w ≡ take (2 * k) m ++ (part ++ drop (length m - 2 * k) (drop (2 * k) m))
-        → (ok (k + c) ≡ few_enough (points_in m k ++ l)) × Keeps w (points_in m k ++ l)
-    chunk_in_law e v f c g part y w q d =
+    pub chunk_in_law : fine ≡ decode_at o s i (mid_of (2 * k) (20_000 - 2 * k) m) → (v : ChunkRecord) → ok v ≡ chunk_at o s i
+        → (part : List ℤ) → part ≡ decoded_at o s i (mid_of (2 * k) (20_000 - 2 * k) m) → length part ≡ length (mid_of (2 * k) (20_000 - 2 * k) m)
+        → (ok (k + v.count) ≡ few_enough (points_in m k ++ l)) × Keeps (put_mid (2 * k) (20_000 - 2 * k) m part) (points_in m k ++ l)
+    chunk_in_law e v f part y z =
         let b : fine ≡ decode_at o s i (drop (2 * k) m) = e ∙ ap (decode_at o s i) lent in
         let a = accepted o s i (drop (2 * k) m) b in
         let same : a.0 ≡ l = ok_inv a.0 l (a.1 ∙ sym p) in
-        let many : c ≡ length l = g ∙ count_is v f in
+        let many : v.count ≡ length l = count_is v f in
         let short : 2 * k ≤ length m = omega (arith, n, h) in
         let r = drop (length (flat a.0)) (drop (2 * k) m) in
-        let none : drop (length m - 2 * k) (drop (2 * k) m) ≡ [] = drop_of_length-le (drop (2 * k) m) {i = length m - 2 * k} (omega (arith, length-drop (2 * k) m)) in
-        let after : part ++ drop (length m - 2 * k) (drop (2 * k) m) ≡ flat a.0 ++ r = ap (λ (x : List ℤ). part ++ x) none ∙ append-nil part ∙ y ∙ ap (decoded_at o s i) lent ∙ a.2 in
-        fills w (points_in m k ++ l) (k + c) (omega (arith, n, h, many, room_was (drop (2 * k) m) b, length-drop (2 * k) m)) (q ∙ n)
-        (ap (points_in w) (ap (λ (x : ℕ). k + x) (many ∙ sym (ap length same)))
-        ∙ ap (λ (x : List ℤ). points_in x (k + length a.0)) (d ∙ ap (λ (x : List ℤ). take (2 * k) m ++ x) after)
+        let none : drop (20_000 - 2 * k) (drop (2 * k) m) ≡ [] = drop_of_length-le (drop (2 * k) m) {i = 20_000 - 2 * k} (omega (arith, n, length-drop (2 * k) m)) in
+        let after : part ++ drop (20_000 - 2 * k) (drop (2 * k) m) ≡ flat a.0 ++ r = ap (λ (x : List ℤ). part ++ x) none ∙ append-nil part ∙ y ∙ ap (decoded_at o s i) lent ∙ a.2 in
+        fills (put_mid (2 * k) (20_000 - 2 * k) m part) (points_in m k ++ l) (k + v.count) (omega (arith, n, h, many, room_was (drop (2 * k) m) b, length-drop (2 * k) m)) (same_len_mid (2 * k) (20_000 - 2 * k) m part z ∙ n)
+        (ap (points_in (put_mid (2 * k) (20_000 - 2 * k) m part)) (ap (λ (x : ℕ). k + x) (many ∙ sym (ap length same)))
+        ∙ ap (λ (x : List ℤ). points_in (take (2 * k) m ++ x) (k + length a.0)) after
         ∙ points_anew k m a.0 r short
         ∙ ap (λ (x : List I32Point). points_in m k ++ x) same)
 

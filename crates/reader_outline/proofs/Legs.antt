@@ -158,43 +158,49 @@ module _ (o : Opened) (s : List ℕ) where
   unfolding legs_row
   legs_one n i h = ap (map leg_points) (run_one (Layout.leg_at (directories o s)) n i h)
 
-  -- m₀ are the numbers at the start, m those now, which hold n positions; `left` legs from op i on are to come
-  pub record Legging (m₀ m : List ℤ) (first count n i left : ℕ) : Type 0 where
-    pub same : length m ≡ length m₀
+  -- m are the numbers now, which hold n positions; the legs up to op first + count, from op i on, are to come
+  pub record Legging (m : List ℤ) (first count n i : ℕ) : Type 0 where
+    pub size : length m ≡ 20_000
     pub room : n ≤ 10_000
-    pub place : i + left ≡ first + count
-    pub all : legs_on (points_in m n) (legs_row o s left i) ≡ legs_on [] (legs_row o s count first)
+    pub all : legs_on (points_in m n) (legs_row o s (first + count - i) i) ≡ legs_on [] (legs_row o s count first)
 
-  pub legs_start : (m : List ℤ) (first count : ℕ) → Legging m m first count 0 first count
+  pub legs_start : (m : List ℤ) (first count : ℕ) → length m ≡ 20_000 → Legging m first count 0 first
   unfolding points_in
-  legs_start m first count = record { same = refl; room = omega arith; place = refl; all = refl }
+  legs_start m first count l =
+      let z : first + count - first ≡ count = omega arith in
+      record { size = l; room = omega arith; all = rw z }
 
-  module _ (m₀ m : List ℤ) (first count n i left : ℕ) (w : Legging m₀ m first count n i left) where
-    module _ (h : 0 < left) where
-      joined : legs_on (joined_on (points_in m n) (leg i)) (legs_row o s (left - 1) (i + 1)) ≡ legs_on [] (legs_row o s count first)
+  module _ (m : List ℤ) (first count n i : ℕ) (w : Legging m first count n i) where
+    module _ (h : i < first + count) where
+      less : first + count - i - 1 ≡ first + count - (i + 1)
+      less = omega arith
+
+      joined : legs_on (joined_on (points_in m n) (leg i)) (legs_row o s (first + count - (i + 1)) (i + 1)) ≡ legs_on [] (legs_row o s count first)
       unfolding legs_on
-      joined = ap (legs_on (points_in m n)) (sym (legs_one left i h)) ∙ w.all
+      joined =
+          ap (λ (x : ℕ). legs_on (joined_on (points_in m n) (leg i)) (legs_row o s x (i + 1))) (sym less)
+          ∙ ap (legs_on (points_in m n)) (sym (legs_one (first + count - i) i (omega arith)))
+          ∙ w.all
 
       pub legs_no : (r : Refusal) → refused r ≡ few_enough (joined_on (points_in m n) (leg i)) → (m' : List ℤ) → (refused r ≡ few_enough (legs_on [] (legs_row o s count first))) × Keeps m' (legs_on [] (legs_row o s count first))
       legs_no r e m' =
           fills_no m' (legs_on [] (legs_row o s count first)) (joined_on (points_in m n) (leg i)) r e
-          (omega (arith, ap length joined, legs_longer (joined_on (points_in m n) (leg i)) (legs_row o s (left - 1) (i + 1))))
+          (omega (arith, ap length joined, legs_longer (joined_on (points_in m n) (leg i)) (legs_row o s (first + count - (i + 1)) (i + 1))))
 
-      pub legs_on_law : (m' : List ℤ) (n' : ℕ) → length m' ≡ length m → ok n' ≡ few_enough (joined_on (points_in m n) (leg i)) → Keeps m' (joined_on (points_in m n) (leg i)) → Legging m₀ m' first count n' (i + 1) (left - 1)
-      legs_on_law m' n' l e g =
+      pub legs_on_law : (m' : List ℤ) → length m' ≡ 20_000 → (n' : ℕ) → ok n' ≡ few_enough (joined_on (points_in m n) (leg i)) → Keeps m' (joined_on (points_in m n) (leg i)) → Legging m' first count n' (i + 1)
+      legs_on_law m' l n' e g =
           let f = stands_there m' (joined_on (points_in m n) (leg i)) n' e g in
           record {
-            same = l ∙ w.same;
+            size = l;
             room = f.1;
-            place = omega (arith, w.place);
-            all = ap (λ (x : List P). legs_on x (legs_row o s (left - 1) (i + 1))) f.0 ∙ joined;
+            all = ap (λ (x : List P). legs_on x (legs_row o s (first + count - (i + 1)) (i + 1))) f.0 ∙ joined;
           }
 
-    pub legs_end : left ≤ 0 → length m₀ ≡ 20_000 → (ok n ≡ few_enough (legs_on [] (legs_row o s count first))) × Keeps m (legs_on [] (legs_row o s count first))
+    pub legs_end : first + count ≤ i → (ok n ≡ few_enough (legs_on [] (legs_row o s count first))) × Keeps m (legs_on [] (legs_row o s count first))
     unfolding legs_on
-    legs_end h l =
-        fills m (legs_on [] (legs_row o s count first)) n w.room (w.same ∙ l)
-        (ap (legs_on (points_in m n)) (sym (legs_none left i (omega arith))) ∙ w.all)
+    legs_end h =
+        fills m (legs_on [] (legs_row o s count first)) n w.room w.size
+        (ap (legs_on (points_in m n)) (sym (legs_none (first + count - i) i (omega arith))) ∙ w.all)
 
 -- ---- a ring
 module _ (o : Opened) (s : List ℕ) (k : Ready o s) (i : ℕ) (h : i < o.rings.count) where
@@ -234,23 +240,19 @@ module _ (o : Opened) (s : List ℕ) (k : Ready o s) (i : ℕ) (h : i < o.rings.
         ∙ ap (λ (x : RingRecord). strung (legs_row o s x.count x.first)) ring_found)
 
     -- the legs as the code fills them, from where the ring says, and then the ring closed
-    module _ (a : ℕ) (f : a ≡ v.first) where
-      abbrev filled : List P
-      filled = legs_on [] (legs_row o s v.count a)
+    abbrev filled : List P
+    filled = legs_on [] (legs_row o s v.count v.first)
 
-      whole : closed filled ≡ positions_at o s i
-      whole = ap (λ (x : ℕ). closed (legs_on [] (legs_row o s v.count x))) f ∙ positions_are
+    pub ring_no : (r : Refusal) → refused r ≡ few_enough filled → (m : List ℤ) → (refused r ≡ few_enough (positions_at o s i)) × Keeps m (positions_at o s i)
+    ring_no r g m = fills_no m (positions_at o s i) filled r g (omega (arith, closed_longer filled, ap length positions_are))
 
-      pub ring_no : (r : Refusal) → refused r ≡ few_enough filled → (m : List ℤ) → (refused r ≡ few_enough (positions_at o s i)) × Keeps m (positions_at o s i)
-      ring_no r g m = fills_no m (positions_at o s i) filled r g (omega (arith, closed_longer filled, ap length whole))
+    module _ (n : ℕ) (g : ok n ≡ few_enough filled) where
+      pub ring_room : (0 < n) × (n ≤ 10_000)
+      ring_room =
+          let u = upto filled n g in
+          (omega (arith, u.0, strung_some), omega (arith, u))
 
-      module _ (n : ℕ) (g : ok n ≡ few_enough filled) where
-        pub ring_room : (0 < n) × (n ≤ 10_000)
-        ring_room =
-            let u = upto filled n g in
-            (omega (arith, u.0, strung_some, ap (λ (x : ℕ). length (legs_on [] (legs_row o s v.count x))) f), omega (arith, u))
-
-        pub ring_closed : (m : List ℤ) → Keeps m filled → (x : Answer ℕ) (w : List ℤ) → x ≡ few_enough (closed (points_in m n)) → Keeps w (closed (points_in m n)) → (x ≡ few_enough (positions_at o s i)) × Keeps w (positions_at o s i)
-        ring_closed m q x w b d =
-            let y : closed (points_in m n) ≡ positions_at o s i = ap closed (stands_there m filled n g q).0 ∙ whole in
-            (b ∙ ap few_enough y, subst (Keeps w) y d)
+      pub ring_closed : (m : List ℤ) → Keeps m filled → (x : Answer ℕ) (w : List ℤ) → x ≡ few_enough (closed (points_in m n)) → Keeps w (closed (points_in m n)) → (x ≡ few_enough (positions_at o s i)) × Keeps w (positions_at o s i)
+      ring_closed m q x w b d =
+          let y : closed (points_in m n) ≡ positions_at o s i = ap closed (stands_there m filled n g q).0 ∙ positions_are in
+          (b ∙ ap few_enough y, subst (Keeps w) y d)

@@ -14,27 +14,19 @@ use Rattle.opened.specs.declared.Opened.{Opened}
 use Rattle.reader_records.specs.declared.GroupRecord.{GroupRecord}
 use Rattle.reader_outline.specs.Held.{spots, points_in}
 use Rattle.reader_outline.specs.Told.{few_enough, Keeps}
-use Rattle.reader_outline.specs.Steps.{row_points, side_points, entry_of, turned_in}
+use Rattle.reader_outline.specs.Steps.{row_points, side_points, turned_in}
 use Rattle.reader_outline.proofs.Spots.{spots_room, points_length}
 use Rattle.reader_outline.proofs.Turning.{turned_behind}
 use Rattle.reader_outline.proofs.Filling.{upto, fills, fills_no, stands_there}
 
-pub entered_turned : (g : GroupRecord) (t : Bool) → t ≡ true → g.exit ≡ entry_of g t
-unfolding entry_of
-entered_turned g t e = rw e
-
-pub entered_stored : (g : GroupRecord) (t : Bool) → t ≡ false → g.entry ≡ entry_of g t
-unfolding entry_of
-entered_stored g t e = rw e
-
 -- m are the numbers before, of which the first k positions stay; a is where the group's chunks start
-module _ (o : Opened) (s : List ℕ) (g : GroupRecord) (t : Bool) (m : List ℤ) (k : ℕ) (size : length m ≡ 20_000) (small : k ≤ 10_000) (a : ℕ) (e : a ≡ g.first) where
+module _ (o : Opened) (s : List ℕ) (g : GroupRecord) (t : Bool) (m : List ℤ) (k : ℕ) (size : length m ≡ 20_000) (small : k ≤ 10_000) where
   abbrev row : List I32Point
-  row = row_points o s g.count a
+  row = row_points o s g.count g.first
 
   side : side_points o s g t ≡ cond t (reverse row) row
   unfolding side_points
-  side = ap (λ (i : ℕ). cond t (reverse (row_points o s g.count i)) (row_points o s g.count i)) (sym e)
+  side = refl
 
   side_length : length (side_points o s g t) ≡ length row
   side_length = ap length side ∙ go t
@@ -52,22 +44,22 @@ module _ (o : Opened) (s : List ℕ) (g : GroupRecord) (t : Bool) (m : List ℤ)
       (omega (arith, side_length, length-append (points_in m k) (side_points o s g t), length-append (points_in m k) row))
 
   -- n positions stand in the numbers m' now
-  module _ (n : ℕ) (f : ok n ≡ few_enough (points_in m k ++ row)) (m' : List ℤ) (size' : length m' ≡ length m) (h : Keeps m' (points_in m k ++ row)) where
+  module _ (n : ℕ) (f : ok n ≡ few_enough (points_in m k ++ row)) (m' : List ℤ) (size' : length m' ≡ 20_000) (h : Keeps m' (points_in m k ++ row)) where
     so : (points_in m' n ≡ points_in m k ++ row) × (n ≤ 10_000)
     so = stands_there m' (points_in m k ++ row) n f h
 
     pub turn_room : (k ≤ n) × (2 * n ≤ length m')
-    turn_room = (omega (arith, (upto (points_in m k ++ row) n f).0, many), omega (arith, so.1, size', size))
+    turn_room = (omega (arith, (upto (points_in m k ++ row) n f).0, many), omega (arith, so.1, size'))
 
     pub side_stored : t ≡ false → (ok n ≡ few_enough (points_in m k ++ side_points o s g t)) × Keeps m' (points_in m k ++ side_points o s g t)
     side_stored b =
-        fills m' (points_in m k ++ side_points o s g t) n so.1 (size' ∙ size)
+        fills m' (points_in m k ++ side_points o s g t) n so.1 size'
         (so.0 ∙ ap (λ (l : List I32Point). points_in m k ++ l) (sym (side ∙ ap (λ (u : Bool). cond u (reverse row) row) b)))
 
-    pub side_turned : t ≡ true → (w : List ℤ) → length w ≡ length m' → spots w ≡ turned_in (spots m') k n → (ok n ≡ few_enough (points_in m k ++ side_points o s g t)) × Keeps w (points_in m k ++ side_points o s g t)
+    pub side_turned : t ≡ true → (w : List ℤ) → length w ≡ 20_000 → spots w ≡ turned_in (spots m') k n → (ok n ≡ few_enough (points_in m k ++ side_points o s g t)) × Keeps w (points_in m k ++ side_points o s g t)
     unfolding points_in
     side_turned b w z q =
-        fills w (points_in m k ++ side_points o s g t) n so.1 (z ∙ size' ∙ size)
+        fills w (points_in m k ++ side_points o s g t) n so.1 z
         (ap (take n) q
         ∙ turned_behind (spots m') (points_in m k) row k n (points_length k m (omega (arith, size, small))) so.0 (sym ((upto (points_in m k ++ row) n f).0 ∙ many)) (spots_room n m' turn_room.1)
         ∙ ap (λ (l : List I32Point). points_in m k ++ l) (sym (side ∙ ap (λ (u : Bool). cond u (reverse row) row) b)))

@@ -1,6 +1,6 @@
 -- Points turned round in place: the two ends of what is left are exchanged, until at most one point is left.
 -- Assumes nothing.
-use Prim.Native.Nat.{ℕ, suc, ◌+◌, ◌-◌, ◌≤◌, ◌<◌}
+use Prim.Native.Nat.{ℕ, suc, ◌+◌, ◌-◌, ◌/◌, ◌≤◌, ◌<◌}
 use native.Mathlib.Omega.{arith}
 use mathlib.Core.Path.{◌≡◌, refl, sym, ap, ap₂, ◌∙◌}
 use mathlib.Core.Bool.{Bool, true, false}
@@ -104,12 +104,15 @@ pub record Turning (l₀ l : List P) (from to i j : ℕ) : Type 0 where
   pub room : j ≤ length l
   pub all : turned_in l i j ≡ turned_in l₀ from to
 
-pub turning_start : (l : List P) (from to : ℕ) → from ≤ to → to ≤ length l → Turning l l from to from to
-turning_start l from to h k = record { up = h; room = k; all = refl }
+pub turning_start : (l : List P) (from to : ℕ) → from ≤ to → to ≤ length l → Turning l l from to (from + 0) (to - 0)
+turning_start l from to h k =
+    let a : from + 0 ≡ from = omega arith in
+    let b : to - 0 ≡ to = omega arith in
+    rw (a, b) (record { up = h; room = k; all = refl })
 
 module _ (l₀ l : List P) (from to i j : ℕ) (t : Turning l₀ l from to i j) where
   -- p at i and q at the last place are exchanged
-  pub turning_on : i + 1 < j → (p q : P) → p ≡ get_or l i origin → q ≡ get_or l (j - 1) origin → (u v : List P) → u ≡ set l i q → v ≡ set u (j - 1) p → Turning l₀ v from to (i + 1) (j - 1)
+  turning_on : i + 1 < j → (p q : P) → p ≡ get_or l i origin → q ≡ get_or l (j - 1) origin → (u v : List P) → u ≡ set l i q → v ≡ set u (j - 1) p → Turning l₀ v from to (i + 1) (j - 1)
   turning_on h p q e f u v g k =
       let m : j - 1 + 1 ≡ j = omega arith in
       let w : v ≡ set (set l i (get_or l (j - 1) origin)) (j - 1) (get_or l i origin) = k ∙ ap₂ (λ (x : List P) (y : P). set x (j - 1) y) (g ∙ ap (set l i) f) e in
@@ -123,8 +126,19 @@ module _ (l₀ l : List P) (from to i j : ℕ) (t : Turning l₀ l from to i j) 
             ∙ t.all;
       }
 
-  pub turning_end : j ≤ i + 1 → l ≡ turned_in l₀ from to
+  turning_end : j ≤ i + 1 → l ≡ turned_in l₀ from to
   turning_end h = turn_end l i j t.up h t.room ∙ t.all
+
+-- exchange after exchange
+module _ (l₀ l : List P) (from to d : ℕ) (h : from ≤ to) (t : Turning l₀ l from to (from + d) (to - d)) where
+  pub turning_next : d < (to - from) / 2 → (p q : P) → p ≡ get_or l (from + d) origin → q ≡ get_or l (to - d - 1) origin → (u v : List P) → u ≡ set l (from + d) q → v ≡ set u (to - d - 1) p → Turning l₀ v from to (from + (d + 1)) (to - (d + 1))
+  turning_next k p q e f u v g m =
+      let a : from + (d + 1) ≡ from + d + 1 = omega arith in
+      let b : to - (d + 1) ≡ to - d - 1 = omega arith in
+      rw (a, b) (turning_on l₀ l from to (from + d) (to - d) t (omega (arith, k, h)) p q e f u v g m)
+
+  pub turning_done : (to - from) / 2 ≤ d → l ≡ turned_in l₀ from to
+  turning_done k = turning_end l₀ l from to (from + d) (to - d) t (omega (arith, k, h))
 
 -- ---- what was turned, by what lies in front of it
 pub turned_behind : (l a m : List P) (i j : ℕ) → length a ≡ i → take j l ≡ a ++ m → i + length m ≡ j → j ≤ length l → take j (turned_in l i j) ≡ a ++ reverse m

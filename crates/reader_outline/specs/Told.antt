@@ -2,32 +2,18 @@
 -- Assumes nothing.
 use Rattle.std.specs.Prelude.{ℕ, ◌≤◌, ◌≡◌, Bool, List, length, leb, ℤ}
 use Rattle.plane.specs.declared.I32Point.{I32Point}
-use Rattle.answer.specs.Answers.{Answer, ok, refused, need}
+use Rattle.answer.specs.Answers.{Answer, ok, need}
 use Rattle.shapes.specs.Layout.{Covered, ring_at}
 use Rattle.shapes.specs.Outline.{ring_positions, drawable, backwards}
 use Rattle.opened.specs.declared.Opened.{Opened}
 use Rattle.directories.specs.Directories.{directories}
 use Rattle.reader_exact.specs.Sound.{Sound}
 use Rattle.reader_outline.specs.Held.{points_in}
-use Rattle.reader_outline.specs.declared.Filled.{Filled}
-use Rattle.reader_outline.specs.declared.Filled.TheVariants as F
-use Rattle.reader_outline.specs.declared.Outlined.{Outlined}
-use Rattle.reader_outline.specs.declared.Outlined.TheVariants as O
 
 -- what the full check leaves: a file that is sound, and whose boxes, entries and exits are right
 pub record Ready (o : Opened) (s : List ℕ) : Type 0 where
   pub sound : Sound o s
   pub covered : Covered (directories o s)
-
--- ---- what each enum tells
-abbrev pub filled_told : Filled → Answer ℕ
-filled_told (F.Upto n) = ok n
-filled_told (F.Refused k) = refused k
-
--- how many positions, and whether they are written backwards
-abbrev pub outlined_told : Outlined → Answer (ℕ × Bool)
-outlined_told (O.Drawn n back) = ok (n, back)
-outlined_told (O.Refused k) = refused k
 
 -- ---- positions in lent numbers: 48 for "over 10,000"
 unfoldable pub few_enough : List I32Point → Answer ℕ

@@ -5,22 +5,12 @@ use native.Mathlib.Omega.{arith}
 use native.Mathlib.Nat.{mul-le-mul}
 use mathlib.Core.Path.{◌≡◌}
 use mathlib.Core.List.{List}
-use lib.IntN.{ℤ}
 use Rattle.plane.specs.declared.I32Point.{I32Point}
 use Rattle.fields.specs.Le.{le}
 use Rattle.boxes.specs.declared.BBox.{BBox}
-use Rattle.reader_records.specs.Records.{coordinate, box_in, point_in, list_in, ring_in, group_in, chunk_in}
+use Rattle.reader_records.specs.Records.{box_in, point_in, list_in, ring_in, group_in, chunk_in}
 
 module _ (s : List ℕ) (p : ℕ) where
-  pub box_is : (a b c d : ℤ) → a ≡ coordinate s p → b ≡ coordinate s (p + 4) → c ≡ coordinate s (p + 8) → d ≡ coordinate s (p + 12)
-      → record { minx = a; miny = b; maxx = c; maxy = d } ≡ box_in s p
-  unfolding box_in
-  box_is a b c d e f g h = rw (e, f, g, h)
-
-  pub point_is : (a b : ℤ) → a ≡ coordinate s p → b ≡ coordinate s (p + 4) → record { x = a; y = b } ≡ point_in s p
-  unfolding point_in
-  point_is a b e f = rw (e, f)
-
   pub list_is : (a b : ℕ) (x : BBox) → a ≡ le 4 s p → b ≡ le 2 s (p + 4) → x ≡ box_in s (p + 8) → record { first = a; count = b; bbox = x } ≡ list_in s p
   unfolding list_in
   list_is a b x e f g = rw (e, f, g)

@@ -2,17 +2,18 @@
 -- Assumes nothing.
 use Prim.Native.Nat.{ℕ, ◌+◌, ◌≤◌, ◌<◌}
 use native.Mathlib.Omega.{arith}
-use mathlib.Core.Path.{◌≡◌, refl, sym, ap, ◌∙◌}
+use mathlib.Core.Path.{◌≡◌, refl, ap, ◌∙◌}
 use mathlib.Core.Bool.{Bool, true, false, ◌&&◌}
 use mathlib.Core.List.{List}
 use lib.ListN.{length}
 use lib.Dec.{ltb, leb}
-use borrow.Author.Tests.{lt-leb, le-leb, lt-ltb, le-ltb, leb-true, ltb-true}
+use borrow.Author.Tests.{le-leb, lt-ltb, leb-true, ltb-true}
 use Rattle.basics.specs.Truth.{and_l, and_r}
 use Rattle.plane.specs.Domain.{in_domain}
 use Rattle.answer.specs.declared.Refusal.{Refusal}
-use Rattle.answer.specs.Answers.{Answer, ok, refused, no, need}
-use Rattle.answer.proofs.AnswersLaws.{then_inv, need_inv, ok_inv}
+use Rattle.answer.specs.Answers.{Answer, ok, refused, need}
+use Rattle.answer.specs.Checks.{claim}
+use Rattle.answer.proofs.AnswersLaws.{zero_one, then_ok, then_inv, need_met, need_inv, ok_inv}
 use Rattle.fields.specs.Loads.{inside}
 use Rattle.boxes.specs.Box.{box_in_domain}
 use Rattle.opened.specs.declared.Directory.{Directory}
@@ -21,14 +22,40 @@ use Rattle.opened.specs.Widths.{group_wide}
 use Rattle.reader_records.specs.declared.GroupRecord.{GroupRecord}
 use Rattle.reader_records.specs.Records.{place, record_at, ruled, group_in, group_rule, group_place, group_at, fits_below}
 
-module _ (s : List ℕ) (d : Directory) (w i : ℕ) where
-  pub record_out : d.count ≤ i → no 34 ≡ record_at s d w i
-  unfolding record_at
-  record_out h = rw (le-ltb i d.count h)
+-- what a claim that was made tells of what needs it
+module _ {A : Type 0} (n : ℕ) (x : Answer A) where
+  pub need_no : (b : Bool) (r : Refusal) → refused r ≡ claim n b → refused r ≡ need n b x
+  unfolding claim
+  need_no true r e = let z : ◌≡◌ {A = ℕ} 0 1 = cc in absurd (zero_one z)
+  need_no false r e = cc
 
-  pub record_short : i < d.count → length s < place d w i + w → no 44 ≡ record_at s d w i
-  unfolding record_at inside
-  record_short h k = rw (lt-ltb i d.count h, lt-leb (place d w i + w) (length s) k)
+  pub need_ok : (b : Bool) (u : Unit {0}) → ok u ≡ claim n b → (y : Answer A) → y ≡ x → y ≡ need n b x
+  unfolding claim
+  need_ok true u e y h = h
+  need_ok false u e y h = let z : ◌≡◌ {A = ℕ} 0 1 = cc in absurd (zero_one z)
+
+claim_met : (n : ℕ) (b : Bool) (u : Unit {0}) → ok u ≡ claim n b → b ≡ true
+unfolding claim
+claim_met n true u e = refl
+claim_met n false u e = let z : ◌≡◌ {A = ℕ} 0 1 = cc in absurd (zero_one z)
+
+module _ (s : List ℕ) (d : Directory) (w i : ℕ) where
+  pub record_out : (r : Refusal) → refused r ≡ claim 34 (ltb i d.count) → refused r ≡ record_at s d w i
+  unfolding record_at
+  record_out r e = need_no 34 _ (ltb i d.count) r e
+
+  module _ (u : Unit {0}) (e : ok u ≡ claim 34 (ltb i d.count)) where
+    pub record_short : (r : Refusal) → refused r ≡ claim 44 (leb (place d w i + w) (length s)) → refused r ≡ record_at s d w i
+    unfolding record_at inside
+    record_short r f = need_ok 34 _ (ltb i d.count) u e _ (need_no 44 _ (leb (place d w i + w) (length s)) r f)
+
+    pub record_is : (v : Unit {0}) → ok v ≡ claim 44 (leb (place d w i + w) (length s)) → ok (place d w i) ≡ record_at s d w i
+    unfolding record_at inside
+    record_is v f = need_ok 34 _ (ltb i d.count) u e _ (need_ok 44 _ (leb (place d w i + w) (length s)) v f (ok (place d w i)) refl)
+
+    -- its index is as small as a count
+    pub record_index : i < d.count
+    record_index = ltb-true i d.count (claim_met 34 (ltb i d.count) u e)
 
   pub record_at_law : i < d.count → place d w i + w ≤ length s → ok (place d w i) ≡ record_at s d w i
   unfolding record_at inside
@@ -44,24 +71,19 @@ module _ (s : List ℕ) (d : Directory) (w i : ℕ) where
       go true false h e = let z : ◌≡◌ {A = ℕ} 0 1 = cc in omega arith
       go false b h e = let z : ◌≡◌ {A = ℕ} 0 1 = cc in omega arith
 
--- the same for each directory: there is no record, its rule is broken, its rule is kept
+-- the same for each directory: its rule is broken, its rule is kept
 module _ {A : Type 0} (at : Answer ℕ) (read : ℕ → A) (rule : A → Bool) (n : ℕ) where
-  pub ruled_no : (k : Refusal) → refused k ≡ at → refused k ≡ ruled at read rule n
-  unfolding ruled
-  ruled_no k e = rw (← e)
-
   module _ (p : ℕ) (v : A) (b : Bool) (e : ok p ≡ at) (g : v ≡ read p) (h : b ≡ rule v) where
-    pub ruled_bad : b ≡ false → no n ≡ ruled at read rule n
-    unfolding ruled
-    ruled_bad z =
-        let y : rule (read p) ≡ false = ap rule (sym g) ∙ sym h ∙ z in
-        rw (← e, y)
+    kept_as : b ≡ rule (read p)
+    kept_as = h ∙ ap rule g
 
-    pub ruled_ok : b ≡ true → ok v ≡ ruled at read rule n
+    pub ruled_bad : (r : Refusal) → refused r ≡ claim n b → refused r ≡ ruled at read rule n
     unfolding ruled
-    ruled_ok z =
-        let y : rule (read p) ≡ true = ap rule (sym g) ∙ sym h ∙ z in
-        ap ok g ∙ sym (rw (← e, y) refl)
+    ruled_bad r f = need_no n (ok (read p)) (rule (read p)) r (f ∙ ap (claim n) kept_as) ∙ then_ok at (λ q. need n (rule (read q)) (ok (read q))) p e
+
+    pub ruled_ok : (u : Unit {0}) → ok u ≡ claim n b → ok v ≡ ruled at read rule n
+    unfolding ruled
+    ruled_ok u f = need_ok n (ok (read p)) (rule (read p)) u (f ∙ ap (claim n) kept_as) (ok v) (ap ok g) ∙ then_ok at (λ q. need n (rule (read q)) (ok (read q))) p e
 
 -- a record that is answered keeps its rule
 pub ruled_kept : {A : Type 0} (at : Answer ℕ) (read : ℕ → A) (rule : A → Bool) (n : ℕ) (a : A) → ok a ≡ ruled at read rule n → rule a ≡ true
@@ -82,7 +104,8 @@ ruled_inside s d w i read rule n a e =
 -- a record that is there and keeps its rule is answered
 pub ruled_there : {A : Type 0} (s : List ℕ) (d : Directory) (w i n : ℕ) (read : ℕ → A) (rule : A → Bool)
     → i < d.count → place d w i + w ≤ length s → rule (read (place d w i)) ≡ true → ok (read (place d w i)) ≡ ruled (record_at s d w i) read rule n
-ruled_there s d w i n read rule h k e = ruled_ok (record_at s d w i) read rule n (place d w i) (read (place d w i)) true (record_at_law s d w i h k) refl (sym e) refl
+unfolding ruled
+ruled_there s d w i n read rule h k e = need_met n (rule (read (place d w i))) (ok (read (place d w i))) e ∙ then_ok (record_at s d w i) (λ q. need n (rule (read q)) (ok (read q))) (place d w i) (record_at_law s d w i h k)
 
 -- the place alone of what keeps its rule
 module _ {A : Type 0} (read : ℕ → A) (rule : A → Bool) (n : ℕ) where
@@ -95,7 +118,7 @@ module _ {A : Type 0} (read : ℕ → A) (rule : A → Bool) (n : ℕ) where
   placed_no (refused j) k e = cc
   placed_no (ok p) k e = tested k p (rule (read p)) e
 
-  kept : (p q : ℕ) (b : Bool) → ok p ≡ need n b (ok q) → (ok p ≡ ok q) × (ok (read p) ≡ need n b (ok (read q)))
+  kept : (p q : ℕ) (b : Bool) → ok p ≡ need n b (ok q) → ◌≡◌ {A = Answer ℕ} (ok p) (ok q) × (ok (read p) ≡ need n b (ok (read q)))
   kept p q true e = let z : p ≡ q = cc in (e, ap (λ (j : ℕ). ok (read j)) z)
   kept p q false e = (cc, cc)
 

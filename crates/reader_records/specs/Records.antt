@@ -6,7 +6,7 @@ use Rattle.std.specs.Int.{w32}
 use Rattle.std.proofs.Common.{to_z}
 use Rattle.plane.specs.declared.I32Point.{I32Point}
 use Rattle.plane.specs.Domain.{in_domain}
-use Rattle.answer.specs.Answers.{Answer, ok, refused, ◌then◌, need}
+use Rattle.answer.specs.Answers.{Answer, ok, ◌then◌, need}
 use Rattle.fields.specs.Le.{le}
 use Rattle.fields.specs.Loads.{inside}
 use Rattle.boxes.specs.declared.BBox.{BBox}
@@ -18,43 +18,6 @@ use Rattle.reader_records.specs.declared.ListRecord.{ListRecord}
 use Rattle.reader_records.specs.declared.RingRecord.{RingRecord}
 use Rattle.reader_records.specs.declared.GroupRecord.{GroupRecord}
 use Rattle.reader_records.specs.declared.ChunkRecord.{ChunkRecord}
-use Rattle.reader_records.specs.declared.RecordPlace.{RecordPlace}
-use Rattle.reader_records.specs.declared.RecordPlace.TheVariants as P
-use Rattle.reader_records.specs.declared.ListAt.{ListAt}
-use Rattle.reader_records.specs.declared.ListAt.TheVariants as L
-use Rattle.reader_records.specs.declared.RingAt.{RingAt}
-use Rattle.reader_records.specs.declared.RingAt.TheVariants as N
-use Rattle.reader_records.specs.declared.OpAt.{OpAt}
-use Rattle.reader_records.specs.declared.OpAt.TheVariants as O
-use Rattle.reader_records.specs.declared.GroupAt.{GroupAt}
-use Rattle.reader_records.specs.declared.GroupAt.TheVariants as G
-use Rattle.reader_records.specs.declared.ChunkAt.{ChunkAt}
-use Rattle.reader_records.specs.declared.ChunkAt.TheVariants as C
-
--- what each enum tells
-abbrev pub told_place : RecordPlace → Answer ℕ
-told_place (P.At p) = ok p
-told_place (P.Refused k) = refused k
-
-abbrev pub told_list : ListAt → Answer ListRecord
-told_list (L.At v) = ok v
-told_list (L.Refused k) = refused k
-
-abbrev pub told_ring : RingAt → Answer RingRecord
-told_ring (N.At v) = ok v
-told_ring (N.Refused k) = refused k
-
-abbrev pub told_op : OpAt → Answer ℕ
-told_op (O.At w) = ok w
-told_op (O.Refused k) = refused k
-
-abbrev pub told_group : GroupAt → Answer GroupRecord
-told_group (G.At v) = ok v
-told_group (G.Refused k) = refused k
-
-abbrev pub told_chunk : ChunkAt → Answer ChunkRecord
-told_chunk (C.At v) = ok v
-told_chunk (C.Refused k) = refused k
 
 -- a directory of that many records, from that place on
 abbrev pub directory : ℕ → ℕ → Directory

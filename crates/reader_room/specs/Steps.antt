@@ -3,7 +3,7 @@
 -- Assumes nothing.
 use Rattle.std.specs.Prelude.{ℕ, zero, suc, ◌+◌, ◌-◌, Bool, true, cond, List, leb}
 use Rattle.plane.specs.declared.I32Point.{I32Point}
-use Rattle.answer.specs.Answers.{Answer, ok, refused, ◌then◌}
+use Rattle.answer.specs.Answers.{Answer, ok, ◌then◌}
 use Rattle.chunks.specs.Count.{with_side}
 use Rattle.opened.specs.declared.Opened.{Opened}
 use Rattle.reader_records.specs.declared.RingRecord.{RingRecord}
@@ -11,13 +11,6 @@ use Rattle.reader_records.specs.declared.GroupRecord.{GroupRecord}
 use Rattle.reader_records.specs.Records.{group_index, turns_round, op_at, group_at}
 use Rattle.reader_chunks.specs.Chunks.{first_at, count_at}
 use Rattle.reader_room.specs.declared.Line.{Line}
-use Rattle.reader_room.specs.declared.LineAt.{LineAt}
-use Rattle.reader_room.specs.declared.LineAt.TheVariants as L
-
--- what the enum of the code tells
-abbrev pub told_line : LineAt → Answer Line
-told_line (L.At v) = ok v
-told_line (L.Refused k) = refused k
 
 -- n chunks from chunk i on, after the point a and with k segments counted
 unfoldable pub chunks_count : Opened → List ℕ → ℕ → ℕ → I32Point → ℕ → Answer (ℕ × I32Point)

@@ -1,19 +1,17 @@
 -- Laws of specs/Building, as proofs cite them: the need as a sum, what is read again, and all numbers as they are laid. Nothing here need be believed.
 -- Assumes nothing.
-use Prim.Native.Nat.{ℕ, zero, suc, ◌+◌, ◌-◌, ◌*◌, ◌≤◌, ◌<◌, max, min, ◌/◌}
+use Prim.Native.Nat.{ℕ, zero, suc, ◌+◌, ◌*◌, ◌≤◌, ◌<◌, max, min, ◌/◌}
 use native.Mathlib.Omega.{arith}
 use mathlib.Core.Path.{◌≡◌, refl, sym, ap, ap₂, ◌∙◌}
 use mathlib.Core.Bool.{Bool, true, false, not, ◌||◌, cond}
 use mathlib.Core.List.{List, [], ◌∷◌}
 use borrow.Author.Tests.{lt-ltb}
 use lib.Dec.{ltb}
-use lib.IntN.{pos}
 use lib.ListN.{length}
-use mir.Syntax.{w32}
-use mir.Val.{of_z}
 use Rattle.plane.specs.Runs.{run}
 use Rattle.answer.specs.declared.Refusal.{Refusal}
-use Rattle.answer.specs.Answers.{Answer, ok, refused, no, ◌then◌, need}
+use Rattle.answer.specs.Answers.{Answer, ok, refused, ◌then◌, need}
+use Rattle.answer.specs.Checks.{claim}
 use Rattle.answer.proofs.AnswersLaws.{then_ok, then_inv, need_inv, ok_inv, zero_one}
 use Rattle.boxes.specs.declared.BBox.{BBox}
 use Rattle.opened.specs.declared.Opened.{Opened}
@@ -22,11 +20,12 @@ use Rattle.reader_records.specs.declared.ChunkRecord.{ChunkRecord}
 use Rattle.reader_records.specs.Records.{chunk_at, group_at}
 use Rattle.stripes.specs.declared.Striping.{Striping}
 use Rattle.stripes.specs.Stripes.{Boxed, stripe_count, striping_of, within_height}
-use Rattle.stripes.specs.Numbers.{low, high, group_entry, depth, depths, group_need, need_of}
+use Rattle.stripes.specs.Numbers.{depth, depths, group_need, need_of}
 use Rattle.stripes.proofs.StripesLaws.{height_some}
 use Rattle.stripes.proofs.NeedLaws.{count_most}
 use Rattle.reader_stripes.specs.Building.{boxes_from, boxed_at, boxed_from, boxed_groups, stripes_need}
-use Rattle.reader_stripes.specs.Steps.{gathered, weigh, weighed, added, box_at, depth_in, box_or, box_read, boxed_or, boxed_read, all_read, boxes_of, CutFrom, stripe_entry}
+use Rattle.reader_stripes.specs.Steps.{gathered, weigh, weighed, added, box_at, depth_in, box_or, box_read, boxed_or, boxed_read, all_read, boxes_of, CutFrom, no_box}
+use Rattle.reader_stripes.specs.declared.cut.Cut.{Cut}
 use Rattle.reader_stripes.proofs.Reading.{length_run, length_gathered, gathered_run}
 
 -- ---- how a group is cut
@@ -65,26 +64,28 @@ weigh_need (g ∷ l) = ap (λ (j : ℕ). group_need g + j) (weigh_need l)
 module _ (o : Opened) (s : List ℕ) where
   -- ---- one chunk
   module _ (group : BBox) (t : Striping) (i : ℕ) where
-    pub box_no : (r : Refusal) → refused r ≡ chunk_at o s i → refused r ≡ weighed (depth_in t) (box_at o s group t i)
-    unfolding weighed box_at
-    box_no r e = rw (← e)
-
     module _ (v : ChunkRecord) (e : ok v ≡ chunk_at o s i) where
-      pub box_flat : t.k ≡ 0 → ok 0 ≡ weighed (depth_in t) (box_at o s group t i)
-      unfolding weighed box_at depth_in
-      box_flat h = rw (← e, h)
+      -- 49 is asked for what has stripes
+      module _ (h : 0 < t.k) (b : Bool) (m : b ≡ within_height group v.bbox) where
+        pub box_out : (r : Refusal) → refused r ≡ claim 49 b → refused r ≡ weighed (depth_in t) (box_at o s group t i)
+        unfolding weighed box_at claim
+        box_out r k =
+            let z : ltb 0 t.k ≡ true = lt-ltb 0 t.k h in
+            rw (← e, z, ← m) (go b k)
+          where
+            go : (b : Bool) → refused r ≡ claim 49 b → refused r ≡ (need 49 b (ok v.bbox) then λ a. ok (depth_in t a))
+            go true k = let z : ◌≡◌ {A = ℕ} 0 1 = cc in absurd (zero_one z)
+            go false k = cc
 
-      pub box_out : 0 < t.k → within_height group v.bbox ≡ false → no 49 ≡ weighed (depth_in t) (box_at o s group t i)
-      unfolding weighed box_at
-      box_out h k =
-          let z : ltb 0 t.k ≡ true = lt-ltb 0 t.k h in
-          rw (← e, z, k)
-
-      pub box_in_law : 0 < t.k → within_height group v.bbox ≡ true → (d : ℕ) → d ≡ depth t v.bbox → ok d ≡ weighed (depth_in t) (box_at o s group t i)
-      unfolding weighed box_at depth_in
-      box_in_law h k d f =
-          let z : ltb 0 t.k ≡ true = lt-ltb 0 t.k h in
-          rw (← e, z, k, f)
+        pub box_in_law : (u : Unit {0}) → ok u ≡ claim 49 b → (d : ℕ) → d ≡ depth t v.bbox → ok d ≡ weighed (depth_in t) (box_at o s group t i)
+        unfolding weighed box_at depth_in claim
+        box_in_law u k d f =
+            let z : ltb 0 t.k ≡ true = lt-ltb 0 t.k h in
+            rw (← e, z, ← m) (go b k)
+          where
+            go : (b : Bool) → ok u ≡ claim 49 b → ok d ≡ (need 49 b (ok v.bbox) then λ a. ok (depth t a))
+            go true k = ap ok f
+            go false k = let z : ◌≡◌ {A = ℕ} 0 1 = cc in absurd (zero_one z)
 
   -- ---- one group
   boxes_gathered : (g : GroupRecord) (n c i : ℕ) → i ≡ g.first + c → boxes_from o s g n c ≡ gathered (box_at o s g.bbox (striping_of g.bbox g.count)) n i
@@ -167,7 +168,7 @@ module _ (o : Opened) (s : List ℕ) where
   unfolding boxed_at boxed_read
   boxed_again j a e = found (then_inv (group_at o s j) (λ (g : GroupRecord). boxes_from o s g g.count 0 then λ l. ok (boxed_by g l)) a e)
     where
-      own : (g : GroupRecord) (l : List BBox) → ok g ≡ group_at o s j → ok l ≡ boxes_from o s g g.count 0 → ok a ≡ ok (boxed_by g l) → a ≡ boxed_or o s (group_at o s j)
+      own : (g : GroupRecord) (l : List BBox) → ok g ≡ group_at o s j → ok l ≡ boxes_from o s g g.count 0 → ◌≡◌ {A = Answer Boxed} (ok a) (ok (boxed_by g l)) → a ≡ boxed_or o s (group_at o s j)
       own g l h k m = ok_inv a (boxed_by g l) m ∙ ap (boxed_by g) (boxes_again g l k) ∙ ap (boxed_or o s) h
 
       found : (g : GroupRecord) × (ok g ≡ group_at o s j) × (ok a ≡ (boxes_from o s g g.count 0 then λ l. ok (boxed_by g l))) → a ≡ boxed_or o s (group_at o s j)
@@ -179,29 +180,15 @@ module _ (o : Opened) (s : List ℕ) where
   unfolding boxed_groups all_read
   all_again l e = gathered_run (boxed_at o s) (boxed_read o s) boxed_again o.groups.count 0 l (e ∙ boxed_gathered o.groups.count 0)
 
-  module _ (i : ℕ) where
-    pub cut_none : (k : Refusal) → refused k ≡ group_at o s i → CutFrom o s i (record { first = 0; count = 0; striping = record { least = pos 0; height = 1; k = 0 } })
-    unfolding boxed_read boxes_of striping_of stripe_count run
-    cut_none k e = record { striping = rw (← e); boxes = rw (← e) }
+  module _ (i : ℕ) (c : Cut) where
+    pub cut_none : (k : Refusal) → refused k ≡ group_at o s i → c.count ≡ 0 → c.striping ≡ striping_of no_box 0 → CutFrom o s i c
+    unfolding boxed_read boxes_of run
+    cut_none k e m t = record { striping = rw (← e) t; boxes = rw (m, ← e) }
 
-    pub cut_is : (g : GroupRecord) → ok g ≡ group_at o s i → (t : Striping) → t ≡ striping_of g.bbox g.count → CutFrom o s i (record { first = g.first; count = g.count; striping = t })
+    pub cut_is : (g : GroupRecord) → ok g ≡ group_at o s i → c.first ≡ g.first → c.count ≡ g.count → c.striping ≡ striping_of g.bbox g.count → CutFrom o s i c
     unfolding boxed_read boxes_of
-    cut_is g e t f =
+    cut_is g e f m t =
         record {
-          striping = rw (← e) (f ∙ ap (striping_of g.bbox) (sym (length_run (box_read o s) g.count g.first)));
-          boxes = rw (← e);
+          striping = rw (← e) (t ∙ ap (striping_of g.bbox) (sym (length_run (box_read o s) g.count g.first)));
+          boxes = rw (f, m, ← e);
         }
-
--- ---- entries
-module _ (t : Striping) (place : ℕ) where
-  pub entry_is_law : 0 < t.k → (b l h : ℕ) → b ≡ of_z w32 t.least → l ≡ low place → h ≡ high place → b ∷ t.height ∷ t.k ∷ l ∷ h ∷ [] ≡ group_entry t place
-  unfolding group_entry
-  entry_is_law k b l h e f g = let z : ltb 0 t.k ≡ true = lt-ltb 0 t.k k in rw (z, e, f, g)
-
-  pub entry_none : t.k ≤ 0 → 0 ∷ 0 ∷ 0 ∷ 0 ∷ 0 ∷ [] ≡ group_entry t place
-  unfolding group_entry
-  entry_none k = let z : t.k ≡ 0 = omega arith in rw z
-
-pub stripe_is : (from to l h : ℕ) → l ≡ low from → h ≡ high from → l ∷ h ∷ (to - from) ∷ [] ≡ stripe_entry from to
-unfolding stripe_entry
-stripe_is from to l h e f = rw (e, f)

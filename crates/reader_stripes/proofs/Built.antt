@@ -1,16 +1,18 @@
 -- What `stripes` answers and leaves: a refusal, or all numbers. Nothing here need be believed.
 -- Assumes nothing.
-use Prim.Native.Nat.{ℕ, ◌+◌, ◌*◌, ◌≤◌, ◌<◌}
+use Prim.Native.Nat.{ℕ, ◌+◌, ◌*◌, ◌≤◌}
 use native.Mathlib.Omega.{arith}
 use mathlib.Core.Path.{◌≡◌, refl, sym, ap, ap₂, ◌∙◌}
 use mathlib.Core.List.{List, ◌++◌}
-use borrow.Author.Tests.{le-leb, lt-leb}
+use borrow.Author.Tests.{le-leb, leb-true}
 use lib.Dec.{leb}
 use lib.ListN.{length, length-append}
 use Rattle.answer.specs.declared.Refusal.{Refusal}
 use Rattle.answer.specs.Answers.{Answer, ok, refused, ◌then◌, need, how_many, left}
-use Rattle.answer.specs.Refusals.{refusal}
-use Rattle.answer.proofs.AnswersLaws.{then_ok, then_inv, need_met, need_not, ok_inv, zero_one, many_no, many_is, left_no, left_is}
+use Rattle.answer.specs.Checks.{claim}
+use Rattle.answer.proofs.CheckLaws.{fine_claim}
+use Rattle.reader_records.proofs.RecordsLaws.{need_no}
+use Rattle.answer.proofs.AnswersLaws.{then_ok, then_inv, need_met, ok_inv, zero_one, many_no, many_is, left_no, left_is}
 use Rattle.answer.specs.Over.{over}
 use Rattle.answer.proofs.OverLaws.{over_on, over_all, length_over}
 use Rattle.opened.specs.declared.Opened.{Opened}
@@ -77,28 +79,30 @@ module _ (o : Opened) (s : List ℕ) where
         (ap ok (sym a) ∙ p.1, ok_inv n (need_of p.0) p.2 ∙ ap need_of a)
 
     module _ (m : List ℕ) where
-      pub build_full : length m < n → (k : Refusal) → k ≡ refusal 46 → (refused k ≡ how_many (stripes_of o s (length m))) × (m ≡ left m (stripes_of o s (length m)))
+      pub build_full : (k : Refusal) → refused k ≡ claim 46 (leb n (length m)) → (refused k ≡ how_many (stripes_of o s (length m))) × (m ≡ left m (stripes_of o s (length m)))
       unfolding stripes_of
-      build_full h k r = (many_no (stripes_of o s (length m)) k full, left_no (stripes_of o s (length m)) k full m)
+      build_full k f = (many_no (stripes_of o s (length m)) k full, left_no (stripes_of o s (length m)) k full m)
         where
           full : refused k ≡ stripes_of o s (length m)
           full =
-              ap refused r
-              ∙ need_not 46 (leb (need_of (all_read o s)) (length m)) (ok (numbers (all_read o s))) (lt-leb (need_of (all_read o s)) (length m) (omega (arith, read.1)))
+              need_no 46 (ok (numbers (all_read o s))) (leb (need_of (all_read o s)) (length m)) k (f ∙ ap (λ (j : ℕ). claim 46 (leb j (length m))) read.1)
               ∙ then_ok (boxed_groups o s) (λ (l : List Boxed). need 46 (leb (need_of l) (length m)) (ok (numbers l))) (all_read o s) read.0
 
       -- all is written
-      module _ (h : n ≤ length m) where
+      module _ (u : Unit {0}) (f : ok u ≡ claim 46 (leb n (length m))) where
+        fits : n ≤ length m
+        fits = leb-true n (length m) (fine_claim 46 (leb n (length m)) (sym f))
+
         pub build_room : need_of (all_read o s) ≤ length m
-        build_room = omega (arith, read.1)
+        build_room = omega (arith, read.1, fits)
 
         pub build_is : (after : List ℕ) → after ≡ over m 0 (all_numbers o s) → (ok n ≡ how_many (stripes_of o s (length m))) × (after ≡ left m (stripes_of o s (length m)))
         unfolding stripes_of all_numbers
         build_is after w =
             let long : n ≡ length (numbers (all_read o s)) = read.1 ∙ sym (need_is (all_read o s)) in
-            (many_is (stripes_of o s (length m)) (numbers (all_read o s)) whole n long, w ∙ over_all m (numbers (all_read o s)) (omega arith) ∙ left_is (stripes_of o s (length m)) (numbers (all_read o s)) whole m)
+            (many_is (stripes_of o s (length m)) (numbers (all_read o s)) whole n long, w ∙ over_all m (numbers (all_read o s)) (omega (arith, fits)) ∙ left_is (stripes_of o s (length m)) (numbers (all_read o s)) whole m)
           where
             whole : ok (numbers (all_read o s)) ≡ stripes_of o s (length m)
             whole =
-                need_met 46 (leb (need_of (all_read o s)) (length m)) (ok (numbers (all_read o s))) (le-leb (need_of (all_read o s)) (length m) (omega (arith, read.1)))
+                need_met 46 (leb (need_of (all_read o s)) (length m)) (ok (numbers (all_read o s))) (le-leb (need_of (all_read o s)) (length m) (omega (arith, read.1, fits)))
                 ∙ then_ok (boxed_groups o s) (λ (l : List Boxed). need 46 (leb (need_of l) (length m)) (ok (numbers l))) (all_read o s) read.0

@@ -1,13 +1,13 @@
 -- Lists laid over lent numbers, piece by piece, and in two rows at once: stripes' entries and chunk numbers. Nothing here need be believed.
 -- Assumes nothing.
-use Prim.Native.Nat.{ℕ, zero, suc, ◌+◌, ◌-◌, ◌*◌, ◌≤◌, ◌<◌}
+use Prim.Native.Nat.{ℕ, zero, suc, ◌+◌, ◌-◌, ◌*◌, ◌≤◌}
 use native.Mathlib.Omega.{arith}
 use mathlib.Core.Path.{◌≡◌, refl, sym, ap, ap₂, ◌∙◌}
 use mathlib.Core.List.{List, [], ◌∷◌, ◌++◌, append_assoc, append-nil}
-use lib.ListN.{length, set, length-append, length-set}
-use lib.Seq.{lt-length-set}
+use lib.ListN.{length, length-append}
+use borrow.Rule.Slice.PartMut.{put_mid}
 use Rattle.answer.specs.Over.{over}
-use Rattle.answer.proofs.OverLaws.{Written, wrote, ◌behind◌, over_none, over_on, over_one, length_over}
+use Rattle.answer.proofs.OverLaws.{Written, wrote, ◌behind◌, over_none, over_on, over_all, length_over}
 use Rattle.stripes.specs.Numbers.{low, high, stripe_entries, together}
 use Rattle.stripes.proofs.NeedLaws.{stripe_entries_length}
 use Rattle.reader_stripes.specs.declared.Places.{Places}
@@ -23,44 +23,12 @@ over_apart (x ∷ s) zero q [] b h = over_none (over (x ∷ s) q b) zero
 over_apart (x ∷ s) zero (suc q) (c ∷ a) b h = ap (λ (l : List ℕ). c ∷ l) (over_apart s zero q a b (omega arith))
 over_apart (x ∷ s) zero zero (c ∷ a) b h = absurd (omega arith)
 
--- ---- stores in a row
-over_next : (s : List ℕ) (p q b : ℕ) (l : List ℕ) → q ≡ p + 1 → p < length s → over (set s p b) q l ≡ over s p (b ∷ l)
-over_next s p q b l e h =
-    ap₂ (λ (m : List ℕ) (j : ℕ). over m j l) (sym (over_one s p b h)) e ∙ over_on s p (b ∷ []) l
-
-module _ (s : List ℕ) (p a b c : ℕ) where
-  -- three, and what goes behind them
-  three_and : (q : ℕ) (l : List ℕ) → q ≡ p + 3 → p + 3 ≤ length s → over (set (set (set s p a) (p + 1) b) (p + 2) c) q l ≡ over s p (a ∷ b ∷ c ∷ l)
-  three_and q l e h =
-      over_next (set (set s p a) (p + 1) b) (p + 2) q c l (omega arith) (omega (arith, length-set (set s p a) (p + 1) b, length-set s p a))
-      ∙ over_next (set s p a) (p + 1) (p + 2) b (c ∷ l) (omega arith) (omega (arith, length-set s p a))
-      ∙ over_next s p (p + 1) a (b ∷ c ∷ l) refl (omega arith)
-
-  pub three : p + 3 ≤ length s → set (set (set s p a) (p + 1) b) (p + 2) c ≡ over s p (a ∷ b ∷ c ∷ [])
-  three h = sym (over_none (set (set (set s p a) (p + 1) b) (p + 2) c) (p + 3)) ∙ three_and (p + 3) [] refl h
-
-  pub five : (d e : ℕ) → p + 5 ≤ length s → set (set (set (set (set s p a) (p + 1) b) (p + 2) c) (p + 3) d) (p + 4) e ≡ over s p (a ∷ b ∷ c ∷ d ∷ e ∷ [])
-  five d e h =
-      let t = set (set (set s p a) (p + 1) b) (p + 2) c in
-      let long : length t ≡ length s = length-set (set (set s p a) (p + 1) b) (p + 2) c ∙ length-set (set s p a) (p + 1) b ∙ length-set s p a in
-      sym (over_none (set (set t (p + 3) d) (p + 4) e) (p + 5))
-      ∙ over_next (set t (p + 3) d) (p + 4) (p + 5) e [] (omega arith) (omega (arith, length-set t (p + 3) d))
-      ∙ over_next t (p + 3) (p + 4) d (e ∷ []) (omega arith) (omega arith)
-      ∙ three_and (p + 3) (d ∷ e ∷ []) refl (omega arith)
-
--- there is room for each
-module _ (s : List ℕ) (p a b c d i : ℕ) (h : i < length s) where
-  pub after_one : i < length (set s p a)
-  after_one = lt-length-set s p a h
-
-  pub after_two : i < length (set (set s p a) (p + 1) b)
-  after_two = lt-length-set (set s p a) (p + 1) b after_one
-
-  pub after_three : i < length (set (set (set s p a) (p + 1) b) (p + 2) c)
-  after_three = lt-length-set (set (set s p a) (p + 1) b) (p + 2) c after_two
-
-  pub after_four : i < length (set (set (set (set s p a) (p + 1) b) (p + 2) c) (p + 3) d)
-  after_four = lt-length-set (set (set (set s p a) (p + 1) b) (p + 2) c) (p + 3) d after_three
+-- ---- a row copied into a part
+pub over_mid : (s : List ℕ) (p : ℕ) (row : List ℕ) → p + length row ≤ length s → put_mid p (length row) s row ≡ over s p row
+unfolding over
+over_mid s zero row h = sym (over_all s row (omega arith))
+over_mid [] (suc p) row h = absurd (omega arith)
+over_mid (x ∷ s) (suc p) row h = ap (λ (l : List ℕ). x ∷ l) (over_mid s p row (omega arith))
 
 -- ---- a list laid piece by piece: what is left of it, the place that comes next, and the numbers so far
 pub record Laying (s : List ℕ) (p : ℕ) (all rest : List ℕ) (q : ℕ) (now : List ℕ) : Type 0 where

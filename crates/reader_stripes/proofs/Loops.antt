@@ -15,15 +15,10 @@ use Rattle.stripes.specs.declared.Striping.{Striping}
 use Rattle.stripes.specs.Stripes.{Boxed, striping_in, stands_in, chunks_in, stripes_from, group_stripes}
 use Rattle.stripes.specs.Numbers.{group_entry, group_entries, all_stripes}
 use Rattle.stripes.proofs.NeedLaws.{entry_length, group_length}
-use Rattle.reader_stripes.specs.declared.Cut.{Cut}
+use Rattle.reader_stripes.specs.declared.cut.Cut.{Cut}
 use Rattle.reader_stripes.specs.Steps.{box_read, boxed_read, all_read, boxes_of, CutFrom}
 use Rattle.reader_stripes.proofs.Laying.{Laying, laying_start, laying_same, laying_room, laying_on, laying_end}
 use Rattle.reader_stripes.proofs.Reading.{length_run}
-use Rattle.reader_stripes.proofs.BuildingLaws.{cut_well}
-
--- one is left less
-pub less : (n i : ℕ) → i < n → n - (i + 1) < n - i
-less n i h = omega arith
 
 -- ---- what stands at the places that are left
 module _ {A : Type 0} (f : ℕ → A) (n i : ℕ) where
@@ -59,7 +54,7 @@ module _ (o : Opened) (s : List ℕ) (t : Striping) (n first stripe : ℕ) where
           ap (chunks_in t stripe j) (run_on (box_read o s) n j first (first + j) (first + (j + 1)) refl refl h)
           ∙ ap (λ (b : Bool). cond b (j ∷ chunks_left (j + 1)) (chunks_left (j + 1))) stands
 
-      pub chunks_in_law : r ≡ true → chunks_left j ≡ (j ∷ []) ++ chunks_left (j + 1)
+      chunks_in_law : r ≡ true → chunks_left j ≡ (j ∷ []) ++ chunks_left (j + 1)
       chunks_in_law y = here ∙ ap (λ (b : Bool). cond b (j ∷ chunks_left (j + 1)) (chunks_left (j + 1))) y
 
       module _ (s₀ : List ℕ) (p : ℕ) (all : List ℕ) (q : ℕ) (now : List ℕ) (g : Laying s₀ p all (chunks_left j) q now) (q' : ℕ) (now' : List ℕ) where
@@ -88,22 +83,23 @@ unfolding boxes_of
 few_chunks o s c stripe = omega (arith, few_in c.striping stripe 0 (run (box_read o s) c.count c.first), length_run (box_read o s) c.count c.first)
 
 -- all of them, of a group that is cut
-module _ (o : Opened) (s : List ℕ) (c : Cut) (n first stripe : ℕ) (e : first ≡ c.first) (f : n ≡ c.count) where
-  chunks_all : chunks_left o s c.striping n first stripe 0 ≡ chunks_in c.striping stripe 0 (boxes_of o s c)
+module _ (o : Opened) (s : List ℕ) (c : Cut) (stripe : ℕ) where
+  chunks_all : chunks_left o s c.striping c.count c.first stripe 0 ≡ chunks_in c.striping stripe 0 (boxes_of o s c)
   unfolding chunks_left boxes_of
-  chunks_all = ap (chunks_in c.striping stripe 0) (run_all (box_read o s) n 0 c.first (first + 0) refl (omega arith) ∙ ap (λ (j : ℕ). run (box_read o s) j c.first) f)
+  chunks_all = ap (chunks_in c.striping stripe 0) (run_all (box_read o s) c.count 0 c.first (c.first + 0) refl (omega arith))
 
   module _ (m : List ℕ) (from : ℕ) where
     -- room for the next
-    pub chunks_fit_law : from + length (chunks_in c.striping stripe 0 (boxes_of o s c)) ≤ length m → (j q : ℕ) (now : List ℕ) → Laying m from (chunks_left o s c.striping n first stripe 0) (chunks_left o s c.striping n first stripe j) q now
-        → chunks_left o s c.striping n first stripe j ≡ (j ∷ []) ++ chunks_left o s c.striping n first stripe (j + 1) → q < length now
-    chunks_fit_law h j q now g k = omega (arith, laying_room m from (chunks_left o s c.striping n first stripe 0) (chunks_left o s c.striping n first stripe j) q now g (omega (arith, ap length chunks_all)) (j ∷ []) (chunks_left o s c.striping n first stripe (j + 1)) k)
+    pub chunks_fit_law : from + length (chunks_in c.striping stripe 0 (boxes_of o s c)) ≤ length m → (j q : ℕ) (now : List ℕ) → Laying m from (chunks_left o s c.striping c.count c.first stripe 0) (chunks_left o s c.striping c.count c.first stripe j) q now
+        → j < c.count → (b : BBox) → b ≡ box_read o s (c.first + j) → (r : Bool) → r ≡ stands_in c.striping stripe b → r ≡ true → q < length now
+    chunks_fit_law h j q now g i b k r e y =
+        omega (arith, laying_room m from (chunks_left o s c.striping c.count c.first stripe 0) (chunks_left o s c.striping c.count c.first stripe j) q now g (omega (arith, ap length chunks_all)) (j ∷ []) (chunks_left o s c.striping c.count c.first stripe (j + 1)) (chunks_in_law o s c.striping c.count c.first stripe j i b k r e y))
 
     -- the last
-    pub chunks_put : n < 0x1_0000_0000 → (j q : ℕ) (now : List ℕ) → Laying m from (chunks_left o s c.striping n first stripe 0) (chunks_left o s c.striping n first stripe j) q now → n ≤ j
+    pub chunks_put : c.count < 0x1_0000_0000 → (j q : ℕ) (now : List ℕ) → Laying m from (chunks_left o s c.striping c.count c.first stripe 0) (chunks_left o s c.striping c.count c.first stripe j) q now → c.count ≤ j
         → (q ≡ from + length (chunks_in c.striping stripe 0 (boxes_of o s c))) × (q < from + 0x1_0000_0000) × (now ≡ over m from (chunks_in c.striping stripe 0 (boxes_of o s c)))
     chunks_put h j q now g k =
-        let w = laying_end m from (chunks_left o s c.striping n first stripe 0) (chunks_left o s c.striping n first stripe j) q now g (chunks_none o s c.striping n first stripe j k) in
+        let w = laying_end m from (chunks_left o s c.striping c.count c.first stripe 0) (chunks_left o s c.striping c.count c.first stripe j) q now g (chunks_none o s c.striping c.count c.first stripe j k) in
         let z : q ≡ from + length (chunks_in c.striping stripe 0 (boxes_of o s c)) = w.next ∙ ap (λ (l : List ℕ). from + length l) chunks_all in
         (z, omega (arith, few_chunks o s c stripe), w.is ∙ ap (over m from) chunks_all)
 
@@ -124,9 +120,6 @@ module _ (t : Striping) (l : List BBox) (k i : ℕ) where
 cut_stripes : (o : Opened) (s : List ℕ) (i : ℕ) (c : Cut) → CutFrom o s i c → stripes_from c.striping (boxes_of o s c) c.striping.k 0 ≡ group_stripes (boxed_read o s i)
 unfolding group_stripes
 cut_stripes o s i c e = ap₂ (λ (t : Striping) (l : List BBox). stripes_from t l t.k 0) e.striping e.boxes
-
-pub cut_high : (o : Opened) (s : List ℕ) (i : ℕ) (c : Cut) → CutFrom o s i c → (0 < c.striping.height) × (c.striping.k ≤ 256)
-cut_high o s i c e = cut_well c.striping _ _ e.striping
 
 -- ---- all groups, from group i on
 module _ (o : Opened) (s : List ℕ) where
@@ -191,7 +184,7 @@ module _ (o : Opened) (s : List ℕ) where
           let same : k ≡ (striping_in (boxed_read o s i)).k = d ∙ ap (λ (u : Striping). u.k) t in
           let many : length (all_stripes (groups_left i)) ≡ (striping_in (boxed_read o s i)).k + length (all_stripes (groups_left (i + 1))) = ap length (stripes_one i h) ∙ length-append (group_stripes (boxed_read o s i)) (all_stripes (groups_left (i + 1))) ∙ ap (λ (j : ℕ). j + length (all_stripes (groups_left (i + 1)))) (group_length (boxed_read o s i)) in
           record {
-            few = omega (arith, g.few, (cut_high o s i c e).1);
+            few = omega (arith, g.few, c.few);
             place_on = omega (arith, g.place_on);
             laying =
                 laying_on m 0 (group_entries (all_read o s) (5 * o.groups.count)) (group_entries (groups_left i) place) (5 * i) now g.laying

@@ -10,15 +10,7 @@ use Rattle.plane.specs.Runs.{run}
 use Rattle.answer.specs.declared.Refusal.{Refusal}
 use Rattle.answer.specs.Answers.{Answer, ok, refused, ◌then◌}
 use Rattle.answer.proofs.AnswersLaws.{then_ok, then_inv, ok_inv, zero_one}
-use Rattle.reader_stripes.specs.Steps.{gathered, weigh, weighed, added, up_to}
-
--- one is left less
-pub one_fewer : (n : ℕ) → 0 < n → n - 1 < n
-one_fewer n h = omega arith
-
--- a bound of what was told
-pub up_to_law : (most d : ℕ) (x : Answer ℕ) → x ≡ ok d → up_to most x → d ≤ most
-up_to_law most d x e h = rw e at h
+use Rattle.reader_stripes.specs.Steps.{gathered, weigh, weighed, added}
 
 pub length_run : {A : Type 0} (f : ℕ → A) (n i : ℕ) → length (run f n i) ≡ n
 unfolding run
@@ -37,18 +29,6 @@ module _ {A : Type 0} (w : A → ℕ) where
   weighed_ok (refused k) d e = let z : ◌≡◌ {A = ℕ} 0 1 = cc in absurd (zero_one z)
 
 module _ {A : Type 0} (at : ℕ → Answer A) where
-  gathered_one : (n i : ℕ) → 0 < n → gathered at n i ≡ (at i then λ a. gathered at (n - 1) (i + 1) then λ l. ok (a ∷ l))
-  unfolding gathered
-  gathered_one n i h =
-      let e : n ≡ suc (n - 1) = omega arith in
-      ap (λ (j : ℕ). gathered at j i) e
-
-  gathered_none : (n i : ℕ) → n ≤ 0 → gathered at n i ≡ ok []
-  unfolding gathered
-  gathered_none n i h =
-      let e : n ≡ 0 = omega arith in
-      ap (λ (j : ℕ). gathered at j i) e
-
   pub length_gathered : (n i : ℕ) (l : List A) → ok l ≡ gathered at n i → length l ≡ n
   unfolding gathered
   length_gathered zero i l e = ap length (ok_inv l [] e)
@@ -66,44 +46,37 @@ module _ {A : Type 0} (at : ℕ → Answer A) where
       let q = then_inv (gathered at n (i + 1)) (λ t. ok (p.0 ∷ t)) l p.2 in
       ok_inv l (p.0 ∷ q.0) q.2 ∙ ap₂ (λ (a : A) (t : List A). a ∷ t) (h i p.0 p.1) (gathered_run f h n (i + 1) q.0 q.1)
 
-  -- ---- a sum that starts at `base`: of n from `first` on `left` from i on are left, and m was added up; each gives at most `most`
+  -- ---- a sum that starts at `base`: of n from `first` on those before the i-th were added up to m; each gives at most `most`
   module _ (w : A → ℕ) (base most n first : ℕ) where
-    pub record Adding (m i left : ℕ) : Type 0 where
-      pub place : i + left ≡ first + n
-      pub small : m + left * most ≤ base + n * most
-      pub sum : added w m (gathered at left i) ≡ added w base (gathered at n first)
+    pub record Adding (m i : ℕ) : Type 0 where
+      pub small : m + (first + n - i) * most ≤ base + n * most
+      pub sum : added w m (gathered at (first + n - i) i) ≡ added w base (gathered at n first)
 
-    pub adding_start : (m i left : ℕ) → m ≡ base → i ≡ first → left ≡ n → Adding m i left
-    adding_start m i left d e f =
-        record { place = ap₂ (λ (j k : ℕ). j + k) e f; small = rw (d, f) (omega arith); sum = ap (λ (j : ℕ). added w j (gathered at left i)) d ∙ ap₂ (λ (j k : ℕ). added w base (gathered at k j)) e f }
-
-    module _ (m i left : ℕ) (g : Adding m i left) where
-      module _ (h : 0 < left) where
-        one_less : left * most ≡ (left - 1) * most + most
-        one_less =
-            let e : left ≡ suc (left - 1) = omega arith in
-            ap (λ (j : ℕ). j * most) e ∙ suc-mul (left - 1) most
+    module _ (m i : ℕ) (g : Adding m i) where
+      module _ (h : i < first + n) where
+        one_less : first + n - i ≡ suc (first + n - (i + 1))
+        one_less = omega arith
 
         -- what is added stays small
-        pub adding_small : m + most ≤ base + n * most
-        adding_small = omega (arith, g.small, one_less)
+        pub adding_small : m + (first + n - (i + 1)) * most + most ≤ base + n * most
+        adding_small = omega (arith, g.small, ap (λ (j : ℕ). j * most) one_less ∙ suc-mul (first + n - (i + 1)) most)
+
+        here : gathered at (first + n - i) i ≡ (at i then λ a. gathered at (first + n - (i + 1)) (i + 1) then λ l. ok (a ∷ l))
+        unfolding gathered
+        here = ap (λ (j : ℕ). gathered at j i) one_less
 
         pub adding_no : (r : Refusal) → refused r ≡ weighed w (at i) → refused r ≡ added w base (gathered at n first)
         unfolding added
-        adding_no r e = here (weighed_no w (at i) r e) ∙ g.sum
+        adding_no r e = first_no (weighed_no w (at i) r e) ∙ g.sum
           where
-            here : refused r ≡ at i → refused r ≡ added w m (gathered at left i)
-            here k = rw (gathered_one left i h, ← k)
+            first_no : refused r ≡ at i → refused r ≡ added w m (gathered at (first + n - i) i)
+            first_no k = rw (here, ← k)
 
-        pub adding_on : (d : ℕ) → ok d ≡ weighed w (at i) → d ≤ most → Adding (m + d) (i + 1) (left - 1)
+        pub adding_on : (d : ℕ) → ok d ≡ weighed w (at i) → d ≤ most → Adding (m + d) (i + 1)
         unfolding added weigh
         adding_on d e b =
             let a = weighed_ok w (at i) d e in
-            record {
-              place = omega (arith, g.place);
-              small = omega (arith, g.small, one_less);
-              sum = here a.0 a.1 a.2 ∙ g.sum;
-            }
+            record { small = omega (arith, adding_small); sum = first_ok a.0 a.1 a.2 ∙ g.sum }
           where
             rest : (a : A) → d ≡ w a → (x : Answer (List A)) → added w (m + d) x ≡ added w m (x then λ l. ok (a ∷ l))
             rest a k (ok l) =
@@ -111,20 +84,21 @@ module _ {A : Type 0} (at : ℕ → Answer A) where
                 ap ok z
             rest a k (refused r) = refl
 
-            here : (a : A) → ok a ≡ at i → d ≡ w a → added w (m + d) (gathered at (left - 1) (i + 1)) ≡ added w m (gathered at left i)
-            here a k l =
-                rest a l (gathered at (left - 1) (i + 1))
-                ∙ ap (added w m) (then_ok (at i) (λ b. gathered at (left - 1) (i + 1) then λ t. ok (b ∷ t)) a k ∙ sym (gathered_one left i h))
+            first_ok : (a : A) → ok a ≡ at i → d ≡ w a → added w (m + d) (gathered at (first + n - (i + 1)) (i + 1)) ≡ added w m (gathered at (first + n - i) i)
+            first_ok a k l =
+                rest a l (gathered at (first + n - (i + 1)) (i + 1))
+                ∙ ap (added w m) (then_ok (at i) (λ b. gathered at (first + n - (i + 1)) (i + 1) then λ t. ok (b ∷ t)) a k ∙ sym here)
 
-      module _ (h : left ≤ 0) where
+      module _ (h : first + n ≤ i) where
         pub adding_end : ok m ≡ added w base (gathered at n first)
-        unfolding added weigh
-        adding_end = here ∙ g.sum
+        unfolding added weigh gathered
+        adding_end = all ∙ g.sum
           where
-            here : ok m ≡ added w m (gathered at left i)
-            here =
+            all : ok m ≡ added w m (gathered at (first + n - i) i)
+            all =
+                let e : first + n - i ≡ 0 = omega arith in
                 let z : m ≡ m + 0 = omega arith in
-                rw (gathered_none left i h) (ap ok z)
+                rw e (ap ok z)
 
         pub adding_most : m ≤ base + n * most
         adding_most = omega (arith, g.small)

@@ -14,7 +14,7 @@ use Rattle.stripes.specs.declared.Striping.{Striping}
 use Rattle.stripes.specs.Stripes.{Boxed, within_height, striping_in}
 use Rattle.stripes.specs.Numbers.{low, high, depth, stripe_entries, together, numbers, stripe_numbers}
 use Rattle.reader_stripes.specs.declared.Places.{Places}
-use Rattle.reader_stripes.specs.declared.Cut.{Cut}
+use Rattle.reader_stripes.specs.declared.cut.Cut.{Cut}
 
 -- ---- answers one after another
 module _ {A : Type 0} where

@@ -1,6 +1,6 @@
 -- Laws of specs/Table, as proofs cite them. Nothing here need be believed.
 -- Assumes nothing.
-use Prim.Native.Nat.{ℕ, ◌-◌, ◌≤◌, ◌<◌}
+use Prim.Native.Nat.{ℕ, ◌≤◌, ◌<◌}
 use mathlib.Core.List.{List}
 use mathlib.Core.Path.{◌≡◌}
 use Rattle.answer.proofs.CheckLaws.{ge_below, lt_below}

@@ -1,7 +1,7 @@
 -- Nothing here need be believed: the code's own steps cite it, and no public promise does.
 -- How `entries` finds which entries share no byte with an earlier one without a look at every pair: a map of the file with a bit for each unit of four bytes.
 -- Assumes nothing.
-use Rattle.std.specs.Prelude.{ℕ, ◌+◌, ◌-◌, ◌*◌, ◌/◌, ◌%◌, ◌^◌, ◌≤◌, ◌<◌, List, ◌≡◌, length, get_or}
+use Rattle.std.specs.Prelude.{ℕ, ◌+◌, ◌*◌, ◌/◌, ◌%◌, ◌^◌, ◌≤◌, ◌<◌, List, ◌≡◌, length, get_or}
 use Rattle.std.specs.Int.Bits.{bit_and, bit_or}
 use Rattle.answer.specs.Answers.{fine}
 use Rattle.answer.specs.Checks.{each}

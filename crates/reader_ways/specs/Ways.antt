@@ -1,7 +1,7 @@
 -- Document 02, 2026-02: a group's chunks as the first half of `scan_group` walks them, by stripes. For any opened record, any bytes and any numbers.
 -- "asked with other numbers, 44 for a place past them, 34 for a chunk outside the group or a height of 0"
 -- Assumes nothing.
-use Rattle.std.specs.Prelude.{ℕ, zero, suc, ◌+◌, ◌*◌, Bool, true, false, cond, List, leb, ltb, eqb, length, get_or, ℤ, pos, neg_ℤ, Float}
+use Rattle.std.specs.Prelude.{ℕ, zero, suc, ◌+◌, ◌*◌, cond, List, leb, ltb, eqb, length, get_or, ℤ, pos, neg_ℤ, Float}
 use Rattle.std.specs.Int.{w32}
 use Rattle.std.proofs.Common.{to_z}
 use Rattle.plane.specs.declared.Point.{Point}
@@ -12,9 +12,10 @@ use Rattle.floors.specs.Floor.{floor_of}
 use Rattle.opened.specs.declared.Opened.{Opened}
 use Rattle.reader_records.specs.declared.GroupRecord.{GroupRecord}
 use Rattle.reader_groups.specs.Groups.{One, group_scan, alone_at}
-use Rattle.stripes.specs.declared.Striping.{Striping}
 use Rattle.stripes.specs.Stripes.{stripe_of}
 use Rattle.stripes.specs.Numbers.{group_numbers, stripe_numbers}
+use Rattle.reader_ways.specs.declared.Way as C
+use Rattle.reader_ways.specs.declared.Way.TheVariants as W
 use Rattle.reader_ways.specs.declared.Entry.{Entry}
 use Rattle.reader_ways.specs.declared.Stripe.{Stripe}
 
@@ -23,10 +24,10 @@ pub data Way : Type 0 where
   plain : Way
   striped : List ℕ → Way
 
--- the same for the code's two arguments
-abbrev pub way_of : Bool → List ℕ → Way
-way_of false numbers = plain
-way_of true numbers = striped numbers
+-- the same of the code's
+abbrev pub way_of : C.Way → Way
+way_of W.Plain = plain
+way_of (W.Striped numbers) = striped numbers.now
 
 -- ---- what the numbers say
 -- the number at a place, and the place that two numbers say, low half first

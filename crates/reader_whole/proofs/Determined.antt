@@ -1,12 +1,11 @@
--- Any two answers that a promise allows are equal, and so is the lent memory: stated over the contracts themselves. Two values of an enum that tell the same are the same.
+-- Any two answers that a promise allows are equal, and so is the lent memory: stated over the contracts themselves.
 -- Assumes nothing.
 use mathlib.Core.Path.{sym, ◌∙◌}
 use Rattle.basics.specs.Determined.{Determined, DeterminedMemory}
 use Rattle.reader_whole.proofs.whole_list.Reads as whole-list-reads
-use Rattle.replies.proofs.One.{one_listing}
 
 pub whole_list_law : Determined whole-list-reads.Learnt
-whole_list_law κ a r r' e e' p q = one_listing r r' _ p.0 q.0
+whole_list_law κ a r r' e e' p q = p.0 ∙ sym q.0
 
 -- the lent zones at exit
 pub whole_list_memory : DeterminedMemory whole-list-reads.Learnt (λ κ e. e.1.1.1.0.now)

@@ -2,7 +2,7 @@
 -- Assumes nothing.
 use Prim.Native.Nat.{ℕ, suc, ◌+◌, ◌-◌, ◌≤◌, ◌<◌}
 use native.Mathlib.Omega.{arith}
-use mathlib.Core.Path.{◌≡◌, ap}
+use mathlib.Core.Path.{◌≡◌}
 use mathlib.Core.Bool.{Bool, true, false, cond}
 use mathlib.Core.List.{List}
 use borrow.Author.Tests.{lt-ltb, le-ltb}
@@ -14,69 +14,49 @@ use Rattle.answer.specs.Answers.{Answer, ok, refused, no, ◌then◌}
 use Rattle.boxes.specs.Box.{contains}
 use Rattle.opened.specs.declared.Opened.{Opened}
 use Rattle.reader_records.specs.declared.ListRecord.{ListRecord}
-use Rattle.reader_records.specs.Records.{poly_at, tz_at}
-use Rattle.reader_rings.specs.Rings.{ring_contains}
+use Rattle.reader_records.specs.Records.{poly_at}
 use Rattle.reader_ways.specs.Ways.{Way}
 use Rattle.plane.specs.Places.{point_of}
-use Rattle.reader_zones.specs.Zones.{holes_out, poly_inside, poly_of, zone_by, contains_by, first_so}
+use Rattle.reader_zones.specs.Zones.{poly_inside, poly_of, zone_by, contains_by, first_so}
 
-module _ (f : ℕ → Answer Bool) (found other : Bool) (n i : ℕ) where
-  pub seek_end : n ≡ 0 → ok other ≡ first_so f found other n i
+-- ---- a loop: what is left from i on answers as the whole did, m
+pub seek_start : (f : ℕ → Answer Bool) (found other : Bool) (n from : ℕ) → first_so f found other (from + n - from) from ≡ first_so f found other n from
+seek_start f found other n from =
+    let e : from + n - from ≡ n = omega arith in
+    rw e
+
+module _ (f : ℕ → Answer Bool) (found other : Bool) (n i : ℕ) (m : Answer Bool) (v : first_so f found other (n - i) i ≡ m) where
+  pub seek_end : n ≤ i → ok other ≡ m
   unfolding first_so
-  seek_end e = rw e
+  seek_end h =
+      let e : n - i ≡ 0 = omega arith in
+      rw e at v
 
-  module _ (h : 0 < n) where
-    seek_one : first_so f found other n i ≡ (f i then λ b. cond b (ok found) (first_so f found other (n - 1) (i + 1)))
+  module _ (h : i < n) where
+    seek_one : (x : Answer Bool) → x ≡ f i → (x then λ b. cond b (ok found) (first_so f found other (n - (i + 1)) (i + 1))) ≡ m
     unfolding first_so
-    seek_one =
-        let e : n ≡ suc (n - 1) = omega arith in
-        ap (λ (j : ℕ). first_so f found other j i) e
+    seek_one x e =
+        let k : n - i ≡ suc (n - (i + 1)) = omega arith in
+        rw (k, ← e) at v
 
-    pub seek_no : (r : Refusal) → refused r ≡ f i → refused r ≡ first_so f found other n i
-    seek_no r e = rw (seek_one, ← e)
+    pub seek_no : (r : Refusal) → refused r ≡ f i → refused r ≡ m
+    seek_no r e = seek_one (refused r) e
 
-    pub seek_yes : (b : Bool) → ok b ≡ f i → b ≡ true → ok found ≡ first_so f found other n i
-    seek_yes b e g = rw (seek_one, ← e, g)
+    pub seek_yes : ok true ≡ f i → ok found ≡ m
+    seek_yes e = seek_one (ok true) e
 
-    pub seek_on : (b : Bool) → ok b ≡ f i → b ≡ false → first_so f found other (n - 1) (i + 1) ≡ first_so f found other n i
-    seek_on b e g = rw (seek_one, ← e, g)
+    pub seek_on : ok false ≡ f i → first_so f found other (n - (i + 1)) (i + 1) ≡ m
+    seek_on e = seek_one (ok false) e
 
-module _ (w : Way) (o : Opened) (s : List ℕ) (p : Point) (q : ListRecord) (j : ℕ) (g : j ≡ q.first) where
-  pub inside_no : (r : Refusal) → refused r ≡ ring_contains w o s p true j → refused r ≡ poly_inside w o s p q
-  inside_no r k = rw (← g, ← k)
-
-  pub inside_not : (b : Bool) → ok b ≡ ring_contains w o s p true j → b ≡ false → ok false ≡ poly_inside w o s p q
-  inside_not b k z = rw (← g, ← k, z)
-
-  pub inside_is : (b : Bool) → ok b ≡ ring_contains w o s p true j → b ≡ true → holes_out w o s p (q.count - 1) (j + 1) ≡ poly_inside w o s p q
-  inside_is b k z = rw (← g, ← k, z)
-
-module _ (w : Way) (o : Opened) (s : List ℕ) (p : Point) (i : ℕ) where
-  pub poly_no : (r : Refusal) → refused r ≡ poly_at o s i → refused r ≡ poly_of w o s p i
+-- a polygon by its box
+module _ (w : Way) (o : Opened) (s : List ℕ) (p : Point) (i : ℕ) (q : ListRecord) (h : ok q ≡ poly_at o s i) where
+  pub poly_out : contains q.bbox p ≡ false → ok false ≡ poly_of w o s p i
   unfolding poly_of
-  poly_no r h = rw (← h)
+  poly_out e = rw (← h, e)
 
-  module _ (q : ListRecord) (h : ok q ≡ poly_at o s i) where
-    pub poly_out : contains q.bbox p ≡ false → ok false ≡ poly_of w o s p i
-    unfolding poly_of
-    poly_out e = rw (← h, e)
-
-    pub poly_in : contains q.bbox p ≡ true → poly_inside w o s p q ≡ poly_of w o s p i
-    unfolding poly_of
-    poly_in e = rw (← h, e)
-
-  pub zone_no : (r : Refusal) → refused r ≡ tz_at o s i → refused r ≡ zone_by w o s p i
-  unfolding zone_by
-  zone_no r h = rw (← h)
-
-  module _ (z : ListRecord) (h : ok z ≡ tz_at o s i) where
-    pub zone_out : contains z.bbox p ≡ false → ok false ≡ zone_by w o s p i
-    unfolding zone_by
-    zone_out e = rw (← h, e)
-
-    pub zone_is : contains z.bbox p ≡ true → (j : ℕ) → j ≡ z.first → first_so (poly_of w o s p) true false z.count j ≡ zone_by w o s p i
-    unfolding zone_by
-    zone_is e j g = rw (← h, e, ← g)
+  pub poly_in : contains q.bbox p ≡ true → (x : Answer Bool) → x ≡ poly_inside w o s p q → x ≡ poly_of w o s p i
+  unfolding poly_of
+  poly_in e x k = rw (← h, e, k)
 
 module _ (w : Way) (o : Opened) (s : List ℕ) (zone : ℕ) (q : I32Point) where
   pub whole_over : o.zones.count ≤ zone → no 45 ≡ contains_by w o s zone q

@@ -3,16 +3,16 @@
 // and with other bytes.
 #![tactic(auto)]
 
+use answer::Answer;
 use harness::{Asking, Said, float, number, size};
 use opened::Opened;
-use replies::{Bounds, Candidate, Choice, Opening};
+use replies::Choice;
 use std::io;
-use std::io::Read;
 
-fn is_at(b: Bounds, q: &[u8]) -> bool {
-    match b {
-        Bounds::At(from, to) => (from == size(q, 28)) & (to == size(q, 32)),
-        Bounds::Refused(why) => why.number == number(q, 24),
+fn is_at(bounds: Answer<(usize, usize)>, q: &[u8]) -> bool {
+    match bounds {
+        Ok((from, to)) => (from == size(q, 28)) & (to == size(q, 32)),
+        Err(why) => why.number == number(q, 24),
     }
 }
 
@@ -27,26 +27,18 @@ fn is_name(o: Opened, s: &[u8], q: &[u8]) -> bool {
 }
 
 // The last number: 0 none, 1 all zones, 2 those listed for a cell, 3 refused. A cell that lists none counts as none.
-fn choice(c: Choice) -> Said {
-    match c {
-        Choice::None => Said(0, 0, 0, 0),
-        Choice::All(count) => Said(0, count, 0, 1),
-        Choice::Listed(count, place) => {
-            if count == 0 {
-                Said(0, 0, 0, 0)
-            } else {
-                Said(0, count, place, 2)
-            }
-        }
-        Choice::Refused(why) => Said(why.number, 0, 0, 3),
+fn choice(a: Answer<Choice>) -> Said {
+    match a {
+        Ok(Choice::None) => Said(0, 0, 0, 0),
+        Ok(Choice::All(count)) => Said(0, count, 0, 1),
+        Ok(Choice::Listed(0, _)) => Said(0, 0, 0, 0),
+        Ok(Choice::Listed(count, place)) => Said(0, count, place, 2),
+        Err(why) => Said(why.number, 0, 0, 3),
     }
 }
 
-fn candidate(c: Candidate) -> Said {
-    match c {
-        Candidate::Zone(zone) => Said(0, zone, 0, 0),
-        Candidate::Refused(why) => Said::refused(why),
-    }
+fn candidate(a: Answer<u32>) -> Said {
+    Said::told(a.map(|zone| (zone, 0, 0)))
 }
 
 // A question is 40 bytes: its kind, a zone or a place, a longitude, a latitude; then what is expected.
@@ -59,17 +51,8 @@ fn is_answered(o: Opened, s: &[u8], q: &[u8]) -> bool {
     }
 }
 
-fn replay(file: &[u8], s: &[u8], q: &[u8; 40]) -> bool {
-    match tzb::open(file) {
-        Opening::Done(o) => is_answered(o, s, q),
-        Opening::Refused(_) => false,
-    }
-}
-
-// Whether there is one more question, and it is answered rightly.
-fn next<R: Read>(input: &mut R, file: &[u8; 1024], lent: &[u8; 1024]) -> io::Result<bool> {
-    let mut q = [0u8; 40];
-    Ok(harness::read(input, &mut q)? & replay(harness::held(file), harness::held(lent), &q))
+fn replay(file: &[u8], s: &[u8], q: &[u8]) -> bool {
+    tzb::open(file).is_ok_and(|o| is_answered(o, s, q))
 }
 
 fn main(rt: HostRuntime) -> io::Result<()> {
@@ -77,11 +60,15 @@ fn main(rt: HostRuntime) -> io::Result<()> {
     let mut file = [0u8; 1024];
     let mut lent = [0u8; 1024];
     let mut a = Asking::new();
+    // kept: what comes next says when the list ends; nothing is counted here
     while 0 < a.tally.left {
         if a.questions == 0 {
             a = a.lend(&mut input, &mut file, &mut lent)?;
         } else {
-            a = a.with(next(&mut input, &file, &lent)?);
+            let right = harness::next(&mut input, &mut [0u8; 40], |q| {
+                replay(harness::held(&file), harness::held(&lent), q)
+            })?;
+            a = a.with(right);
         }
     }
     harness::tell(

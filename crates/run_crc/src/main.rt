@@ -2,82 +2,80 @@
 // beside a CRC that is worked out here bit by bit.
 #![tactic(auto)]
 
-ghost use Rattle.std.specs.Prelude.{◌≤◌};
+ghost use Rattle.std.specs.Prelude.{◌≤◌, length};
 
 use std::io;
 
-fn right(s: &[u8], want: u32) -> u64
-    ensures { result ≤ 1 }
-{
-    if crc::crc32_ieee(s) == want { 1 } else { 0 }
-}
-
 // The CRC RevEng catalogue's check value of CRC-32/ISO-HDLC; the CRC-32 task of Rosetta Code; the last chunk
 // of every PNG file, whose type IEND is followed by its CRC (W3C PNG specification).
-fn single() -> u64
-    ensures { result ≤ 3 }
-{
-    right(b"123456789", 0xcbf4_3926)
-        + right(b"The quick brown fox jumps over the lazy dog", 0x414f_a339)
-        + right(b"IEND", 0xae42_6082)
-}
+const SINGLE: [(&[u8], u32); 3] = [
+    (b"123456789", 0xcbf4_3926),
+    (b"The quick brown fox jumps over the lazy dog", 0x414f_a339),
+    (b"IEND", 0xae42_6082),
+];
 
 // RHash, librhash/test_hashes.c, crc32_tests: the messages of RFC 1321, A.5.
-fn rhash() -> u64
-    ensures { result ≤ 7 }
-{
-    right(b"", 0x0000_0000)
-        + right(b"a", 0xe8b7_be43)
-        + right(b"abc", 0x3524_41c2)
-        + right(b"message digest", 0x2015_9d7f)
-        + right(b"abcdefghijklmnopqrstuvwxyz", 0x4c27_50bd)
-        + right(
-            b"ABCDEFGHIJKLMNOPQRSTUVWXYZabcdefghijklmnopqrstuvwxyz0123456789",
-            0x1fc2_e6d2,
-        )
-        + right(
-            b"12345678901234567890123456789012345678901234567890123456789012345678901234567890",
-            0x7ca9_4a72,
-        )
-}
+const RHASH: [(&[u8], u32); 7] = [
+    (b"", 0x0000_0000),
+    (b"a", 0xe8b7_be43),
+    (b"abc", 0x3524_41c2),
+    (b"message digest", 0x2015_9d7f),
+    (b"abcdefghijklmnopqrstuvwxyz", 0x4c27_50bd),
+    (
+        b"ABCDEFGHIJKLMNOPQRSTUVWXYZabcdefghijklmnopqrstuvwxyz0123456789",
+        0x1fc2_e6d2,
+    ),
+    (
+        b"12345678901234567890123456789012345678901234567890123456789012345678901234567890",
+        0x7ca9_4a72,
+    ),
+];
 
 // Go, hash/crc32/crc32_test.go, golden (the column of IEEE).
-fn golden() -> u64
-    ensures { result ≤ 3 }
-{
-    right(b"abcdefghij", 0x3981_703a)
-        + right(b"Discard medicine more than two years old.", 0x6b9c_dfe7)
-        + right(
-            b"He who has a shady past knows that nice guys finish last.",
-            0xc90e_f73f,
-        )
-}
+const GOLDEN: [(&[u8], u32); 3] = [
+    (b"abcdefghij", 0x3981_703a),
+    (b"Discard medicine more than two years old.", 0x6b9c_dfe7),
+    (
+        b"He who has a shady past knows that nice guys finish last.",
+        0xc90e_f73f,
+    ),
+];
 
 // AUTOSAR, Specification of CRC Routines, 32-bit Ethernet CRC.
-fn autosar() -> u64
-    ensures { result ≤ 7 }
-{
-    right(b"\x00\x00\x00\x00", 0x2144_df1c)
-        + right(b"\xf2\x01\x83", 0x24ab_9d77)
-        + right(b"\x0f\xaa\x00\x55", 0xb6c9_b287)
-        + right(b"\x00\xff\x55\x11", 0x32a0_6212)
-        + right(b"\x33\x22\x55\xaa\xbb\xcc\xdd\xee\xff", 0xb0ae_863d)
-        + right(b"\x92\x6b\x55", 0x9cde_a29b)
-        + right(b"\xff\xff\xff\xff", 0xffff_ffff)
-}
+const AUTOSAR: [(&[u8], u32); 7] = [
+    (b"\x00\x00\x00\x00", 0x2144_df1c),
+    (b"\xf2\x01\x83", 0x24ab_9d77),
+    (b"\x0f\xaa\x00\x55", 0xb6c9_b287),
+    (b"\x00\xff\x55\x11", 0x32a0_6212),
+    (b"\x33\x22\x55\xaa\xbb\xcc\xdd\xee\xff", 0xb0ae_863d),
+    (b"\x92\x6b\x55", 0x9cde_a29b),
+    (b"\xff\xff\xff\xff", 0xffff_ffff),
+];
 
 // The four messages of 32 bytes of RFC 3720, B.4. The RFC gives CRC-32C; these numbers are zlib's.
-fn zlib() -> u64
-    ensures { result ≤ 4 }
+const ZLIB: [(&[u8], u32); 4] = [
+    (&[0x00; 32], 0x190a_55ad),
+    (&[0xff; 32], 0xff6c_ab0b),
+    (
+        b"\x00\x01\x02\x03\x04\x05\x06\x07\x08\x09\x0a\x0b\x0c\x0d\x0e\x0f\
+        \x10\x11\x12\x13\x14\x15\x16\x17\x18\x19\x1a\x1b\x1c\x1d\x1e\x1f",
+        0x9126_7e8a,
+    ),
+    (
+        b"\x1f\x1e\x1d\x1c\x1b\x1a\x19\x18\x17\x16\x15\x14\x13\x12\x11\x10\
+        \x0f\x0e\x0d\x0c\x0b\x0a\x09\x08\x07\x06\x05\x04\x03\x02\x01\x00",
+        0x9ab0_ef72,
+    ),
+];
+
+// How many of the vectors come out right.
+fn right(vectors: &[(&[u8], u32)]) -> usize
+    ensures { result ≤ length vectors.now }
 {
-    let rising = b"\x00\x01\x02\x03\x04\x05\x06\x07\x08\x09\x0a\x0b\x0c\x0d\x0e\x0f\
-        \x10\x11\x12\x13\x14\x15\x16\x17\x18\x19\x1a\x1b\x1c\x1d\x1e\x1f";
-    let falling = b"\x1f\x1e\x1d\x1c\x1b\x1a\x19\x18\x17\x16\x15\x14\x13\x12\x11\x10\
-        \x0f\x0e\x0d\x0c\x0b\x0a\x09\x08\x07\x06\x05\x04\x03\x02\x01\x00";
-    right(&[0x00; 32], 0x190a_55ad)
-        + right(&[0xff; 32], 0xff6c_ab0b)
-        + right(rising, 0x9126_7e8a)
-        + right(falling, 0x9ab0_ef72)
+    vectors
+        .iter()
+        .filter(|v| crc::crc32_ieee(v.0) == v.1)
+        .count()
 }
 
 // One bit of the register, as it leaves.
@@ -89,19 +87,14 @@ fn bit(c: u32) -> u32 {
     }
 }
 
-fn eight(c: u32) -> u32 {
-    bit(bit(bit(bit(bit(bit(bit(bit(c))))))))
-}
-
-fn wide(b: u8) -> u32 {
-    b as u32
-}
-
 // CRC-32 bit by bit, with no table.
 fn slow(s: &[u8]) -> u32 {
     let mut c: u32 = 0xffff_ffff;
     for b in s {
-        c = eight(c ^ wide(*b));
+        c ^= u32::from(*b);
+        for _ in 0..8 {
+            c = bit(c);
+        }
     }
     c ^ 0xffff_ffff
 }
@@ -112,26 +105,15 @@ fn by_tables(s: &[u8]) -> u32 {
     crc::crc32_with(&t, s)
 }
 
-// Whether all three agree on the first n bytes of p.
-fn agrees(p: &[u8], n: usize) -> u64
-    ensures { result ≤ 1 }
-{
-    let s = harness::part(p, 0, n);
+// Whether all three agree.
+fn agree(s: &[u8]) -> bool {
     let want = slow(s);
-    if by_tables(s) == want {
-        right(s, want)
-    } else {
-        0
-    }
+    by_tables(s) == want && crc::crc32_ieee(s) == want
 }
 
 // At how many lengths from 0 to 64 they agree.
-fn lengths(p: &[u8; 64]) -> u64 {
-    let mut agreed = 0;
-    for n in 0..=64 {
-        agreed += agrees(p, n);
-    }
-    agreed
+fn lengths(p: &[u8; 64]) -> usize {
+    (0..=64).filter(|n| agree(&p[..*n])).count()
 }
 
 fn main(rt: HostRuntime) -> io::Result<()> {
@@ -144,9 +126,9 @@ fn main(rt: HostRuntime) -> io::Result<()> {
     harness::write(&mut out, b"crc: ")?;
     harness::tell(
         &mut out,
-        single() + rhash() + golden() + autosar(),
+        (right(&SINGLE) + right(&RHASH) + right(&GOLDEN) + right(&AUTOSAR)) as u64,
         b" of 20 published vectors, ",
     )?;
-    harness::tell(&mut out, zlib(), b" of 4 of zlib, ")?;
-    harness::tell(&mut out, lengths(pattern), b" of 65 lengths\n")
+    harness::tell(&mut out, right(&ZLIB) as u64, b" of 4 of zlib, ")?;
+    harness::tell(&mut out, lengths(pattern) as u64, b" of 65 lengths\n")
 }

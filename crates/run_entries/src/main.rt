@@ -6,9 +6,8 @@
 
 ghost use Rattle.std.specs.Prelude.{◌<◌};
 
-use answer::Checked;
-use entry_bytes::EntryRead;
-use harness::{Said, Tally};
+use answer::Answer;
+use harness::Said;
 use plane::I32Point;
 use std::io;
 use std::io::Read;
@@ -20,22 +19,16 @@ const LENT: u8 = 0xa5;
 
 const LENT_ZONE: u32 = 0xa5a5_a5a5;
 
-fn wide(b: u8) -> usize
-    ensures { result < 256 }
-{
-    b as usize
-}
-
 // How many bytes there are to read, or zones to write.
 fn length(r: &[u8; 64]) -> usize
     ensures { result < 256 }
 {
-    wide(r[1])
+    usize::from(r[1])
 }
 
 // How much is lent: places for the zones that are read, or bytes for the entry that is written.
 fn room(r: &[u8; 64]) -> usize {
-    wide(r[2])
+    usize::from(r[2])
 }
 
 // ---- to read
@@ -43,10 +36,11 @@ fn room(r: &[u8; 64]) -> usize {
 // Whether the places hold the row's first zones, and behind them what was lent.
 fn are_zones(places: &[u32; 4], r: &[u8; 64], count: usize) -> bool {
     for i in 0..4 {
-        let mut expected = LENT_ZONE;
-        if i < count {
-            expected = harness::number(r, 36 + 4 * i);
-        }
+        let expected = if i < count {
+            harness::number(r, 36 + 4 * i)
+        } else {
+            LENT_ZONE
+        };
         if places[i] != expected {
             return false;
         }
@@ -61,16 +55,16 @@ fn zone_count(r: &[u8; 64]) -> usize {
 
 fn is_head(r: &[u8; 64], q: I32Point, count: u8, reason: u8) -> bool {
     (harness::number(r, 48) == 0)
-        & (harness::number(r, 52) == 256 * (count as u32) + (reason as u32))
+        & (harness::number(r, 52) == 256 * u32::from(count) + u32::from(reason))
         & (harness::whole(r, 56) == q.x)
         & (harness::whole(r, 60) == q.y)
 }
 
 // Whether the row says what was answered.
-fn is_said(r: &[u8; 64], a: EntryRead) -> bool {
+fn is_said(r: &[u8; 64], a: Answer<(I32Point, u8, u8)>) -> bool {
     match a {
-        EntryRead::Is(q, count, reason) => is_head(r, q, count, reason),
-        EntryRead::Refused(why) => Said::refused(why).is_expected(r),
+        Ok((q, count, reason)) => is_head(r, q, count, reason),
+        Err(why) => Said::refused(why).is_expected(r),
     }
 }
 
@@ -99,7 +93,7 @@ fn is_lent(out: &[u8], from: usize) -> bool {
     out.iter().skip(from).all(|b| *b == LENT)
 }
 
-fn write(r: &[u8; 64], zones: &[u32], out: &mut [u8]) -> Checked {
+fn write(r: &[u8; 64], zones: &[u32], out: &mut [u8]) -> Answer<()> {
     let q = I32Point {
         x: harness::whole(r, 4),
         y: harness::whole(r, 8),
@@ -124,10 +118,9 @@ fn is_written_into(r: &[u8; 64], zones: &[u32], out: &mut [u8]) -> bool {
     if out.len() < n {
         return false;
     }
-    let a = write(r, zones, &mut out[0..n]);
-    match a {
-        Checked::Fine => is_laid(r, out),
-        Checked::Refused(why) => Said::refused(why).is_expected(r) & is_lent(out, 0),
+    match write(r, zones, &mut out[0..n]) {
+        Ok(()) => is_laid(r, out),
+        Err(why) => Said::refused(why).is_expected(r) & is_lent(out, 0),
     }
 }
 
@@ -166,14 +159,10 @@ fn next<R: Read>(input: &mut R) -> io::Result<bool> {
 }
 
 fn main(rt: HostRuntime) -> io::Result<()> {
-    let mut input = rt.stdin();
-    let mut t = Tally::new();
-    while 0 < t.left {
-        t = t.with(next(&mut input)?);
-    }
+    let right = harness::replay(&mut rt.stdin(), |input| next(input))?;
     harness::tell(
         &mut rt.stdout(),
-        t.right,
+        right,
         b" entries read or written as document 02 says\n",
     )
 }

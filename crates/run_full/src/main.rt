@@ -3,8 +3,7 @@
 // answered so before the first difference or the list's end.
 #![tactic(auto)]
 
-use harness::Tally;
-use replies::FullCheck;
+use replies::Fault;
 use std::io;
 use std::io::Read;
 
@@ -12,9 +11,9 @@ use std::io::Read;
 fn is_same(r: &[u8; 1024]) -> bool {
     let expected = harness::number(r, 4);
     match tzb::full_check(harness::held(r)) {
-        FullCheck::Accepted => expected == 0,
-        FullCheck::Refused(why) => (why.number != 0) & (why.number == expected),
-        FullCheck::Broken(why, rule) => {
+        Ok(()) => expected == 0,
+        Err(Fault::Refused(why)) => (why.number != 0) & (why.number == expected),
+        Err(Fault::Broken(why, rule)) => {
             (why.number == 47) & (expected % 100 == 47) & (rule == expected / 100)
         }
     }
@@ -27,14 +26,10 @@ fn next<R: Read>(input: &mut R) -> io::Result<bool> {
 }
 
 fn main(rt: HostRuntime) -> io::Result<()> {
-    let mut input = rt.stdin();
-    let mut t = Tally::new();
-    while 0 < t.left {
-        t = t.with(next(&mut input)?);
-    }
+    let right = harness::replay(&mut rt.stdin(), |input| next(input))?;
     harness::tell(
         &mut rt.stdout(),
-        t.right,
+        right,
         b" files checked as documents 01 and 02 say\n",
     )
 }

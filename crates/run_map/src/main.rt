@@ -4,17 +4,16 @@
 // end.
 #![tactic(auto)]
 
-use harness::Tally;
-use replies::Drawing;
+use replies::Fault;
 use std::io;
 use std::io::Read;
 
 // Whether the drawing is that long where the number is 0, and else is refused by it.
-fn is_said(d: Drawing, number: u32, long: usize) -> bool {
+fn is_said(d: Result<usize, Fault>, number: u32, long: usize) -> bool {
     match d {
-        Drawing::Drawn(n) => (number == 0) & (n == long),
-        Drawing::Refused(why) => (why.number != 0) & (why.number == number),
-        Drawing::Broken(why, rule) => {
+        Ok(n) => (number == 0) & (n == long),
+        Err(Fault::Refused(why)) => (why.number != 0) & (why.number == number),
+        Err(Fault::Broken(why, rule)) => {
             (why.number == 47) & (number % 100 == 47) & (rule == number / 100)
         }
     }
@@ -22,16 +21,8 @@ fn is_said(d: Drawing, number: u32, long: usize) -> bool {
 
 // Whether the bytes are the text, and behind it what was lent.
 fn is_written(out: &[u8], text: &[u8]) -> bool {
-    for i in 0..out.len() {
-        let mut expected = 0xa5;
-        if i < text.len() {
-            expected = text[i];
-        }
-        if out[i] != expected {
-            return false;
-        }
-    }
-    true
+    out.strip_prefix(text)
+        .is_some_and(|rest| rest.iter().all(|b| *b == 0xa5))
 }
 
 // The length that is asked for alone: no room is too short.
@@ -46,11 +37,11 @@ fn is_measured(r: &[u8; 1024], q: &[u8; 1024]) -> bool {
 }
 
 // The text into the first bytes of what is lent.
-fn draw(file: &[u8], zone: u32, out: &mut [u8], room: usize) -> Drawing {
+fn draw(file: &[u8], zone: u32, out: &mut [u8], room: usize) -> Result<usize, Fault> {
     if out.len() < room {
-        return Drawing::Drawn(0xffff_ffff);
+        return Ok(0xffff_ffff);
     }
-    tzb_map::map(file, zone, &mut out[0..room])
+    tzb_map::map(file, zone, &mut out[..room])
 }
 
 // The text that is expected: after a refusal nothing is written.
@@ -87,14 +78,10 @@ fn next<R: Read>(input: &mut R) -> io::Result<bool> {
 }
 
 fn main(rt: HostRuntime) -> io::Result<()> {
-    let mut input = rt.stdin();
-    let mut t = Tally::new();
-    while 0 < t.left {
-        t = t.with(next(&mut input)?);
-    }
+    let right = harness::replay(&mut rt.stdin(), |input| next(input))?;
     harness::tell(
         &mut rt.stdout(),
-        t.right,
+        right,
         b" maps drawn as document 02 says\n",
     )
 }

@@ -3,18 +3,15 @@
 // name, for one past its last zone (45), and for a name and a chunk of which the bytes are not lent (44).
 #![tactic(auto)]
 
-use harness::Tally;
 use opened::Opened;
-use reader_records::ChunkAt;
-use replies::Opening;
 use std::io;
 use std::io::Read;
 
 // The number by which chunk 0 is refused, or 0.
 fn first_chunk(o: Opened, file: &[u8]) -> u32 {
     match tzb::chunk_at(o, file, 0) {
-        ChunkAt::At(_) => 0,
-        ChunkAt::Refused(why) => why.number,
+        Ok(_) => 0,
+        Err(why) => why.number,
     }
 }
 
@@ -33,8 +30,8 @@ fn is_same(r: &[u8; 1024]) -> bool {
     let expected = harness::number(r, 4);
     let file = harness::held(r);
     match tzb::open(file) {
-        Opening::Done(o) => (expected == 0) & is_answered(o, file),
-        Opening::Refused(why) => why.number == expected,
+        Ok(o) => (expected == 0) & is_answered(o, file),
+        Err(why) => why.number == expected,
     }
 }
 
@@ -45,14 +42,10 @@ fn next<R: Read>(input: &mut R) -> io::Result<bool> {
 }
 
 fn main(rt: HostRuntime) -> io::Result<()> {
-    let mut input = rt.stdin();
-    let mut t = Tally::new();
-    while 0 < t.left {
-        t = t.with(next(&mut input)?);
-    }
+    let right = harness::replay(&mut rt.stdin(), |input| next(input))?;
     harness::tell(
         &mut rt.stdout(),
-        t.right,
+        right,
         b" files opened or refused as document 01 says\n",
     )
 }

@@ -2,7 +2,7 @@
 // before the first difference or the list's end.
 #![tactic(auto)]
 
-use harness::{Tally, float, whole};
+use harness::{float, whole};
 use plane::{I32Point, Point, Seen};
 use std::io;
 use std::io::Read;
@@ -11,7 +11,7 @@ use std::io::Read;
 fn answer(seen: Seen) -> u8 {
     match seen {
         Seen::On => 2,
-        Seen::Off(counts) => { if counts { 1 } else { 0 } }
+        Seen::Off(counts) => u8::from(counts),
     }
 }
 
@@ -35,18 +35,14 @@ fn replay(r: &[u8; 40]) -> bool {
 // Whether there is one more record, and the port says the same of it.
 fn next<R: Read>(input: &mut R) -> io::Result<bool> {
     let mut r = [0u8; 40];
-    Ok(harness::read(input, &mut r)? & replay(&r))
+    Ok(harness::read(input, &mut r)? && replay(&r))
 }
 
 fn main(rt: HostRuntime) -> io::Result<()> {
-    let mut input = rt.stdin();
-    let mut t = Tally::new();
-    while 0 < t.left {
-        t = t.with(next(&mut input)?);
-    }
+    let right = harness::replay(&mut rt.stdin(), |input| next(input))?;
     harness::tell(
         &mut rt.stdout(),
-        t.right,
+        right,
         b" segments answered as the original answers\n",
     )
 }

@@ -5,13 +5,16 @@
 
 ghost use Rattle.std.specs.Prelude.{◌-◌, ◌≤◌, IfOk};
 
-use harness::{Asking, Said, float, number, size, whole};
+use answer::Answer;
+use harness::{Asking, Said, float, is_counted, number, size, whole};
 use opened::Opened;
-use replies::{Found, Listing, Needed, Opening, Verdict};
+use reader_ways::Way;
 use std::io;
 use std::io::Read;
 
 // ---- numbers: those that a record holds, and lent memory, of which each place holds 1,234,567,890
+
+const LENT: u32 = 1_234_567_890;
 
 // The numbers of a record, four bytes each.
 fn numbers_of(r: &[u8; 1024]) -> [u32; 256] {
@@ -35,104 +38,75 @@ fn is_left(out: &[u32], count: usize, expected: &[u32]) -> bool {
     if expected.len() < count {
         return false;
     }
-    for i in 0..out.len() {
-        let mut held = 1_234_567_890;
-        if i < count {
-            held = expected[i];
-        }
-        if out[i] != held {
-            return false;
-        }
-    }
-    true
+    let n = count.min(out.len());
+    out[..n] == expected[..n] && out[n..].iter().all(|held| *held == LENT)
 }
 
 // ---- a question is 48 bytes: its kind, a zone or how many places are lent, two numbers, a longitude, a latitude; then what is expected:
 // the refusal or 0, and three numbers. Behind a refusal stand its place and one more, and zeros: then no number may have changed.
 
-fn is_needed(n: Needed, q: &[u8]) -> bool {
-    match n {
-        Needed::Numbers(n) => (number(q, 32) == 0) & (n == number(q, 36) as u64),
-        Needed::Refused(why) => Said::refused(why).is_expected(q),
-    }
-}
-
 // Into the first of the places.
-fn build(o: Opened, s: &[u8], out: &mut [u32], room: usize) -> Needed {
+fn build(o: Opened, s: &[u8], out: &mut [u32], room: usize) -> Answer<u64> {
     if out.len() < room {
-        return Needed::Numbers(0xffff_ffff_ffff);
+        return Ok(0xffff_ffff_ffff);
     }
     reader_stripes::stripes(o, s, &mut out[0..room])
 }
 
 // What is built is what the list lends: all of it is looked at.
 fn is_built(o: Opened, s: &[u8], numbers: &[u32], q: &[u8]) -> bool {
-    let mut out = [1_234_567_890u32; 256];
+    let mut out = [LENT; 256];
     let n = build(o, s, &mut out, size(q, 4));
-    is_needed(n, q) & is_left(&out, harness::count(q), numbers)
-}
-
-fn verdict(v: Verdict) -> Said {
-    match v {
-        Verdict::Is(b) => {
-            if b {
-                Said(0, 1, 0, 0)
-            } else {
-                Said(0, 0, 0, 0)
-            }
-        }
-        Verdict::Refused(why) => Said::refused(why),
-    }
-}
-
-fn found(f: Found) -> Said {
-    match f {
-        Found::None => Said(0, 0, 0, 0),
-        Found::Zone(zone) => Said(0, 1, zone, 0),
-        Found::Refused(why) => Said::refused(why),
-    }
-}
-
-fn is_counted(l: Listing, q: &[u8]) -> bool {
-    match l {
-        Listing::Zones(n) => (number(q, 32) == 0) & (number(q, 36) == n),
-        Listing::Refused(why) => Said::refused(why).is_expected(q),
-    }
+    is_counted(n, q) & is_left(&out, harness::count(q), numbers)
 }
 
 // Into the first of the places.
-fn list(o: Opened, s: &[u8], numbers: &[u32], q: &[u8], out: &mut [u32], places: usize) -> Listing {
+fn list(
+    o: Opened,
+    s: &[u8],
+    numbers: &[u32],
+    q: &[u8],
+    out: &mut [u32],
+    places: usize,
+) -> Answer<u32> {
     if out.len() < places {
-        return Listing::Zones(0xffff_ffff);
+        return Ok(0xffff_ffff);
     }
     let lng = float(q, 16);
     let lat = float(q, 24);
-    reader_listing::lookup_into_by(true, numbers, o, s, lng, lat, &mut out[0..places])
+    reader_listing::lookup_into_by(Way::Striped(numbers), o, s, lng, lat, &mut out[0..places])
 }
 
 // At most two zones are listed.
 fn is_listed(o: Opened, s: &[u8], numbers: &[u32], q: &[u8]) -> bool {
-    let mut out = [1_234_567_890u32; 16];
+    let mut out = [LENT; 16];
     let l = list(o, s, numbers, q, &mut out, size(q, 4));
     let zones = [number(q, 40), number(q, 44)];
-    is_counted(l, q) & is_left(&out, harness::count(q), &zones)
+    is_counted(l.map(u64::from), q) & is_left(&out, harness::count(q), &zones)
 }
 
 fn is_contained(o: Opened, s: &[u8], numbers: &[u32], q: &[u8]) -> bool {
     let x = whole(q, 8);
     let y = whole(q, 12);
-    verdict(reader_zones::contains_by(true, numbers, o, s, number(q, 4), x, y)).is_expected(q)
+    Said::verdict(reader_zones::contains_by(
+        Way::Striped(numbers),
+        o,
+        s,
+        number(q, 4),
+        x,
+        y,
+    )).is_expected(q)
 }
 
 fn is_found(o: Opened, s: &[u8], numbers: &[u32], q: &[u8]) -> bool {
     let lng = float(q, 16);
     let lat = float(q, 24);
-    found(reader_lookup::lookup_by(true, numbers, o, s, lng, lat)).is_expected(q)
+    Said::found(reader_lookup::lookup_by(Way::Striped(numbers), o, s, lng, lat)).is_expected(q)
 }
 
 fn is_answered(o: Opened, s: &[u8], numbers: &[u32], q: &[u8]) -> bool {
     match number(q, 0) {
-        1 => is_needed(reader_stripes::stripes_need(o, s), q),
+        1 => is_counted(reader_stripes::stripes_need(o, s), q),
         2 => is_built(o, s, numbers, q),
         3 => is_contained(o, s, numbers, q),
         4 => is_found(o, s, numbers, q),
@@ -141,31 +115,19 @@ fn is_answered(o: Opened, s: &[u8], numbers: &[u32], q: &[u8]) -> bool {
     }
 }
 
-fn replay(file: &[u8], s: &[u8], numbers: &[u32], q: &[u8; 48]) -> bool {
-    match tzb::open(file) {
-        Opening::Done(o) => is_answered(o, s, numbers, q),
-        Opening::Refused(_) => false,
-    }
+fn replay(file: &[u8], s: &[u8], numbers: &[u32], q: &[u8]) -> bool {
+    tzb::open(file).is_ok_and(|o| is_answered(o, s, numbers, q))
 }
 
-// Whether there is one more question, and it is answered rightly.
-fn next<R: Read>(
-    input: &mut R,
-    file: &[u8; 1024],
-    lent: &[u8; 1024],
-    numbers: &[u8; 1024],
-) -> io::Result<bool> {
-    let mut q = [0u8; 48];
+// With the numbers that the record holds.
+fn replay_with(file: &[u8; 1024], lent: &[u8; 1024], numbers: &[u8; 1024], q: &[u8]) -> bool {
     let all = numbers_of(numbers);
     let count = harness::held(numbers).len() / 4;
-    Ok(
-        harness::read(input, &mut q)?
-            & replay(
-                harness::held(file),
-                harness::held(lent),
-                first(&all, count),
-                &q,
-            ),
+    replay(
+        harness::held(file),
+        harness::held(lent),
+        first(&all, count),
+        q,
     )
 }
 
@@ -195,11 +157,15 @@ fn main(rt: HostRuntime) -> io::Result<()> {
     let mut lent = [0u8; 1024];
     let mut numbers = [0u8; 1024];
     let mut a = Asking::new();
+    // kept: what comes next says when the list ends; nothing is counted here
     while 0 < a.tally.left {
         if a.questions == 0 {
             a = lend(a, &mut input, &mut file, &mut lent, &mut numbers)?;
         } else {
-            a = a.with(next(&mut input, &file, &lent, &numbers)?);
+            let right = harness::next(&mut input, &mut [0u8; 48], |q| {
+                replay_with(&file, &lent, &numbers, q)
+            })?;
+            a = a.with(right);
         }
     }
     harness::tell(

@@ -58,6 +58,7 @@ fn line(s: &[u8], at: usize, good: bool) -> u64
 {
     let mut bytes = [b'a'; 40];
     let mut n = 0;
+    // kept: a vector may end before its sixteenth byte, and how many came is used
     while n < 16 {
         let high = digit(byte(s, at + 3 * n));
         let low = digit(byte(s, at + 3 * n + 1));

@@ -1,6 +1,6 @@
 -- Document 02, 2026-02: all stripes of a file as numbers of 32 bits: the groups' entries, then the stripes', then the chunk numbers. A place in the numbers takes two of them, low half first.
 -- Assumes nothing.
-use Rattle.std.specs.Prelude.{ℕ, ◌+◌, ◌*◌, ◌-◌, ◌/◌, ◌%◌, Bool, cond, List, [], ◌∷◌, ◌++◌, ltb, length, ℤ}
+use Rattle.std.specs.Prelude.{ℕ, ◌+◌, ◌*◌, ◌-◌, ◌/◌, ◌%◌, cond, List, [], ◌∷◌, ◌++◌, ltb, length}
 use Rattle.std.specs.Int.{w32}
 use Rattle.std.proofs.Common.{of_z}
 use Rattle.boxes.specs.declared.BBox.{BBox}

@@ -1,7 +1,7 @@
 // How a group is cut into stripes, and which stripes a height and a box lie in: over heights and boxes alone.
 #![tactic(auto)]
 
-ghost use Rattle.std.specs.Prelude.{◌≡◌, ◌≤◌, ◌<◌, max};
+ghost use Rattle.std.specs.Prelude.{◌≡◌, ◌≤◌, ◌<◌};
 ghost use Rattle.stripes.specs.Stripes.{stripe_count, above, striping_of, stripe_of, stands_in, within_height};
 ghost use Rattle.stripes.specs.Numbers.{depth};
 
@@ -19,86 +19,66 @@ pub struct Striping {
 fn height_above(least: i32, y: i32) -> u32
     ensures { result ≡ above least y }
 {
-    if y < least {
-        0
-    } else {
-        ((y as i64) - (least as i64)) as u32
-    }
-}
-
-fn at_least_one(x: u32) -> u32
-    ensures { result ≡ max 1 x }
-{
-    if x < 1 { 1 } else { x }
-}
-
-fn wide(x: u32) -> u64
-    ensures { (result ≡ x) × (result < 0x1_0000_0000) }
-{
-    x as u64
+    if y < least { 0 } else { y.abs_diff(least) }
 }
 
 // The stripe that a height lies in.
+// kept: a group of one chunk has no stripes and an entry of lent numbers may have no height, so `Striping` can hold neither fact
+#[tactic(auto, unfolding(crate::specs::Stripes::stripe_of))]
 pub fn stripe_of(t: Striping, y: i32) -> u32
     requires { (0 < t.height) × (0 < t.k) }
     ensures { (result ≡ stripe_of t y) × (result < t.k) }
 {
-    let up = height_above(t.least, y);
-    if t.height <= up {
-        t.k - 1
-    } else {
-        (wide(up) * wide(t.k) / wide(t.height)) as u32
-    }
+    let share = u64::from(height_above(t.least, y)) * u64::from(t.k) / u64::from(t.height);
+    share.min(u64::from(t.k - 1)) as u32
 }
 
 // How many stripes a group of that many chunks has.
+#[tactic(auto, unfolding(crate::specs::Stripes::stripe_count))]
 pub fn stripe_count(chunks: u16) -> u32
     ensures { (result ≡ stripe_count chunks) × (result ≤ 256) }
 {
     if chunks < 2 {
         0
-    } else if chunks < 8 {
-        1
-    } else if 1024 < chunks {
-        256
     } else {
-        (chunks / 4) as u32
+        u32::from(chunks / 4).clamp(1, 256)
     }
 }
 
 // How a group of that box and that many chunks is cut.
+#[tactic(auto, unfolding(crate::specs::Stripes::striping_of))]
 pub fn striping_of(b: BBox, chunks: u16) -> Striping
     ensures { result ≡ striping_of b chunks }
 {
-    let height = at_least_one(height_above(b.miny, b.maxy));
     Striping {
         least: b.miny,
-        height: height,
+        height: height_above(b.miny, b.maxy).max(1),
         k: stripe_count(chunks),
     }
 }
 
 // The chunk's box lies in the group's in y.
+#[tactic(auto, unfolding(crate::specs::Stripes::within_height))]
 pub fn within_height(group: BBox, chunk: BBox) -> bool
     ensures { result ≡ within_height group chunk }
 {
-    (group.miny <= chunk.miny) & (chunk.maxy <= group.maxy)
+    group.miny <= chunk.miny && chunk.maxy <= group.maxy
 }
 
 // A chunk of that box stands in the stripe.
+#[tactic(auto, unfolding(crate::specs::Stripes::stands_in))]
 pub fn stands_in(t: Striping, stripe: u32, b: BBox) -> bool
     requires { (0 < t.height) × (0 < t.k) }
     ensures { result ≡ stands_in t stripe b }
 {
-    (stripe_of(t, b.miny) <= stripe) & (stripe <= stripe_of(t, b.maxy))
+    stripe_of(t, b.miny) <= stripe && stripe <= stripe_of(t, b.maxy)
 }
 
 // In how many stripes a chunk of that box stands.
+#[tactic(auto, unfolding(crate::specs::Numbers::depth))]
 pub fn depth(t: Striping, b: BBox) -> u32
     requires { (0 < t.height) × (0 < t.k) }
     ensures { (result ≡ depth t b) × (result ≤ t.k) }
 {
-    let first = stripe_of(t, b.miny);
-    let past = stripe_of(t, b.maxy) + 1;
-    if past < first { 0 } else { past - first }
+    (stripe_of(t, b.maxy) + 1).saturating_sub(stripe_of(t, b.miny))
 }

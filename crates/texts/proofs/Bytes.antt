@@ -1,6 +1,6 @@
 -- The order of two names, byte by byte as the code compares them, and its laws: it is a total order.
 -- Assumes nothing.
-use Prim.Native.Nat.{ℕ, ◌+◌, ◌≤◌, ◌<◌}
+use Prim.Native.Nat.{ℕ, ◌+◌, ◌-◌, ◌<◌}
 use native.Mathlib.Omega.{arith}
 use native.Mathlib.Numerals.{add-one}
 use mathlib.Core.Path.{◌≡◌, refl, sym, ap₂, ◌∙◌}
@@ -8,41 +8,42 @@ use mathlib.Core.Bool.{Bool, true, false, ◌&&◌, true≢false, false≢true}
 use mathlib.Core.List.{List, [], ◌∷◌}
 use borrow.Author.Tests.{lt-ltb, le-ltb, eq-eqb, ne_eqb, ltb-true, ltb-false, eqb-true}
 use lib.Dec.{ltb, eqb}
-use lib.ListN.{length, drop, get_or, drop_of_length-le}
+use lib.ListN.{length, take, drop, get_or}
 use lib.Seq.{drop-cons}
+use Rattle.std.specs.Prelude.{◌||◌, cond, Some}
+use Rattle.std.specs.Ordering.{is_some_and, is_lt, partial_ordering_then, nat_cmp}
+use Rattle.std.specs.Cmp.Lexicographic.{slice_partial_cmp}
+use Rattle.std.specs.declared.cmp.Ordering.TheVariants.{Less, Equal, Greater}
+use Rattle.std.proofs.lemmas.List.{take_rest}
 use Rattle.texts.specs.Spelled.{comes_before, same_bytes}
 
--- ---- from byte i on
-module _ (a b : List ℕ) (i : ℕ) where
-  -- b is at its end
-  pub before_none : length b ≤ i → false ≡ comes_before (drop i a) (drop i b)
+-- ---- from byte i on, where the bytes are equal
+module _ (a b : List ℕ) (i : ℕ) (h : i < length b) (k : i < length a) where
+  pub before_on : get_or a i 0 ≡ get_or b i 0 → comes_before (drop (i + 1) a) (drop (i + 1) b) ≡ comes_before (drop i a) (drop i b)
   unfolding comes_before
-  before_none h = rw (drop_of_length-le b h) (go (drop i a))
-    where
-      go : (l : List ℕ) → false ≡ comes_before l []
-      go [] = refl
-      go (x ∷ l) = refl
+  before_on e =
+      rw (add-one, drop-cons a i 0 k, drop-cons b i 0 h, le-ltb (get_or a i 0) (get_or b i 0) (omega arith), eq-eqb (get_or a i 0) (get_or b i 0) e)
 
-  module _ (h : i < length b) where
-    -- a is at its end, and b goes on
-    pub before_end : length a ≤ i → true ≡ comes_before (drop i a) (drop i b)
-    unfolding comes_before
-    before_end k = rw (drop_of_length-le a k, drop-cons b i 0 h)
+-- ---- it is the order of the library, which asks the same byte by byte
+pub library_order : (a b : List ℕ) → is_some_and is_lt (slice_partial_cmp (λ (x y : ℕ). Some (nat_cmp x y)) a b) ≡ comes_before a b
+unfolding comes_before
+library_order [] [] = refl
+library_order [] (y ∷ b) = refl
+library_order (x ∷ a) [] = refl
+library_order (x ∷ a) (y ∷ b) = go (ltb x y) (eqb x y) (library_order a b)
+  where
+    go : (s t : Bool)
+        → is_some_and is_lt (slice_partial_cmp (λ (x y : ℕ). Some (nat_cmp x y)) a b) ≡ comes_before a b
+        → is_some_and is_lt (partial_ordering_then (Some (cond s Less (cond t Equal Greater))) (slice_partial_cmp (λ (x y : ℕ). Some (nat_cmp x y)) a b))
+        ≡ (s || (t && comes_before a b))
+    go true t e = refl
+    go false true e = e
+    go false false e = refl
 
-    module _ (k : i < length a) where
-      pub before_less : get_or a i 0 < get_or b i 0 → true ≡ comes_before (drop i a) (drop i b)
-      unfolding comes_before
-      before_less l = rw (drop-cons a i 0 k, drop-cons b i 0 h, lt-ltb (get_or a i 0) (get_or b i 0) l)
-
-      pub before_more : get_or b i 0 < get_or a i 0 → false ≡ comes_before (drop i a) (drop i b)
-      unfolding comes_before
-      before_more l =
-          rw (drop-cons a i 0 k, drop-cons b i 0 h, le-ltb (get_or a i 0) (get_or b i 0) (omega arith), ne_eqb (get_or a i 0) (get_or b i 0) (λ (e : get_or a i 0 ≡ get_or b i 0). omega arith))
-
-      pub before_on : get_or a i 0 ≡ get_or b i 0 → comes_before (drop (i + 1) a) (drop (i + 1) b) ≡ comes_before (drop i a) (drop i b)
-      unfolding comes_before
-      before_on e =
-          rw (add-one, drop-cons a i 0 k, drop-cons b i 0 h, le-ltb (get_or a i 0) (get_or b i 0) (omega arith), eq-eqb (get_or a i 0) (get_or b i 0) e)
+-- of what stands from byte i on
+pub library_from : (a b : List ℕ) (i : ℕ) (r : Bool) → r ≡ is_some_and is_lt (slice_partial_cmp (λ (x y : ℕ). Some (nat_cmp x y)) (take (length a - i) (drop i a)) (take (length b - i) (drop i b)))
+    → r ≡ comes_before (drop i a) (drop i b)
+library_from a b i r h = h ∙ library_order _ _ ∙ ap₂ comes_before (take_rest a i) (take_rest b i)
 
 -- ---- a total order
 -- the first bytes are less, equal or more

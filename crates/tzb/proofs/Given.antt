@@ -111,7 +111,7 @@ module _ (file : List ℕ) (o : Opened) (opened : ok o ≡ open_of file) where
   unfolding open_of
   passed = before_inv (table_check file) _ o opened
 
-  filled : (contents_check file (sections_of file) (grid_is file) (opened_is file) ≡ fine) × (ok o ≡ ok (opened_is file))
+  filled : (contents_check file (sections_of file) (grid_is file) (opened_is file) ≡ fine) × (◌≡◌ {A = Answer Opened} (ok o) (ok (opened_is file)))
   filled = before_inv (contents_check file (sections_of file) (grid_is file) (opened_is file)) _ o passed.1
 
   pub opened_is_law : o ≡ opened_is file

@@ -1,3 +1,2 @@
 -- What is asked with the opened record as bytes.
 pub mod Asked
-pub mod Steps

@@ -11,82 +11,76 @@ ghost use Rattle.varints.specs.Varint.{number_at};
 ghost use Rattle.chunks.specs.Decode.{filled};
 ghost use Rattle.tzb.specs.FullCheck.{full_check_of};
 ghost use Rattle.tzb_asked.specs.Asked.{zones_asked, name_asked, ends_asked, ends_after, choice_asked, candidate_asked, contains_asked, decode_asked, lookup_asked, list_asked, contains_asked_by, lookup_asked_by, list_asked_by, need_asked, stripes_asked};
-ghost use Rattle.reader_ways.specs.Ways.{striped, way_of};
+ghost use Rattle.reader_ways.specs.Ways.{striped};
 ghost use Rattle.tzb_codes.specs.Codes.{bit_of, done_code, kind_code, listed_of, inside_code, zone_code, check_code, rule_of, needed_code, drawn_code, seen_code, number_code, start_code, end_code, place_of};
 ghost use Rattle.tzb_map.specs.Map.{map_of, map_in, how_long, as_answer};
 ghost use Rattle.tzb_c.specs.Opens.{open_into, lookup_once};
 ghost use Rattle.tzb_c.specs.Exports.{number_of, length_from, box_of};
 ghost use Rattle.plane.specs.Places.{point, position};
-ghost use Rattle.replies.specs.Replies.{found_told};
 ghost use Rattle.answer.specs.Answers.{ok, ◌then◌, left, how_many};
 ghost use Rattle.entries.specs.Entry.{entry};
 ghost use Rattle.tzb_journal.specs.Journal.{journal_asked, journal_written, journal_read, position_of, count_and_reason};
 
-use answer::Checked;
+use answer::Answer;
 use boxes::BBox;
-use entry_bytes::EntryRead;
 use plane::{I32Point, Point};
-use replies::{Bounds, Candidate, Count, Found, Listing, Opening};
-use tzb_core::varint::{Place, Read};
-use tzb_record::RecordRead;
+use reader_ways::Way;
+use tzb_core::varint::Place;
+
+// kept: the C interface has these parameters, one by one.
 
 // ---- opening, and questions over the opened record
 
 // Opens the file and writes the opened record into the first 84 bytes of lent memory: 0, or -1000 - n for refusal n, and then nothing is written. 46 where there is no room.
+#[tactic(auto, using(crate::proofs::OpensLaws::open_barred, crate::proofs::OpensLaws::open_into_law, tzb_codes::proofs::CodesLaws::done_outcome))]
 pub fn tzb_open(file: &[u8], record: &mut [u8]) -> i32
     ensures value { result ≡ done_code (open_into file.now «record».old) }
     ensures memory { «record».new ≡ left «record».old (open_into file.now «record».old) }
 {
-    let a = tzb::open(file);
-    match a {
-        Opening::Refused(k) => tzb_codes::refusal_code(k),
-        Opening::Done(o) => tzb_codes::done_code(tzb_record::write_record(o, record)),
+    match tzb::open(file) {
+        Ok(o) => tzb_codes::done_code(tzb_record::write_record(o, record)),
+        Err(k) => tzb_codes::refusal_code(k),
     }
 }
 
 // How many zones there are: their numbers are those below. -1000 - n for refusal n.
+#[tactic(auto, unfolding(tzb_asked::specs::Asked::zones_asked))]
 pub fn tzb_zone_count(record: &[u8]) -> i64
     ensures { result ≡ number_code (zones_asked «record».now) }
 {
-    let a = tzb_record::read_record(record);
-    match a {
-        RecordRead::Refused(k) => tzb_codes::refusal_code64(k),
-        RecordRead::Is(o) => o.zones.count as i64,
-    }
+    tzb_codes::number_code(tzb_record::read_record(record).map(|o| o.zones.count))
 }
 
 // Where a zone's name starts in the file, or -1000 - n for refusal n.
+#[tactic(auto, using(crate::proofs::Kept::name_inside))]
 pub fn tzb_name_start(record: &[u8], file: &[u8], zone: u32) -> i64
     ensures { result ≡ start_code (name_asked «record».now file.now zone) }
 {
-    let a = tzb_asked::name_bounds(record, file, zone);
-    match a {
-        Bounds::Refused(k) => tzb_codes::refusal_code64(k),
-        Bounds::At(from, _) => from as i64,
+    // kept: the C interface has an export for each end
+    match tzb_asked::name_bounds(record, file, zone) {
+        Ok((from, _)) => from as i64,
+        Err(k) => tzb_codes::refusal_code64(k),
     }
 }
 
 // Where it ends: the place after its last byte, or -1000 - n for refusal n.
+#[tactic(auto, using(crate::proofs::Kept::name_inside))]
 pub fn tzb_name_end(record: &[u8], file: &[u8], zone: u32) -> i64
     ensures { result ≡ end_code (name_asked «record».now file.now zone) }
 {
-    let a = tzb_asked::name_bounds(record, file, zone);
-    match a {
-        Bounds::Refused(k) => tzb_codes::refusal_code64(k),
-        Bounds::At(_, to) => to as i64,
+    match tzb_asked::name_bounds(record, file, zone) {
+        Ok((_, to)) => to as i64,
+        Err(k) => tzb_codes::refusal_code64(k),
     }
 }
 
 // Both, into the first two lent numbers: 0, or -1000 - n for refusal n, and then nothing is written. 46 where fewer than two are lent.
+#[tactic(auto, using(tzb_codes::proofs::CodesLaws::done_outcome))]
 pub fn tzb_name(record: &[u8], file: &[u8], zone: u32, ends: &mut [u64]) -> i32
     ensures value { result ≡ done_code (ends_asked «record».now file.now zone (length ends.old)) }
     ensures memory { ends.new ≡ ends_after ends.old (ends_asked «record».now file.now zone (length ends.old)) }
 {
-    let a = tzb_asked::name_ends(record, file, zone, ends);
-    match a {
-        Checked::Refused(k) => tzb_codes::refusal_code(k),
-        Checked::Fine => 0,
-    }
+    tzb_codes::done_code(tzb_asked::name_ends(record, file, zone, ends))
 }
 
 // What the candidates of a position are: 0 none, 1 all zones, 2 those listed for a cell, -1000 - n for refusal n.
@@ -107,27 +101,21 @@ pub fn tzb_listed(record: &[u8], file: &[u8], lng: f64, lat: f64) -> u64
 pub fn tzb_candidate(record: &[u8], file: &[u8], place: u32) -> i64
     ensures { result ≡ number_code (candidate_asked «record».now file.now place) }
 {
-    let a = tzb_asked::candidate_at(record, file, place);
-    match a {
-        Candidate::Refused(k) => tzb_codes::refusal_code64(k),
-        Candidate::Zone(z) => z as i64,
-    }
+    tzb_codes::number_code(tzb_asked::candidate_at(record, file, place))
 }
 
 // Whether a zone contains a point of whole numbers, in hundred-thousandths of a degree: 1, 0, or -1000 - n for refusal n.
 pub fn tzb_contains(record: &[u8], file: &[u8], zone: u32, x: i32, y: i32) -> i32
     ensures { result ≡ inside_code (contains_asked «record».now file.now zone (point x y)) }
 {
-    let none = [0u32; 0];
-    tzb_codes::inside_code(tzb_asked::contains_by(false, &none, record, file, zone, x, y))
+    tzb_codes::inside_code(tzb_asked::contains_by(Way::Plain, record, file, zone, x, y))
 }
 
 // The place in the file, counted from its first byte, of the number that the refusal of tzb_contains is about; -1 where it has none, and where there is no refusal.
 pub fn tzb_contains_place(record: &[u8], file: &[u8], zone: u32, x: i32, y: i32) -> i64
     ensures { result ≡ place_of (contains_asked «record».now file.now zone (point x y)) }
 {
-    let none = [0u32; 0];
-    tzb_codes::verdict_place(tzb_asked::contains_by(false, &none, record, file, zone, x, y))
+    tzb_codes::place_of(tzb_asked::contains_by(Way::Plain, record, file, zone, x, y))
 }
 
 // The points of a chunk into lent numbers, two a point: how many points, or -1000 - n for refusal n, and then nothing is written.
@@ -135,39 +123,34 @@ pub fn tzb_decode(record: &[u8], file: &[u8], chunk: u32, out: &mut [i32]) -> i6
     ensures value { result ≡ number_code (how_many (decode_asked «record».now file.now chunk out.old)) }
     ensures memory { out.new ≡ filled out.old (decode_asked «record».now file.now chunk out.old) }
 {
-    let a = tzb_asked::decode(record, file, chunk, out);
-    match a {
-        Count::Refused(k) => tzb_codes::refusal_code64(k),
-        Count::Is(n) => n as i64,
-    }
+    tzb_codes::number_code(tzb_asked::decode(record, file, chunk, out))
 }
 
 // The place in the file, counted from its first byte, of the number that the refusal of tzb_decode is about; -1 where it has none, and where there is no refusal. Nothing is written.
+#[tactic(auto, using(tzb_codes::proofs::CodesLaws::place_outcome))]
 pub fn tzb_decode_place(record: &[u8], file: &[u8], chunk: u32, out: &[i32]) -> i64
     ensures { result ≡ place_of (decode_asked «record».now file.now chunk out.now) }
 {
-    tzb_codes::checked_place(tzb_asked::check_decode(record, file, chunk, out))
+    tzb_codes::place_of(tzb_asked::check_decode(record, file, chunk, out))
 }
 
-fn lookup_once(file: &[u8], lng: f64, lat: f64) -> Found
-    ensures { found_told result ≡ lookup_once file.now lng lat }
+#[tactic(auto, unfolding(crate::specs::Opens::lookup_once))]
+fn lookup_once(file: &[u8], lng: f64, lat: f64) -> Answer<Option<u32>>
+    ensures { result ≡ lookup_once file.now lng lat }
 {
-    let a = tzb::open(file);
-    match a {
-        Opening::Refused(k) => Found::Refused(k),
-        Opening::Done(o) => tzb::lookup(o, file, lng, lat),
-    }
+    let o = tzb::open(file)?;
+    tzb::lookup(o, file, lng, lat)
 }
 
 // Opens the file and asks for the zone that a position lies in, in degrees: its number, -1 for none, -1000 - n for refusal n.
+#[tactic(auto, using(crate::proofs::Kept::once_small))]
 pub fn tzb_lookup(file: &[u8], lng: f64, lat: f64) -> i32
     ensures { result ≡ zone_code (lookup_once file.now lng lat) }
 {
-    let a = lookup_once(file, lng, lat);
-    match a {
-        Found::None => -1,
-        Found::Zone(zone) => zone as i32,
-        Found::Refused(k) => tzb_codes::refusal_code(k),
+    match lookup_once(file, lng, lat) {
+        Ok(None) => -1,
+        Ok(Some(zone)) => zone as i32,
+        Err(k) => tzb_codes::refusal_code(k),
     }
 }
 
@@ -175,43 +158,21 @@ pub fn tzb_lookup(file: &[u8], lng: f64, lat: f64) -> i32
 pub fn tzb_lookup_place(file: &[u8], lng: f64, lat: f64) -> i64
     ensures { result ≡ place_of (lookup_once file.now lng lat) }
 {
-    tzb_codes::found_place(lookup_once(file, lng, lat))
+    tzb_codes::place_of(lookup_once(file, lng, lat))
 }
 
 // The same as tzb_lookup with the record, once the file was opened: its number, -1 for none, -1000 - n for refusal n.
 pub fn tzb_ask(record: &[u8], file: &[u8], lng: f64, lat: f64) -> i64
     ensures { result ≡ zone_code (lookup_asked «record».now file.now lng lat) }
 {
-    let none = [0u32; 0];
-    tzb_codes::zone_code(tzb_asked::lookup_by(false, &none, record, file, lng, lat))
+    tzb_codes::zone_code(tzb_asked::lookup_by(Way::Plain, record, file, lng, lat))
 }
 
 // The place in the file, counted from its first byte, of the number that the refusal of tzb_ask is about; -1 where it has none, and where there is no refusal.
 pub fn tzb_ask_place(record: &[u8], file: &[u8], lng: f64, lat: f64) -> i64
     ensures { result ≡ place_of (lookup_asked «record».now file.now lng lat) }
 {
-    let none = [0u32; 0];
-    tzb_codes::found_place(tzb_asked::lookup_by(false, &none, record, file, lng, lat))
-}
-
-// All zones of a position, walked plainly or by stripes: how many there are, as a number.
-fn ask_all_by(
-    way: bool,
-    numbers: &[u32],
-    record: &[u8],
-    file: &[u8],
-    lng: f64,
-    lat: f64,
-    zones: &mut [u32],
-) -> i64
-    ensures value { result ≡ number_code (how_many (list_asked_by (way_of way numbers.now) «record».now file.now lng lat (length zones.old))) }
-    ensures memory { zones.new ≡ left zones.old (list_asked_by (way_of way numbers.now) «record».now file.now lng lat (length zones.old)) }
-{
-    let a = tzb_asked::lookup_into_by(way, numbers, record, file, lng, lat, zones);
-    match a {
-        Listing::Refused(k) => tzb_codes::refusal_code64(k),
-        Listing::Zones(n) => n as i64,
-    }
+    tzb_codes::place_of(tzb_asked::lookup_by(Way::Plain, record, file, lng, lat))
 }
 
 // All zones that a position lies in, in the order of their names, into lent places: how many there are, or -1000 - n for refusal n, and then nothing is written.
@@ -219,27 +180,19 @@ pub fn tzb_ask_all(record: &[u8], file: &[u8], lng: f64, lat: f64, zones: &mut [
     ensures value { result ≡ number_code (how_many (list_asked «record».now file.now lng lat (length zones.old))) }
     ensures memory { zones.new ≡ left zones.old (list_asked «record».now file.now lng lat (length zones.old)) }
 {
-    let none = [0u32; 0];
-    ask_all_by(false, &none, record, file, lng, lat, zones)
+    tzb_codes::number_code(tzb_asked::lookup_into_by(Way::Plain, record, file, lng, lat, zones))
 }
 
 // The place in the file, counted from its first byte, of the number that the refusal of tzb_ask_all is about; -1 where it has none, and where there is no refusal. Nothing is written.
+#[tactic(auto, using(tzb_codes::proofs::CodesLaws::place_many))]
 pub fn tzb_ask_all_place(record: &[u8], file: &[u8], lng: f64, lat: f64, zones: &[u32]) -> i64
     ensures { result ≡ place_of (list_asked «record».now file.now lng lat (length zones.now)) }
 {
-    let none = [0u32; 0];
-    tzb_codes::listing_place(tzb_asked::count_into_by(
-        false,
-        &none,
-        record,
-        file,
-        lng,
-        lat,
-        zones.len(),
-    ))
+    tzb_codes::place_of(tzb_asked::count_into_by(Way::Plain, record, file, lng, lat, zones.len()))
 }
 
 // ---- stripes
+// kept: the C interface has an export for each way
 
 // How many numbers the stripes of the file take, or -1000 - n for refusal n: 49 where, in a group of two chunks or more, a chunk's box leaves the group's in y.
 pub fn tzb_stripes_need(record: &[u8], file: &[u8]) -> i64
@@ -267,7 +220,7 @@ pub fn tzb_contains_striped(
 ) -> i32
     ensures { result ≡ inside_code (contains_asked_by (striped numbers.now) «record».now file.now zone (point x y)) }
 {
-    tzb_codes::inside_code(tzb_asked::contains_by(true, numbers, record, file, zone, x, y))
+    tzb_codes::inside_code(tzb_asked::contains_by(Way::Striped(numbers), record, file, zone, x, y))
 }
 
 // The same as tzb_contains_place, by stripes.
@@ -281,21 +234,21 @@ pub fn tzb_contains_striped_place(
 ) -> i64
     ensures { result ≡ place_of (contains_asked_by (striped numbers.now) «record».now file.now zone (point x y)) }
 {
-    tzb_codes::verdict_place(tzb_asked::contains_by(true, numbers, record, file, zone, x, y))
+    tzb_codes::place_of(tzb_asked::contains_by(Way::Striped(numbers), record, file, zone, x, y))
 }
 
 // The same as tzb_ask, by stripes.
 pub fn tzb_ask_striped(record: &[u8], numbers: &[u32], file: &[u8], lng: f64, lat: f64) -> i64
     ensures { result ≡ zone_code (lookup_asked_by (striped numbers.now) «record».now file.now lng lat) }
 {
-    tzb_codes::zone_code(tzb_asked::lookup_by(true, numbers, record, file, lng, lat))
+    tzb_codes::zone_code(tzb_asked::lookup_by(Way::Striped(numbers), record, file, lng, lat))
 }
 
 // The same as tzb_ask_place, by stripes.
 pub fn tzb_ask_striped_place(record: &[u8], numbers: &[u32], file: &[u8], lng: f64, lat: f64) -> i64
     ensures { result ≡ place_of (lookup_asked_by (striped numbers.now) «record».now file.now lng lat) }
 {
-    tzb_codes::found_place(tzb_asked::lookup_by(true, numbers, record, file, lng, lat))
+    tzb_codes::place_of(tzb_asked::lookup_by(Way::Striped(numbers), record, file, lng, lat))
 }
 
 // The same as tzb_ask_all, by stripes.
@@ -310,10 +263,18 @@ pub fn tzb_ask_all_striped(
     ensures value { result ≡ number_code (how_many (list_asked_by (striped numbers.now) «record».now file.now lng lat (length zones.old))) }
     ensures memory { zones.new ≡ left zones.old (list_asked_by (striped numbers.now) «record».now file.now lng lat (length zones.old)) }
 {
-    ask_all_by(true, numbers, record, file, lng, lat, zones)
+    tzb_codes::number_code(tzb_asked::lookup_into_by(
+        Way::Striped(numbers),
+        record,
+        file,
+        lng,
+        lat,
+        zones,
+    ))
 }
 
 // The same as tzb_ask_all_place, by stripes.
+#[tactic(auto, using(tzb_codes::proofs::CodesLaws::place_many))]
 pub fn tzb_ask_all_striped_place(
     record: &[u8],
     numbers: &[u32],
@@ -324,9 +285,8 @@ pub fn tzb_ask_all_striped_place(
 ) -> i64
     ensures { result ≡ place_of (list_asked_by (striped numbers.now) «record».now file.now lng lat (length zones.now)) }
 {
-    tzb_codes::listing_place(tzb_asked::count_into_by(
-        true,
-        numbers,
+    tzb_codes::place_of(tzb_asked::count_into_by(
+        Way::Striped(numbers),
         record,
         file,
         lng,
@@ -371,6 +331,7 @@ pub fn tzb_map_length(file: &[u8], zone: u32) -> i64
 // ---- the journal
 
 // The journal's entry of a whole-number position, into the first 10 + 2 * places bytes of lent memory: 0, or -1000 - n for refusal n of the call, and then nothing is written: 44 for an opened record of another length, 50 for a number of places that is not offered, 46 where there is no room. Any refusal of the question is the entry's reason.
+#[tactic(auto, using(tzb_codes::proofs::CodesLaws::done_outcome))]
 pub fn tzb_journal_ask(
     record: &[u8],
     file: &[u8],
@@ -387,6 +348,7 @@ pub fn tzb_journal_ask(
 }
 
 // An entry of these parts into lent memory: 0, or -1000 - n for refusal n, and then nothing is written: 50 for a number of places that is not offered, or an entry of no form, then 46 where there is no room.
+#[tactic(auto, using(tzb_codes::proofs::CodesLaws::done_outcome))]
 pub fn tzb_journal_write(
     places: u32,
     x: i32,
@@ -405,44 +367,42 @@ pub fn tzb_journal_write(
 fn count_and_reason(count: u8, reason: u8) -> u32
     ensures { (result ≡ 256 * count + reason) × (result < 0x1_0000) }
 {
-    256 * (count as u32) + (reason as u32)
+    256 * u32::from(count) + u32::from(reason)
 }
 
 // The entry that stands in the bytes: 256 times its count plus its reason, its position in the first two lent numbers, its zones in the first lent places. Or -1000 - n for refusal n, and then nothing is written: 50 for a number of places that is not offered, or bytes of no form, then 46 where there is no room for the position or for the zones.
+#[tactic(auto, using(crate::proofs::ExportsLaws::count_told_law))]
 pub fn tzb_journal_read(places: u32, bytes: &[u8], position: &mut [i32], zones: &mut [u32]) -> i32
     ensures value { result ≡ number_code (journal_read places bytes.now (length position.old) (length zones.old) then λ e. ok (count_and_reason e)) }
     ensures memory { (position.new ≡ left position.old (journal_read places bytes.now (length position.old) (length zones.old) then λ e. ok (position_of e))) × (zones.new ≡ left zones.old (journal_read places bytes.now (length position.old) (length zones.old) then λ e. ok e.zones)) }
 {
-    let a = tzb_journal::read(places, bytes, position, zones);
-    match a {
-        EntryRead::Refused(k) => tzb_codes::refusal_code(k),
-        EntryRead::Is(_, count, reason) => count_and_reason(count, reason) as i32,
+    match tzb_journal::read(places, bytes, position, zones) {
+        Ok((_, count, reason)) => count_and_reason(count, reason) as i32,
+        Err(k) => tzb_codes::refusal_code(k),
     }
 }
 
 // ---- for comparison runs
 
 // The number at a place of the bytes, or 0 where it is refused.
+#[tactic(auto, unfolding(crate::specs::Exports::number_of))]
 pub fn tzb_number(bytes: &[u8], at: usize) -> i32
     ensures { result ≡ number_of (number_at bytes.now at) }
 {
-    let place = Place { at };
-    let read = place.varint(bytes);
-    match read {
-        Read::Refused(_) => 0,
-        Read::Number(n, _) => n,
+    match Place::new(at).varint(bytes) {
+        Ok((n, _)) => n,
+        Err(_) => 0,
     }
 }
 
 // How many bytes that number has, or -1000 - n for refusal n.
+#[tactic(auto, using(varints::proofs::Places::number_place), unfolding(crate::specs::Exports::length_from))]
 pub fn tzb_number_length(bytes: &[u8], at: usize) -> i32
     ensures { result ≡ length_from at (number_at bytes.now at) }
 {
-    let place = Place { at };
-    let read = place.varint(bytes);
-    match read {
-        Read::Refused(k) => tzb_codes::refusal_code(k),
-        Read::Number(_, next) => (next.at - at) as i32,
+    match Place::new(at).varint(bytes) {
+        Ok((_, next)) => (next.at() - at) as i32,
+        Err(k) => tzb_codes::refusal_code(k),
     }
 }
 

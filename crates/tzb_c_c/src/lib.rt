@@ -21,6 +21,8 @@ ghost use Rattle.answer.specs.Answers.{ok, ◌then◌, left, how_many};
 ghost use Rattle.entries.specs.Entry.{entry};
 ghost use Rattle.tzb_journal.specs.Journal.{journal_asked, journal_written, journal_read, position_of, count_and_reason};
 
+// kept: the C interface has these parameters, one by one, and each symbol its function in tzb_c.
+
 // ---- opening, and questions over the opened record
 
 #[unsafe(no_mangle)]

@@ -1,11 +1,16 @@
 -- Any two answers that a promise allows are equal: stated over the contracts themselves.
 -- Assumes nothing.
 use mathlib.Core.Path.{sym, ◌∙◌}
+use denote.RattleType.{RattleType}
+use denote.Param.Laws.{Laws, IsCopy}
+use mir.Syntax.{Dict}
+use Rattle.std.specs.declared.clone.Clone.{Ghosts}
 use Rattle.basics.specs.Determined.{Determined}
 use Rattle.tzb_codes.proofs.bit.Reads as bit-reads
 use Rattle.tzb_codes.proofs.refusal_code.Reads as refusal-code-reads
 use Rattle.tzb_codes.proofs.refusal_code64.Reads as refusal-code64-reads
 use Rattle.tzb_codes.proofs.done_code.Reads as done-code-reads
+use Rattle.tzb_codes.proofs.number_code.Reads as number-code-reads
 use Rattle.tzb_codes.proofs.kind_code.Reads as kind-code-reads
 use Rattle.tzb_codes.proofs.listed_of.Reads as listed-of-reads
 use Rattle.tzb_codes.proofs.inside_code.Reads as inside-code-reads
@@ -16,10 +21,7 @@ use Rattle.tzb_codes.proofs.needed_code.Reads as needed-code-reads
 use Rattle.tzb_codes.proofs.drawing_code.Reads as drawing-code-reads
 use Rattle.tzb_codes.proofs.seen_code.Reads as seen-code-reads
 use Rattle.tzb_codes.proofs.place_code.Reads as place-code-reads
-use Rattle.tzb_codes.proofs.found_place.Reads as found-place-reads
-use Rattle.tzb_codes.proofs.verdict_place.Reads as verdict-place-reads
-use Rattle.tzb_codes.proofs.listing_place.Reads as listing-place-reads
-use Rattle.tzb_codes.proofs.checked_place.Reads as checked-place-reads
+use Rattle.tzb_codes.proofs.place_of.Reads as place-of-reads
 
 pub bit : Determined bit-reads.Learnt
 bit κ a r r' e e' p q = p ∙ sym q
@@ -32,6 +34,9 @@ refusal_code64 κ a r r' e e' p q = p ∙ sym q
 
 pub done_code_law : Determined done-code-reads.Learnt
 done_code_law κ a r r' e e' p q = p ∙ sym q
+
+pub number_code_law : Determined number-code-reads.Learnt
+number_code_law κ a r r' e e' p q = p ∙ sym q
 
 pub kind_code_law : Determined kind-code-reads.Learnt
 kind_code_law κ a r r' e e' p q = p ∙ sym q
@@ -63,14 +68,5 @@ seen_code_law κ a r r' e e' p q = p ∙ sym q
 pub place_code_law : Determined place-code-reads.Learnt
 place_code_law κ a r r' e e' p q = p ∙ sym q
 
-pub found_place : Determined found-place-reads.Learnt
-found_place κ a r r' e e' p q = p ∙ sym q
-
-pub verdict_place : Determined verdict-place-reads.Learnt
-verdict_place κ a r r' e e' p q = p ∙ sym q
-
-pub listing_place : Determined listing-place-reads.Learnt
-listing_place κ a r r' e e' p q = p ∙ sym q
-
-pub checked_place : Determined checked-place-reads.Learnt
-checked_place κ a r r' e e' p q = p ∙ sym q
+pub place_of_law : (T : RattleType) (L : Laws T) (C : IsCopy T) (g : Ghosts T.Denot) (d : Dict) → Determined (place-of-reads.Learnt T L C g d)
+place_of_law T L C g d κ a r r' e e' p q = p ∙ sym q

@@ -2,117 +2,116 @@
 #![tactic(auto)]
 
 ghost use Rattle.std.specs.Prelude.{◌≡◌};
-ghost use Rattle.answer.specs.Answers.{checked_told};
-ghost use Rattle.plane.specs.Sight.{seen_told};
-ghost use Rattle.tzb_codes.specs.Codes.{bit_of, refusal_code, done_code, kind_code, listed_of, inside_code, zone_code, check_code, rule_of, whole_code, needed_code, drawn_code, seen_code, place_code, place_of};
-ghost use Rattle.replies.specs.Replies.{check_told, choice_told, verdict_told, found_told, needed_told, drawing_told, listing_told};
+ghost use Rattle.tzb_codes.specs.Codes.{bit_of, refusal_code, done_code, number_code, kind_code, listed_of, inside_code, zone_code, check_code, rule_of, whole_code, needed_code, drawn_code, seen_code, place_code, place_of};
 
-use answer::{Checked, Refusal};
+use answer::{Answer, Refusal};
 use plane::Seen;
-use replies::{Choice, Drawing, Found, FullCheck, Listing, Needed, Verdict};
+use replies::{Choice, Fault};
 
 // 1 yes, 0 no.
 pub fn bit(b: bool) -> u32
     ensures { result ≡ bit_of b }
 {
-    if b { 1 } else { 0 }
+    u32::from(b)
 }
 
 // -1000 - n for refusal n.
 pub fn refusal_code(r: Refusal) -> i32
     ensures { result ≡ refusal_code r }
 {
-    let n = r.number;
-    // !x is -1 - x
-    if n < 1000 { !((999 + n) as i32) } else { !1998 }
+    -1000 - (r.number.min(999) as i32)
 }
 
 pub fn refusal_code64(r: Refusal) -> i64
     ensures { result ≡ refusal_code r }
 {
-    refusal_code(r) as i64
+    i64::from(refusal_code(r))
 }
 
 // 0 where it was done.
-pub fn done_code(c: Checked) -> i32
-    ensures { result ≡ done_code (checked_told c) }
+pub fn done_code(a: Answer<()>) -> i32
+    ensures { result ≡ done_code a }
 {
-    match c {
-        Checked::Refused(k) => refusal_code(k),
-        Checked::Fine => 0,
+    match a {
+        Ok(()) => 0,
+        Err(k) => refusal_code(k),
+    }
+}
+
+// A count, a zone or a place.
+pub fn number_code(a: Answer<u32>) -> i64
+    ensures { result ≡ number_code a }
+{
+    match a {
+        Ok(n) => i64::from(n),
+        Err(k) => refusal_code64(k),
     }
 }
 
 // What the candidates are: 0 none, 1 all zones, 2 those listed for a cell.
-pub fn kind_code(c: Choice) -> i32
-    ensures { result ≡ kind_code (choice_told c) }
+pub fn kind_code(a: Answer<Choice>) -> i32
+    ensures { result ≡ kind_code a }
 {
-    match c {
-        Choice::None => 0,
-        Choice::All(_) => 1,
-        Choice::Listed(_, _) => 2,
-        Choice::Refused(k) => refusal_code(k),
+    match a {
+        Ok(Choice::None) => 0,
+        Ok(Choice::All(_)) => 1,
+        Ok(Choice::Listed(_, _)) => 2,
+        Err(k) => refusal_code(k),
     }
 }
 
-fn wide(x: u32) -> u64
-    ensures { result ≡ x }
-{
-    x as u64
-}
-
 // How many are listed, times 2 ^ 32, and the place of the first; the number of all zones; else 0.
-pub fn listed_of(c: Choice) -> u64
-    ensures { result ≡ listed_of (choice_told c) }
+pub fn listed_of(a: Answer<Choice>) -> u64
+    ensures { result ≡ listed_of a }
 {
-    match c {
-        Choice::None => 0,
-        Choice::All(n) => wide(n),
-        Choice::Listed(n, place) => wide(n) * 0x1_0000_0000 + wide(place),
-        Choice::Refused(_) => 0,
+    match a {
+        Ok(Choice::None) => 0,
+        Ok(Choice::All(n)) => u64::from(n),
+        Ok(Choice::Listed(n, place)) => u64::from(n) * 0x1_0000_0000 + u64::from(place),
+        Err(_) => 0,
     }
 }
 
 // 1 inside, 0 not.
-pub fn inside_code(v: Verdict) -> i32
-    ensures { result ≡ inside_code (verdict_told v) }
+pub fn inside_code(a: Answer<bool>) -> i32
+    ensures { result ≡ inside_code a }
 {
-    match v {
-        Verdict::Refused(k) => refusal_code(k),
-        Verdict::Is(inside) => { if inside { 1 } else { 0 } }
+    match a {
+        Ok(inside) => i32::from(inside),
+        Err(k) => refusal_code(k),
     }
 }
 
 // A zone, -1 for none.
-pub fn zone_code(f: Found) -> i64
-    ensures { result ≡ zone_code (found_told f) }
+pub fn zone_code(a: Answer<Option<u32>>) -> i64
+    ensures { result ≡ zone_code a }
 {
-    match f {
-        Found::None => -1,
-        Found::Zone(zone) => zone as i64,
-        Found::Refused(k) => refusal_code64(k),
+    match a {
+        Ok(None) => -1,
+        Ok(Some(zone)) => i64::from(zone),
+        Err(k) => refusal_code64(k),
     }
 }
 
 // The full check: 0 accepted, opening's refusal, or -1047.
-pub fn check_code(c: FullCheck) -> i32
-    ensures { result ≡ check_code (check_told c) }
+pub fn check_code(c: Result<(), Fault>) -> i32
+    ensures { result ≡ check_code c }
 {
     match c {
-        FullCheck::Accepted => 0,
-        FullCheck::Refused(k) => refusal_code(k),
-        FullCheck::Broken(k, _) => refusal_code(k),
+        Ok(()) => 0,
+        Err(Fault::Refused(k)) => refusal_code(k),
+        Err(Fault::Broken(k, _)) => refusal_code(k),
     }
 }
 
 // The rule beside -1047, else 0.
-pub fn rule_of(c: FullCheck) -> u32
-    ensures { result ≡ rule_of (check_told c) }
+pub fn rule_of(c: Result<(), Fault>) -> u32
+    ensures { result ≡ rule_of c }
 {
     match c {
-        FullCheck::Accepted => 0,
-        FullCheck::Refused(_) => 0,
-        FullCheck::Broken(_, rule) => rule,
+        Ok(()) => 0,
+        Err(Fault::Refused(_)) => 0,
+        Err(Fault::Broken(_, rule)) => rule,
     }
 }
 
@@ -120,41 +119,37 @@ pub fn rule_of(c: FullCheck) -> u32
 fn whole_code(n: u64) -> i64
     ensures { result ≡ whole_code n }
 {
-    if n < 0x8000_0000_0000_0000 {
-        n as i64
-    } else {
-        0x7fff_ffff_ffff_ffff
-    }
+    n.min(0x7fff_ffff_ffff_ffff) as i64
 }
 
 // How many numbers the stripes of a file take, or were written.
-pub fn needed_code(a: Needed) -> i64
-    ensures { result ≡ needed_code (needed_told a) }
+pub fn needed_code(a: Answer<u64>) -> i64
+    ensures { result ≡ needed_code a }
 {
     match a {
-        Needed::Numbers(n) => whole_code(n),
-        Needed::Refused(k) => refusal_code64(k),
+        Ok(n) => whole_code(n),
+        Err(k) => refusal_code64(k),
     }
 }
 
 // A map: how many bytes it has, a refusal, or -1047.
-pub fn drawing_code(d: Drawing) -> i64
-    ensures { result ≡ drawn_code (drawing_told d) }
+pub fn drawing_code(d: Result<usize, Fault>) -> i64
+    ensures { result ≡ drawn_code d }
 {
     match d {
-        Drawing::Drawn(n) => whole_code(n as u64),
-        Drawing::Refused(k) => refusal_code64(k),
-        Drawing::Broken(k, _) => refusal_code64(k),
+        Ok(n) => whole_code(n as u64),
+        Err(Fault::Refused(k)) => refusal_code64(k),
+        Err(Fault::Broken(k, _)) => refusal_code64(k),
     }
 }
 
 // What a point sees of a segment: 2 it is on it, 1 the segment counts, 0 neither.
 pub fn seen_code(s: Seen) -> i32
-    ensures { result ≡ seen_code (seen_told s) }
+    ensures { result ≡ seen_code s }
 {
     match s {
         Seen::On => 2,
-        Seen::Off(counts) => { if counts { 1 } else { 0 } }
+        Seen::Off(counts) => i32::from(counts),
     }
 }
 
@@ -164,48 +159,15 @@ pub fn seen_code(s: Seen) -> i32
 pub fn place_code(r: Refusal) -> i64
     ensures { result ≡ place_code r }
 {
-    let p = r.place;
-    if p < 0x8000_0000_0000_0000 {
-        p as i64
-    } else {
-        -1
-    }
+    i64::try_from(r.place).unwrap_or(-1)
 }
 
 // The same of an answer, -1 also where it is no refusal.
-pub fn found_place(f: Found) -> i64
-    ensures { result ≡ place_of (found_told f) }
+pub fn place_of<T: Copy>(a: Answer<T>) -> i64
+    ensures { result ≡ place_of a }
 {
-    match f {
-        Found::None => -1,
-        Found::Zone(_) => -1,
-        Found::Refused(k) => place_code(k),
-    }
-}
-
-pub fn verdict_place(v: Verdict) -> i64
-    ensures { result ≡ place_of (verdict_told v) }
-{
-    match v {
-        Verdict::Is(_) => -1,
-        Verdict::Refused(k) => place_code(k),
-    }
-}
-
-pub fn listing_place(l: Listing) -> i64
-    ensures { result ≡ place_of (listing_told l) }
-{
-    match l {
-        Listing::Zones(_) => -1,
-        Listing::Refused(k) => place_code(k),
-    }
-}
-
-pub fn checked_place(c: Checked) -> i64
-    ensures { result ≡ place_of (checked_told c) }
-{
-    match c {
-        Checked::Fine => -1,
-        Checked::Refused(k) => place_code(k),
+    match a {
+        Ok(_) => -1,
+        Err(k) => place_code(k),
     }
 }

@@ -6,6 +6,5 @@ pub mod Pattern
 pub mod DeterminedRay
 -- chunks
 pub mod Skips
-pub mod Copied
 pub mod DeterminedChunk
 pub mod NextRead

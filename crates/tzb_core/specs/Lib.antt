@@ -1,3 +1,2 @@
 -- What the lower crate answers: numbers, deltas, the ray test, chunks.
-pub mod Reading
 pub mod Steps

@@ -1,31 +1,10 @@
 -- Nothing here need be believed: the code's own steps cite it, and no public promise does.
 -- Assumes nothing.
-use Rattle.std.specs.Prelude.{◌≡◌, ℕ, ◌≤◌, Bool, true, ◌&&◌, ◌||◌, ℤ, int_lt, unsigned_abs, Float}
-use Rattle.answer.specs.Answers.{Answer, ok, refused, no}
-use Rattle.tzb_core.specs.declared.varint.Digits.{Digits}
-use Rattle.tzb_core.specs.declared.varint.Digits.TheVariants as D
+use Rattle.std.specs.Prelude.{◌≡◌, ◌≤◌, Bool, true, ◌&&◌, ◌||◌, ℤ, int_lt, unsigned_abs, Float}
 use Rattle.plane.specs.declared.I32Point.{I32Point}
-use Rattle.tzb_core.specs.declared.chunk.Pair.{Pair}
-use Rattle.tzb_core.specs.declared.chunk.Pair.TheVariants as P
-use Rattle.tzb_core.specs.declared.chunk.Moved.{Moved}
-use Rattle.tzb_core.specs.declared.chunk.Moved.TheVariants as M
 use Rattle.std.specs.Float.Ieee.{lt}
 use Rattle.boxes.specs.Box.{float}
 use Rattle.tzb_core.specs.declared.chunk.Band.{Band}
-
--- ---- numbers
-abbrev pub digits_told : Digits → Answer (ℕ × ℕ)
-digits_told (D.Of n q) = ok (n, q.at)
-digits_told (D.Refused n) = no n
-
--- ---- points
-abbrev pub pair_told : Pair → Answer (I32Point × ℕ × ℕ)
-pair_told (P.Of q j n) = ok (q, j.at, n.at)
-pair_told (P.Refused r) = refused r
-
-abbrev pub moved : Moved → Answer I32Point
-moved (M.To q) = ok q
-moved (M.Refused r) = refused r
 
 -- of the heights of the domain, one below `lo` is below y, and one above `hi` is above it
 abbrev pub Around : Band → Float → Type 0

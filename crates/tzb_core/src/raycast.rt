@@ -1,7 +1,6 @@
 // What a point sees of a segment, in floats: raycast.rs, with `next_up` written out, and `endpoint_parity` and `to_point` of reader.rs.
 ghost use Rattle.std.specs.Prelude.{◌≡◌, true};
 ghost use Rattle.rounding.specs.Upward.{step_of, next_up};
-ghost use Rattle.plane.specs.Sight.{seen_told};
 ghost use Rattle.plane.specs.Segment.{seg};
 ghost use Rattle.plane.specs.Domain.{in_domain};
 ghost use Rattle.rays.specs.Ray.{away, between, level, touches, nudged, missed, steep, crosses, ray_at, ray_of, above_of, parity_of};
@@ -13,14 +12,10 @@ use plane::{I32Point, Point, Seen};
 fn step(b: u64) -> u64
     ensures { result ≡ step_of b }
 {
-    if b == 0 {
-        1
-    } else if b == 0x8000_0000_0000_0000 {
-        1
-    } else if b < 0x8000_0000_0000_0000 {
-        b + 1
-    } else {
-        b - 1
+    match b {
+        0 | 0x8000_0000_0000_0000 => 1,
+        1..=0x7fff_ffff_ffff_ffff => b + 1,
+        _ => b - 1,
     }
 }
 
@@ -64,23 +59,17 @@ fn is_between(u: f64, v: f64, w: f64) -> bool
 fn is_level(ay: f64, by: f64, y: f64, ax: f64, bx: f64, x: f64) -> bool
     ensures { result ≡ level ay by y ax bx x }
 {
-    if (ay == by) & (y == by) {
-        return is_between(ax, bx, x);
-    }
-    false
+    (ay == by) & (y == by) && is_between(ax, bx, x)
 }
 
 // The point lies on the segment, whose ends differ.
+#[tactic(auto, unfolding(rays::specs::Ray::touches))]
 fn is_touching(ax: f64, ay: f64, bx: f64, by: f64, x: f64, y: f64) -> bool
     ensures { result ≡ touches ax ay bx by x y }
 {
-    if is_level(ay, by, y, ax, bx, x) {
-        return true;
-    }
-    if is_level(ax, bx, x, ay, by, y) {
-        return true;
-    }
-    (x - ax) / (bx - ax) == (y - ay) / (by - ay)
+    is_level(ay, by, y, ax, bx, x)
+        || is_level(ax, bx, x, ay, by, y)
+        || (x - ax) / (bx - ax) == (y - ay) / (by - ay)
 }
 
 // Off any vertex, so that a vertex which two segments share counts once.
@@ -116,6 +105,7 @@ fn is_steep(ax: f64, ay: f64, bx: f64, by: f64, x: f64, y: f64) -> bool
 }
 
 // The segment counts, for the nudged y.
+#[tactic(auto, unfolding(rays::specs::Ray::crosses))]
 fn is_crossing(ax: f64, ay: f64, bx: f64, by: f64, x: f64, y: f64) -> bool
     ensures { result ≡ crosses ax ay bx by x y }
 {
@@ -140,9 +130,11 @@ fn is_crossing(ax: f64, ay: f64, bx: f64, by: f64, x: f64, y: f64) -> bool
     is_steep(ax, ay, bx, by, x, y)
 }
 
+// kept: six floats, as the original has them (raycast.rs); the public function takes points.
 // What the point sees of the segment.
+#[tactic(auto, unfolding(rays::specs::Ray::ray_at))]
 fn ray_at(ax: f64, ay: f64, bx: f64, by: f64, x: f64, y: f64) -> Seen
-    ensures { seen_told result ≡ ray_at ax ay bx by x y }
+    ensures { result ≡ ray_at ax ay bx by x y }
 {
     if is_away(ay, by, y) {
         return Seen::Off(false);
@@ -161,8 +153,8 @@ fn ray_at(ax: f64, ay: f64, bx: f64, by: f64, x: f64, y: f64) -> Seen
 
 // What p sees of the segment from a to b. At a point of whole numbers in the domain it is what exact geometry says.
 pub fn raycast_seg(a: I32Point, b: I32Point, p: Point) -> Seen
-    ensures result_value { seen_told result ≡ ray_of a b p }
-    ensures exact { (q : I32Point) → p ≡ point_of q → in_domain a ≡ true → in_domain b ≡ true → in_domain q ≡ true → seen_told result ≡ seg q a b }
+    ensures result_value { result ≡ ray_of a b p }
+    ensures exact { (q : I32Point) → p ≡ point_of q → in_domain a ≡ true → in_domain b ≡ true → in_domain q ≡ true → result ≡ seg q a b }
 {
     let s = to_point(a);
     let t = to_point(b);
@@ -170,6 +162,7 @@ pub fn raycast_seg(a: I32Point, b: I32Point, p: Point) -> Seen
 }
 
 // q is above p.
+#[tactic(auto, unfolding(rays::specs::Ray::above_of))]
 fn is_above(q: I32Point, p: Point) -> bool
     ensures { result ≡ above_of p q }
 {
@@ -178,12 +171,14 @@ fn is_above(q: I32Point, p: Point) -> bool
 }
 
 // One of the two ends is above p, and the other is not.
+#[tactic(auto, unfolding(rays::specs::Ray::parity_of))]
 pub fn endpoint_parity(a: I32Point, b: I32Point, p: Point) -> bool
     ensures { result ≡ parity_of p a b }
 {
     is_above(a, p) != is_above(b, p)
 }
 
+// kept: the original's function, by its name (reader.rs); From would have to stand in plane.
 pub fn to_point(q: I32Point) -> Point
     ensures { result ≡ point_of q }
 {

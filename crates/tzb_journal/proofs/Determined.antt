@@ -2,36 +2,34 @@
 -- Assumes nothing.
 use mathlib.Core.Path.{sym, ◌∙◌}
 use Rattle.basics.specs.Determined.{Determined, DeterminedMemory}
-use Rattle.answer.proofs.AnswersLaws.{checked_one}
-use Rattle.entry_bytes.proofs.Determined.{one_entry_read}
 use Rattle.tzb_journal.proofs.note.Reads as note-reads
 use Rattle.tzb_journal.proofs.ask.Reads as ask-reads
 use Rattle.tzb_journal.proofs.write.Reads as write-reads
 use Rattle.tzb_journal.proofs.read.Reads as read-reads
 
 pub note : Determined note-reads.Learnt
-note κ a r r' e e' p q = checked_one r r' (p.0 ∙ sym q.0)
+note κ a r r' e e' p q = p.0 ∙ sym q.0
 
 -- the lent bytes at exit
 pub note_memory : DeterminedMemory note-reads.Learnt (λ κ e. e.1.1.1.1.0.now)
 note_memory κ a r r' e e' p q = p.1 ∙ sym q.1
 
 pub ask : Determined ask-reads.Learnt
-ask κ a r r' e e' p q = checked_one r r' (p.0 ∙ sym q.0)
+ask κ a r r' e e' p q = p.0 ∙ sym q.0
 
 -- the lent bytes at exit
 pub ask_memory : DeterminedMemory ask-reads.Learnt (λ κ e. e.1.1.1.1.0.now)
 ask_memory κ a r r' e e' p q = p.1 ∙ sym q.1
 
 pub write : Determined write-reads.Learnt
-write κ a r r' e e' p q = checked_one r r' (p.0 ∙ sym q.0)
+write κ a r r' e e' p q = p.0 ∙ sym q.0
 
 -- the lent bytes at exit
 pub write_memory : DeterminedMemory write-reads.Learnt (λ κ e. e.1.1.1.1.0.now)
 write_memory κ a r r' e e' p q = p.1 ∙ sym q.1
 
 pub read : Determined read-reads.Learnt
-read κ a r r' e e' p q = one_entry_read r r' _ p.0 q.0
+read κ a r r' e e' p q = p.0 ∙ sym q.0
 
 -- the numbers lent for the position at exit, and the places
 pub read_memory : DeterminedMemory read-reads.Learnt (λ κ e. e.1.1.0.now)

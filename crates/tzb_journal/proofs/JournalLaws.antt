@@ -6,15 +6,15 @@ use mathlib.Core.Path.{◌≡◌, refl, sym, ap, ◌∙◌}
 use mathlib.Core.Bool.{Bool, true, false, ◌&&◌}
 use mathlib.Core.List.{List, [], ◌∷◌, ◌++◌}
 use lib.IntN.{ℤ}
-use lib.ListN.{length, take, drop, set, length-append}
+use lib.ListN.{length, take, drop, length-append}
 use lib.Seq.{take_at, length-take-le}
 use Rattle.basics.specs.Picked.{and_yes, and_no}
 use Rattle.plane.specs.declared.I32Point.{I32Point}
 use Rattle.answer.specs.declared.Refusal.{Refusal}
 use Rattle.answer.specs.Refusals.{refusal}
-use Rattle.answer.specs.Answers.{Answer, ok, no, refused, need, ◌then◌, outcome, how_many, left}
-use Rattle.answer.specs.Checks.{at_most, failed}
-use Rattle.answer.proofs.CheckLaws.{le_at, gt_at, same_eq}
+use Rattle.answer.specs.Answers.{Answer, ok, no, refused, need, ◌then◌, Check, fine, outcome, how_many, left}
+use Rattle.answer.specs.Checks.{at_most, failed, claim}
+use Rattle.answer.proofs.CheckLaws.{le_at, gt_at, same_eq, fine_claim}
 use Rattle.answer.proofs.AnswersLaws.{zero_one, then_ok, then_no, then_inv, ok_inv, need_met, need_not, left_no, left_is}
 use Rattle.opened.specs.declared.Opened.{Opened}
 use Rattle.entries.specs.Entry.{Entry, entry}
@@ -52,20 +52,18 @@ module _ (places n : ℕ) (o : Opened) (s : List ℕ) (q : I32Point) (en : n ≡
     zones_are : take k held ≡ told.0
     zones_are = ap (take k) stands ∙ take_at told.0 (drop (length told.0) before) k (sym told.2)
 
-    -- the first m of the places, where m is how many they are
-    module _ (m : ℕ) (em : m ≡ k) where
-      pub note_held : m ≤ length held
-      note_held = omega (arith, told.2, ap length stands, length-append told.0 (drop (length told.0) before))
+    pub note_held : k ≤ length held
+    note_held = omega (arith, told.2, ap length stands, length-append told.0 (drop (length told.0) before))
 
-      pub note_few : length (take m held) ≤ places
-      note_few = omega (arith, told.2, list_fits o s q n told.0 told.1, length-take-le m held note_held)
+    pub note_few : length (take k held) ≤ places
+    note_few = omega (arith, told.2, list_fits o s q n told.0 told.1, length-take-le k held note_held)
 
-      pub note_is : noted q (fitting (take m held)) ≡ entry_for places (ok o) s q
-      unfolding entry_for answer_of
-      note_is =
-          ap (λ (j : ℕ). noted q (fitting (take j held))) em ∙ ap (λ (l : List ℕ). noted q (fitting l)) zones_are
-          ∙ ap (noted q) (then_ok (whole_list o s q n) fitting told.0 told.1)
-          ∙ ap (λ (j : ℕ). noted q (whole_list o s q j then fitting)) en
+    pub note_is : noted q (fitting (take k held)) ≡ entry_for places (ok o) s q
+    unfolding entry_for answer_of
+    note_is =
+        ap (λ (l : List ℕ). noted q (fitting l)) zones_are
+        ∙ ap (noted q) (then_ok (whole_list o s q n) fitting told.0 told.1)
+        ∙ ap (λ (j : ℕ). noted q (whole_list o s q j then fitting)) en
 
 -- zones that fit their places, and others
 module _ (q : I32Point) (zones : List ℕ) where
@@ -90,9 +88,24 @@ module _ (places : ℕ) (s : List ℕ) (q : I32Point) (x : Answer Opened) where
 pub laid_as : (places : ℕ) (room : List ℕ) (e e' : Entry) → e ≡ e' → laid_of places e room ≡ laid_of places e' room
 laid_as places room e e' h = ap (λ (x : Entry). laid_of places x room) h
 
--- ---- a number of places that is offered fits a byte, as the count does
-pub offered_fits : (places : ℕ) → offered places ≡ true → places < 256
-offered_fits places g = omega (arith, same_eq places 3 g)
+-- ---- a number of places that is offered, where b is the test of it, fits a byte, as the count does
+module _ (places : ℕ) (b : Bool) (t : b ≡ offered places) where
+  pub offered_yes : fine ≡ claim 50 b → offered places ≡ true
+  offered_yes e = sym t ∙ fine_claim 50 b (sym e)
+
+  pub offered_fits : fine ≡ claim 50 b → places < 256
+  offered_fits e = omega (arith, same_eq places 3 (offered_yes e))
+
+  pub offered_no : (r : Refusal) → ◌≡◌ {A = Check} (refused r) (claim 50 b) → (offered places ≡ false) × (r ≡ refusal 50)
+  unfolding claim
+  offered_no r e = go b t e
+    where
+      go : (c : Bool) → c ≡ offered places → ◌≡◌ {A = Check} (refused r) (claim 50 c) → (offered places ≡ false) × (r ≡ refusal 50)
+      go true h e = let z : ◌≡◌ {A = ℕ} 0 1 = cc in absurd (zero_one z)
+      go false h e = (sym h, inside e)
+        where
+          inside : ◌≡◌ {A = Check} (refused r) (refused (refusal 50)) → r ≡ refusal 50
+          inside e = cc
 
 -- ---- the question
 module _ (b s : List ℕ) (places : ℕ) (q : I32Point) (room : List ℕ) where
@@ -163,18 +176,12 @@ module _ (places : ℕ) (s : List ℕ) where
           go (refused k) = refl
 
 -- what is left in the numbers lent for the position
-two_set : {A : Type 0} (l : List A) (x y : A) → 2 ≤ length l → set (set l 0 x) 1 y ≡ x ∷ y ∷ drop 2 l
-two_set [] x y h = absurd (omega arith)
-two_set (a ∷ []) x y h = absurd (omega arith)
-two_set (a ∷ b ∷ l) x y h = refl
-
 module _ (x : Answer Entry) (lent : List ℤ) where
-  pub position_set : (q : I32Point) (c k : ℕ) → ok (q, c, k) ≡ (x then λ e. ok (head_of e)) → 2 ≤ length lent → set (set lent 0 q.x) 1 q.y ≡ left lent (x then λ e. ok (position_of e))
-  position_set q c k h room =
+  pub position_set : (q : I32Point) (c k : ℕ) → ok (q, c, k) ≡ (x then λ e. ok (head_of e)) → q.x ∷ q.y ∷ drop 2 lent ≡ left lent (x then λ e. ok (position_of e))
+  position_set q c k h =
       let t = then_inv x (λ e. ok (head_of e)) (q, c, k) h in
       let at : q ≡ t.0.at = ap (λ (a : I32Point × ℕ × ℕ). a.0) (ok_inv _ _ t.2) in
-      two_set lent q.x q.y room
-      ∙ ap (λ (p : I32Point). p.x ∷ p.y ∷ drop 2 lent) at
+      ap (λ (p : I32Point). p.x ∷ p.y ∷ drop 2 lent) at
       ∙ ap (λ (y : Answer Entry). left lent (y then λ e. ok (position_of e))) t.1
 
   pub position_kept : (k : Refusal) → refused k ≡ (x then λ e. ok (head_of e)) → lent ≡ left lent (x then λ e. ok (position_of e))

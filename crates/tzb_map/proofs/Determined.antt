@@ -4,13 +4,12 @@ use mathlib.Core.Path.{sym, ◌∙◌}
 use Rattle.basics.specs.Determined.{Determined, DeterminedMemory}
 use Rattle.tzb_map.proofs.map_length.Reads as map-length-reads
 use Rattle.tzb_map.proofs.map.Reads as map-reads
-use Rattle.replies.proofs.One.{one_drawing}
 
 pub map_length : Determined map-length-reads.Learnt
-map_length κ a r r' e e' p q = one_drawing r r' _ p q
+map_length κ a r r' e e' p q = p ∙ sym q
 
 pub map : Determined map-reads.Learnt
-map κ a r r' e e' p q = one_drawing r r' _ p.0 q.0
+map κ a r r' e e' p q = p.0 ∙ sym q.0
 
 -- the lent bytes at exit
 pub map_memory : DeterminedMemory map-reads.Learnt (λ κ e. e.1.1.0.now)

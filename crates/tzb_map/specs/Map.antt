@@ -3,6 +3,7 @@
 -- Assumes nothing.
 use Rattle.std.specs.Prelude.{ℕ, List, length}
 use Rattle.answer.specs.Answers.{Answer, ok, refused, ◌then◌}
+use Rattle.opened.specs.declared.Opened.{Opened}
 use Rattle.replies.specs.Replies.{Outcome, accepted, refused_by, broken_at, Drawn, drawn, undrawn, unsound}
 use Rattle.reader_map.specs.Map.{zone_text, in_room}
 use Rattle.tzb.specs.Opening.{open_of}
@@ -22,6 +23,10 @@ map_of file zone = upheld (full_check_of file) (open_of file then λ o. zone_tex
 -- the same where so many bytes are lent: then 46
 unfoldable pub map_in : List ℕ → ℕ → ℕ → Drawn (List ℕ)
 map_in file zone room = upheld (full_check_of file) (open_of file then λ o. in_room room (zone_text o file zone))
+
+-- the file opened, where the full check accepts it
+unfoldable pub accepted_of : List ℕ → Drawn Opened
+accepted_of file = upheld (full_check_of file) (open_of file)
 
 -- how many bytes it has
 abbrev pub how_long : Drawn (List ℕ) → Drawn ℕ

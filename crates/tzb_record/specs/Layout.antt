@@ -5,14 +5,12 @@ use Rattle.std.specs.Int.{w16}
 use Rattle.std.proofs.Common.{to_z, of_z, SFits}
 use Rattle.fields.specs.Row as Row
 use Rattle.fields.specs.Row.{row_wide, row_bytes, row_in}
-use Rattle.answer.specs.Answers.{Answer, ok, refused, need}
+use Rattle.answer.specs.Answers.{Answer, ok, need}
 use Rattle.answer.specs.Checks.{at_most, same}
 use Rattle.opened.specs.declared.Section.{Section}
 use Rattle.opened.specs.declared.Directory.{Directory}
 use Rattle.opened.specs.declared.Grid.{Grid}
 use Rattle.opened.specs.declared.Opened.{Opened}
-use Rattle.tzb_record.specs.declared.RecordRead.{RecordRead}
-use Rattle.tzb_record.specs.declared.RecordRead.TheVariants as R
 
 -- ---- the row: its widths, and how many bytes they are
 abbrev pub widths : List ℕ
@@ -98,8 +96,3 @@ pub record Held (o : Opened) : Type 0 where
   pub numbers : Row.Held widths (numbers_of o)
   pub lng : SFits w16 o.grid.lng
   pub lat : SFits w16 o.grid.lat
-
--- what the enum of the code says
-abbrev pub record_told : RecordRead → Answer Opened
-record_told (R.Is o) = ok o
-record_told (R.Refused k) = refused k

@@ -7,5 +7,5 @@ use Rattle.answer.proofs.claim.Goals as goal
 pub returns-then-holds : goal.returns-then-holds
 returns-then-holds c = sym (yes _ _ c.if-holds.true)
 
-pub returns : goal.returns
-returns c = c.fail.ensures ∙ sym (nay _ _ c.if-holds.false)
+pub returns-else-holds : goal.returns-else-holds
+returns-else-holds c = c.fail.ensures ∙ sym (nay _ _ c.if-holds.false)

@@ -1,11 +1,6 @@
-use mathlib.Core.Path.{◌≡◌}
-use Prim.Native.Nat.{◌-◌}
-use lib.ListN.{length}
-use Rattle.crc.specs.Steps.{First, Power}
+use Prim.Native.Nat.{◌^◌}
+use Rattle.crc.specs.Steps.{First}
 use Rattle.crc.proofs.first_row.Given as goal
 
-abbrev pub invariant-loop-p : goal.invariant-loop-p
-invariant-loop-p l = Power l.p × (length l.t ≡ length l.initial.t) × First l.t l.p
-
-abbrev pub decreases-loop-p : goal.decreases-loop-p
-decreases-loop-p l = 256 - l.p
+abbrev pub invariant-loop-k : goal.invariant-loop-k
+invariant-loop-k l = First l.t (2 ^ l.k)

@@ -1,9 +1,5 @@
-use Prim.Native.Nat.{◌-◌, ◌≤◌}
 use Rattle.entries.proofs.PlacesLaws.{StoredTo}
 use Rattle.entry_bytes.proofs.lay_places.Given as goal
 
 abbrev pub invariant-loop-i : goal.invariant-loop-i
-invariant-loop-i l = (l.i ≤ l.places) × StoredTo l.places l.zones l.i l.initial.out l.out
-
-abbrev pub decreases-loop-i : goal.decreases-loop-i
-decreases-loop-i l = l.places - l.i
+invariant-loop-i l = StoredTo l.places l.zones l.i l.initial.out l.out

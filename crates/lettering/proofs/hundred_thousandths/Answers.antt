@@ -14,13 +14,13 @@ returns-then-out-at c = (ap (λ (k : ℕ). c.args.at + k) c.long.ensures.0, sym 
 pub put-first-requires : goal.put-first-requires
 put-first-requires c = omega (arith, digits_most 4 (c.args.n / 100_000) (omega arith))
 
-pub five_places-requires : goal.five_places-requires
-five_places-requires c = omega (arith, digits_most 4 (c.args.n / 100_000) (omega arith))
+pub places-requires : goal.places-requires
+places-requires c = (omega arith, omega (arith, digits_most 4 (c.args.n / 100_000) (omega arith)))
 
 pub returns : goal.returns
 unfolding hundred_thousandths
 returns c =
     let w = wrote c.digits-point.ensures.0 c.digits-point.ensures.1
     behind wrote c.put-first.ensures.0 c.put-first.ensures.1
-    behind wrote (places_placed 5 _ _ _ c.five_places.ensures.0) c.five_places.ensures.1 in
+    behind wrote (places_placed 5 _ _ _ c.places.ensures.0) c.places.ensures.1 in
     (w.next, w.is)

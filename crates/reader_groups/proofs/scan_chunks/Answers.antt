@@ -1,35 +1,36 @@
--- `reader_groups::scan_chunks` meets its contract: the parity so far, added to what is left, is the whole, and what is known is what reading would give.
+-- `scan_chunks` meets its contract: the parity so far, added to what is left, is the whole, and what is known is what reading would give.
 -- Assumes nothing.
-use mathlib.Core.Path.{sym, ap, ◌∙◌}
+use mathlib.Core.Path.{ap, ◌∙◌}
+use Rattle.std.proofs.Common.{rules}
 use Rattle.answer.specs.Walks.{add}
-use Rattle.reader_groups.proofs.Remembering.{hands_known}
-use native.Mathlib.Omega.{arith}
 use Rattle.answer.proofs.WalksLaws.{add_none, breaks, hits, keeps}
+use Rattle.reader_groups.proofs.Remembering.{passed_arm, hands_off}
 use Rattle.reader_groups.proofs.GroupsLaws.{chunks_last, chunks_no, chunks_on, chunks_off}
-use Rattle.reader_groups.specs.Steps.{passed}
 use Rattle.reader_groups.proofs.scan_chunks.Goals as goal
 
-pub loop-left-init : goal.loop-left-init
-loop-left-init c = (add_none _, omega arith, tt)
+pub loop-init : goal.loop-init
+loop-init c = (add_none _, c.requires)
 
-pub pass_at-t-requires : goal.pass_at-t-requires
-pass_at-t-requires c = record { i_bound = omega arith; kept = c.loop-left.invariant.2 }
+pub pass_at-requires : goal.pass_at-requires
+pass_at-requires c = c.loop.invariant.1
 
-pub returns-in-Refused : goal.returns-in-Refused
-returns-in-Refused c = breaks _ _ _ c.loop-left.invariant.0 _ (chunks_no _ _ _ _ _ _ _ c.loop-left-test.true _ (sym (ap passed c.in-Refused.is) ∙ c.pass_at-t.ensures.0))
+pub returns-in_err-pass_at : goal.returns-in_err-pass_at
+returns-in_err-pass_at c =
+    let p = breaks _ _ _ c.loop.invariant.0 _ (chunks_no _ _ _ _ _ _ _ _ c.loop-test.true _ c.in_err-pass_at.ensures.0) in
+    search rules
 
 pub returns-in-On : goal.returns-in-On
-returns-in-On c = hits _ _ _ c.loop-left.invariant.0 (chunks_on _ _ _ _ _ _ _ c.loop-left-test.true (sym (ap passed c.in-On.is) ∙ c.pass_at-t.ensures.0))
+returns-in-On c = hits _ _ _ c.loop.invariant.0 (chunks_on _ _ _ _ _ _ _ _ c.loop-test.true (passed_arm _ _ _ c.in-On.is c.in_ok-pass_at.ensures.0))
 
-pub loop-left-preserved : goal.loop-left-preserved
-loop-left-preserved c = (
-  keeps _ _ _ c.loop-left.invariant.0 _ _ _ c.plus-odd.ensures (chunks_off _ _ _ _ _ _ _ c.loop-left-test.true _ _ (sym (ap passed c.in-Off.is) ∙ c.pass_at-t.ensures.0)),
-  omega arith,
-  hands_known _ _ _ _ _ _ _ c.in-Off.is c.pass_at-t.ensures.1,
-)
+pub loop-preserved : goal.loop-preserved
+loop-preserved c =
+    let h = hands_off _ _ _ _ _ _ c.in-Off.is c.in_ok-pass_at.ensures.1 in (
+      keeps _ _ _ c.loop.invariant.0 _ _ _ c.plus-odd.ensures (chunks_off _ _ _ _ _ _ _ _ c.loop-test.true _ _ _ (passed_arm _ _ _ c.in-Off.is c.in_ok-pass_at.ensures.0) h.0),
+      rw h.0 h.1,
+    )
 
 pub last_at-requires : goal.last_at-requires
-last_at-requires c = c.loop-left.invariant.2
+last_at-requires c = c.loop.invariant.1
 
 pub returns : goal.returns
-returns c = c.after.ensures ∙ ap (add c.loop-left.odd) (c.last_at.ensures ∙ chunks_last _ _ _ _ _ _ _ (omega arith)) ∙ c.loop-left.invariant.0
+returns c = c.after.ensures ∙ ap (add c.loop.odd) (c.last_at.ensures ∙ chunks_last _ _ _ _ _ _ _ _ c.loop-test.false) ∙ c.loop.invariant.0

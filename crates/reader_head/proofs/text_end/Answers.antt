@@ -1,21 +1,11 @@
--- `reader_head::text_end` meets its contract.
+-- `text_end` meets its contract: the first zero of the part, or its end.
 -- Assumes nothing.
-use mathlib.Core.Path.{refl}
-use Rattle.answer.proofs.CheckLaws.{seek_yes, seek_no, seek_end, eq_same, ne_same}
-use Rattle.reader_head.specs.Head.{is_zero}
-use native.Mathlib.Omega.{arith}
+use mathlib.Core.Path.{sym, ◌∙◌}
+use Rattle.reader_head.proofs.HeadLaws.{zero_found, zero_missed}
 use Rattle.reader_head.proofs.text_end.Goals as goal
 
-pub loop-i-init : goal.loop-i-init
-loop-i-init c = (omega arith, omega arith, omega arith, refl)
+pub returns-in-Some : goal.returns-in-Some
+returns-in-Some c = zero_found _ _ _ c.requires.0 c.requires.1 _ (sym c.in-Some.is ∙ c.first_zero.ensures)
 
-pub returns-then-s-i-eq0 : goal.returns-then-s-i-eq0
-unfolding is_zero
-returns-then-s-i-eq0 c = (seek_yes _ _ _ _ c.loop-i.invariant.3 (omega arith) (eq_same _ _ c.if-s-i-eq0.true), omega arith, omega arith)
-
-pub loop-i-preserved : goal.loop-i-preserved
-unfolding is_zero
-loop-i-preserved c = (omega arith, omega arith, omega arith, seek_no _ _ _ _ c.loop-i.invariant.3 (omega arith) (ne_same _ _ c.if-s-i-eq0.false))
-
-pub returns : goal.returns
-returns c = (seek_end _ _ _ _ c.loop-i.invariant.3 (omega arith), omega arith, omega arith)
+pub returns-in-None : goal.returns-in-None
+returns-in-None c = zero_missed _ _ _ c.requires.0 c.requires.1 (sym c.in-None.is ∙ c.first_zero.ensures)

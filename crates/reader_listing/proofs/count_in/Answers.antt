@@ -1,22 +1,21 @@
 -- `count_in` meets its contract: what is refused before the places are counted, then 46, or how many.
 -- Assumes nothing.
-use mathlib.Core.Path.{sym, ap, ◌∙◌}
-use Rattle.answer.specs.Answers.{refused, how_many}
-use Rattle.replies.specs.Replies.{listing_told}
-use Rattle.reader_listing.proofs.Placed.{list_no, list_short, list_count}
+use mathlib.Core.Path.{ap}
+use Rattle.std.proofs.lemmas.Result.{err_from_is_err_and}
+use Rattle.answer.specs.Answers.{how_many}
+use Rattle.reader_listing.proofs.Placed.{claim_yes, claim_no, list_no, list_short, list_count}
 use Rattle.reader_listing.proofs.count_in.Goals as goal
 
-pub gather-t-requires : goal.gather-t-requires
-gather-t-requires c = c.requires
+pub returns-in_err-k : goal.returns-in_err-k
+returns-in_err-k c =
+    let p = err_from_is_err_and c.from_residual.result c.from_residual.ensures.1 in
+    rw (p.1, p.2) (ap how_many (list_no _ _ _ _ _ _ _ c.in_err-k.ensures.result_value))
 
-pub returns-then-places-wide : goal.returns-then-places-wide
-returns-then-places-wide c =
-    ap refused c.refuse.ensures ∙ list_short _ _ _ _ _ _ (sym (ap listing_told c.in-Zones.is) ∙ c.gather-t.ensures.result_value) _ _ c.wide.ensures.0 c.if-places-wide.true
+pub returns-in_err-claim : goal.returns-in_err-claim
+returns-in_err-claim c =
+    let p = err_from_is_err_and c.from_residual-in_err-claim.result c.from_residual-in_err-claim.ensures.1 in
+    let h = claim_no _ _ _ _ c.in_err-claim.ensures in
+    rw (p.1, p.2, h.1) (list_short _ _ _ _ _ _ c.in_ok-k.ensures.result_value _ h.0)
 
-pub returns-else-places-wide : goal.returns-else-places-wide
-returns-else-places-wide c =
-    list_count _ _ _ _ _ _ (sym (ap listing_told c.in-Zones.is) ∙ c.gather-t.ensures.result_value) _ _ c.wide.ensures.0 c.if-places-wide.false
-
-pub returns-in-Refused : goal.returns-in-Refused
-returns-in-Refused c =
-    ap how_many (list_no _ _ _ _ _ _ _ (sym (ap listing_told c.in-Refused.is) ∙ c.gather-t.ensures.result_value))
+pub returns : goal.returns
+returns c = list_count _ _ _ _ _ _ c.in_ok-k.ensures.result_value _ (claim_yes _ _ _ c.in_ok-claim.ensures)

@@ -1,35 +1,17 @@
--- `count_into_by` meets its contract: no candidate, all zones, listed candidates, a refusal.
+-- `count_into_by` meets its contract: a refusal, or how many zones of the candidates.
 -- Assumes nothing.
-use mathlib.Core.Path.{sym, ap, ◌∙◌}
-use Rattle.reader_lookup.proofs.Listed.{listed_small}
+use mathlib.Core.Path.{ap, ◌∙◌}
+use Rattle.std.proofs.lemmas.Result.{err_from_is_err_and}
 use Rattle.reader_ways.specs.Ways.{way_of}
-use native.Mathlib.Omega.{arith}
-use Rattle.replies.specs.Replies.{choice_told}
 use Rattle.answer.specs.Answers.{how_many}
-use Rattle.reader_listing.proofs.AllLaws.{into_no, into_none, into_all, into_listed}
+use Rattle.reader_listing.proofs.AllLaws.{into_no, into}
 use Rattle.reader_listing.proofs.count_into_by.Goals as goal
 
-pub count_in-requires-in-Listed : goal.count_in-requires-in-Listed
-count_in-requires-in-Listed c =
-    let small = listed_small _ _ _ (λ i. (c.shared_slice_known-2-1.given i).fits) _ _ _ (sym (ap choice_told c.in-Listed.is) ∙ c.candidates-c.ensures) in
-    omega (arith, small)
+pub returns-in_err-c : goal.returns-in_err-c
+returns-in_err-c c =
+    let p = err_from_is_err_and c.from_residual.result c.from_residual.ensures.1 in
+    rw (p.1, p.2) (ap how_many (into_no (way_of c.args.way) c.args.o c.args.s.now c.args.lng c.args.lat c.args.places _ c.in_err-c.ensures))
 
-pub returns-in-None : goal.returns-in-None
-returns-in-None c =
-    let a = c.args in
-    ap how_many (into_none (way_of a.striped a.numbers.now) a.o a.s.now a.lng a.lat a.places (sym (ap choice_told c.in-None.is) ∙ c.candidates-c.ensures))
-
-pub returns-in-All : goal.returns-in-All
-returns-in-All c =
-    let a = c.args in
-    c.count_in.ensures ∙ ap how_many (into_all (way_of a.striped a.numbers.now) a.o a.s.now a.lng a.lat a.places _ c.scaled_at.ensures _ (sym (ap choice_told c.in-All.is) ∙ c.candidates-c.ensures))
-
-pub returns-in-Listed : goal.returns-in-Listed
-returns-in-Listed c =
-    let a = c.args in
-    c.count_in-in-Listed.ensures ∙ ap how_many (into_listed (way_of a.striped a.numbers.now) a.o a.s.now a.lng a.lat a.places _ c.scaled_at-in-Listed.ensures _ _ (sym (ap choice_told c.in-Listed.is) ∙ c.candidates-c.ensures))
-
-pub returns-in-Refused : goal.returns-in-Refused
-returns-in-Refused c =
-    let a = c.args in
-    ap how_many (into_no (way_of a.striped a.numbers.now) a.o a.s.now a.lng a.lat a.places _ (sym (ap choice_told c.in-Refused.is) ∙ c.candidates-c.ensures))
+pub returns : goal.returns
+returns c =
+    c.count_in.ensures ∙ ap how_many (into (way_of c.args.way) c.args.o c.args.s.now c.args.lng c.args.lat c.args.places _ c.scaled_at.ensures _ _ _ c.in_ok-c.ensures)

@@ -1,27 +1,17 @@
--- `lookup_by` meets its contract: no candidate, all zones, listed candidates, a refusal.
+-- `lookup_by` meets its contract: a cell's candidates are places of 32 bits.
 -- Assumes nothing.
-use mathlib.Core.Path.{sym, ap, ◌∙◌}
-use Rattle.reader_lookup.proofs.Listed.{listed_small}
 use native.Mathlib.Omega.{arith}
-use Rattle.replies.specs.Replies.{choice_told}
-use Rattle.reader_lookup.proofs.AskingLaws.{lookup_no, lookup_by_law, among_none, among_all}
+use mathlib.Core.Path.{sym, ap, ◌∙◌}
+use Rattle.answer.specs.Answers.{ok}
+use Rattle.reader_lookup.proofs.Listed.{listed_small}
 use Rattle.reader_lookup.proofs.lookup_by.Goals as goal
+use Rattle.reader_lookup.proofs.lookup_by.Goals.{in-All, in-Listed+else-is_unlooked}
 
-pub lookup_listed-requires : goal.lookup_listed-requires
-lookup_listed-requires c =
-    let small = listed_small _ _ _ (λ i. (c.shared_slice_known-2-1.given i).fits) _ _ _ (sym (ap choice_told c.in-Listed.is) ∙ c.candidates-c.ensures) in
-    omega (arith, small)
-
-pub returns-in-None : goal.returns-in-None
-returns-in-None c = lookup_by_law _ _ _ _ _ _ _ (sym (ap choice_told c.in-None.is) ∙ c.candidates-c.ensures) (among_none _ _ _ _ _)
-
-pub returns-in-All : goal.returns-in-All
-returns-in-All c =
-    lookup_by_law _ _ _ _ _ _ _ (sym (ap choice_told c.in-All.is) ∙ c.candidates-c.ensures) (c.first_in.ensures ∙ among_all _ _ _ _ _ _ _ c.scaled_at.ensures)
-
-pub returns-in-Listed : goal.returns-in-Listed
-returns-in-Listed c =
-    lookup_by_law _ _ _ _ _ _ _ (sym (ap choice_told c.in-Listed.is) ∙ c.candidates-c.ensures) c.lookup_listed.ensures
-
-pub returns-in-Refused : goal.returns-in-Refused
-returns-in-Refused c = lookup_no _ _ _ _ _ _ (sym (ap choice_told c.in-Refused.is) ∙ c.candidates-c.ensures)
+pub invariant_of-c : goal.invariant_of-c
+invariant_of-c c =
+    elim c.match-branch-2.branch [
+      | in-All w ↦ rw w.c-is (record { fits = omega arith })
+      | in-Listed+else-is_unlooked w ↦
+          (let small = listed_small _ _ _ (λ i. (c.type_inv.s i).fits) _ _ _ (ap ok (sym w.in-Listed.is) ∙ c.in_ok-candidates.ensures) in
+          rw w.c-is (record { fits = omega (arith, small.0, small.1) }))
+    ]

@@ -1,52 +1,28 @@
 -- `draw_rings` meets its contract: what remains, laid from here, is the whole.
 -- Assumes nothing.
-use mathlib.Core.Path.{sym, ap, ◌∙◌}
-use Rattle.reader_map.specs.Map.{text_told}
-use Rattle.reader_map.specs.Steps.{side_text}
-use Rattle.reader_map.proofs.Onward.{row_start, row_on, row_off, row_drawn}
 use native.Mathlib.Omega.{arith}
+use Rattle.std.proofs.Common.{rules}
+use Rattle.reader_map.specs.Steps.{side_text}
+use Rattle.reader_map.proofs.Onward.{drawn_same, row_start, row_along, row_on, row_off, row_drawn}
 use Rattle.reader_map.proofs.draw_rings.Goals as goal
 
-pub loop-left-init : goal.loop-left-init
-loop-left-init c = (row_start, c.requires.3)
+pub loop-i-init : goal.loop-i-init
+loop-i-init c = row_along row_start (omega arith)
 
-pub draw_ring-t-requires : goal.draw_ring-t-requires
-draw_ring-t-requires c =
-    let row = c.loop-left.invariant.0 in
-    (c.requires.0, omega (arith, row.place, c.requires.2), c.loop-left.invariant.1, omega (arith, row.room, c.requires.4))
+pub draw_ring-requires : goal.draw_ring-requires
+draw_ring-requires c =
+    (c.requires.0, omega (arith, c.loop-i-test.true, c.requires.2), omega (arith, c.loop-i.invariant.room, c.requires.3))
 
-pub shape_of-held-in-Refused : goal.shape_of-held-in-Refused
-shape_of-held-in-Refused c =
-    c.draw_ring-t.auto.held ∙ c.loop-left.invariant.1 ∙ sym c.requires.3
-
-pub shape_of-out-in-Refused : goal.shape_of-out-in-Refused
-shape_of-out-in-Refused c =
-    c.draw_ring-t.auto.out ∙ c.put-next.auto.out ∙ c.loop-left.invariant.0.same
-
-pub returns-in-Refused : goal.returns-in-Refused
+pub returns-in_err-at : goal.returns-in_err-at
 unfolding side_text
-returns-in-Refused c =
-    row_off c.loop-left.invariant.0 c.loop-left-test.true c.draw_ring-t.ensures _ (ap text_told c.in-Refused.is) _ _ _
+returns-in_err-at c =
+    drawn_same (row_off c.loop-i.invariant (omega (arith, c.loop-i-test.true)) c.draw_ring.ensures _ c.in_err-at.was _ _ _) (search rules)
 
-pub overflow_add-i : goal.overflow_add-i
-overflow_add-i c =
-    record { fits = omega (arith, c.loop-left.invariant.0.place, c.requires.1, c.ranges.count) }
-
-pub loop-left-preserved : goal.loop-left-preserved
+pub loop-i-preserved : goal.loop-i-preserved
 unfolding side_text
-loop-left-preserved c = (
-  row_on c.loop-left.invariant.0 c.loop-left-test.true c.draw_ring-t.ensures c.put-next.ensures.0 c.put-next.ensures.1 (omega arith) _ (ap text_told c.in-Long.is),
-  c.draw_ring-t.auto.held ∙ c.loop-left.invariant.1,
-)
-
-pub shape_of-held : goal.shape_of-held
-shape_of-held c =
-    c.loop-left.invariant.1 ∙ sym c.requires.3
-
-pub shape_of-out : goal.shape_of-out
-shape_of-out c =
-    c.put.auto.out ∙ c.loop-left.invariant.0.same
+loop-i-preserved c =
+    row_along (row_on c.loop-i.invariant (omega (arith, c.loop-i-test.true)) c.draw_ring.ensures c.put-next.ensures.0 c.put-next.ensures.1 (omega arith) _ c.in_ok-at.was) (omega arith)
 
 pub returns : goal.returns
 returns c =
-    row_drawn c.loop-left.invariant.0 (omega arith) c.put.ensures.0 c.put.ensures.1 _ (omega arith)
+    row_drawn c.loop-i.invariant (omega (arith, c.loop-i-test.false)) c.put.ensures.0 c.put.ensures.1 _ (omega arith)

@@ -1,6 +1,6 @@
 -- `reader_opened::grid_of` meets its contract.
 -- Assumes nothing.
-use mathlib.Core.Path.{◌∙◌}
+use mathlib.Core.Path.{refl, ◌∙◌}
 use mir.Syntax.{w16}
 use mir.ValLaws.{to_z-of_z}
 use native.Mathlib.Omega.{arith}
@@ -12,7 +12,7 @@ returns-then-p-lt-GRID c = grid_none _ _ c.if-p-lt-GRID.true
 
 pub returns : goal.returns
 returns c =
-    let x = c.i16_at in
-    let y = c.i16_at-2 in
-    grid_is_law _ _ _ _ _ _ _ _ (omega arith) c.wide-at.ensures.0
-    (to_z-of_z w16 x.result (record { sfits = x.type_inv }) ∙ x.ensures) (to_z-of_z w16 y.result (record { sfits = y.type_inv }) ∙ y.ensures) c.u16_at.ensures c.u16_at-2.ensures c.u32_at.ensures
+    let x = c.at in
+    let y = c.at-2 in
+    grid_is_law _ _ _ _ _ _ _ _ (omega arith) refl
+    (to_z-of_z w16 x.result (record { sfits = x.type_inv }) ∙ x.ensures) (to_z-of_z w16 y.result (record { sfits = y.type_inv }) ∙ y.ensures) c.at-3.ensures c.at-4.ensures c.at-5.ensures

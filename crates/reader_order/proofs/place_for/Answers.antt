@@ -7,7 +7,7 @@ use Rattle.reader_order.proofs.place_for.Goals.{then-before_zone, else-before_zo
 
 pub loop-low-init : goal.loop-low-init
 loop-low-init c =
-    (halving_start _ _ _ _ c.requires.k_in_bounds c.requires.zones_value, λ h. (h, omega arith))
+    (halving_start _ _ _ c.requires, λ h. (h, omega arith))
 
 pub overflow_sub-middle : goal.overflow_sub-middle
 overflow_sub-middle c = omega (arith, c.loop-low.invariant.1 c.loop-low-test.true)
@@ -20,11 +20,6 @@ bounds-zones-middle c = omega (arith, c.loop-low.invariant.1 c.loop-low-test.tru
 
 pub overflow_sub-after : goal.overflow_sub-after
 overflow_sub-after c =
-    let aim = c.loop-low.invariant.1 c.loop-low-test.true in
-    elim c.if-before_zone.branch [ then-before_zone w ↦ omega (arith, aim) | else-before_zone w ↦ omega (arith, aim) ]
-
-pub overflow_add-after : goal.overflow_add-after
-overflow_add-after c =
     let aim = c.loop-low.invariant.1 c.loop-low-test.true in
     elim c.if-before_zone.branch [ then-before_zone w ↦ omega (arith, aim) | else-before_zone w ↦ omega (arith, aim) ]
 
@@ -42,11 +37,11 @@ pub loop-low-preserved : goal.loop-low-preserved
 loop-low-preserved c =
     let aim = c.loop-low.invariant.1 c.loop-low-test.true in (
       elim c.if-before_zone.branch [
-        | then-before_zone w ↦ halves_down _ _ _ _ _ _ c.loop-low.invariant.0 _ (omega (arith, aim)) _ c.before_zone.ensures _ _ w.if-before_zone.true w.low-is w.high-is
-        | else-before_zone w ↦ halves_up _ _ _ _ _ _ c.loop-low.invariant.0 _ (omega (arith, aim)) _ c.before_zone.ensures _ _ w.if-before_zone.false (omega (arith, aim, w.low-is)) w.high-is
+        | then-before_zone w ↦ halves_down _ _ _ _ _ c.loop-low.invariant.0 _ (omega (arith, aim)) _ c.before_zone.ensures _ _ w.if-before_zone.true w.low-is w.high-is
+        | else-before_zone w ↦ halves_up _ _ _ _ _ c.loop-low.invariant.0 _ (omega (arith, aim)) _ c.before_zone.ensures _ _ w.if-before_zone.false (omega (arith, aim, w.low-is)) w.high-is
       ],
       λ h. (omega (arith, h), omega (arith, h)),
     )
 
 pub returns : goal.returns
-returns c = halving_end _ _ _ _ _ _ c.loop-low.invariant.0 c.loop-low-test.false
+returns c = halving_end _ _ _ _ _ c.loop-low.invariant.0 c.loop-low-test.false

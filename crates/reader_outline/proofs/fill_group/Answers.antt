@@ -1,26 +1,24 @@
 -- `fill_group` meets its contract: the chunks' points, then turned round where that is asked.
 -- Assumes nothing.
-use mathlib.Core.Path.{sym, ap, ◌∙◌}
-use native.Mathlib.Omega.{arith}
-use Rattle.reader_outline.specs.Told.{filled_told}
+use mathlib.Core.Path.{◌∙◌}
+use Rattle.std.proofs.Common.{rules}
 use Rattle.reader_outline.proofs.Sides.{side_no, turn_room, side_stored, side_turned}
 use Rattle.reader_outline.proofs.fill_group.Goals as goal
 
-pub fill_chunks-t-requires : goal.fill_chunks-t-requires
-fill_chunks-t-requires c = record { ready = c.requires.ready; count_bound = omega (arith, c.requires.count_bound, c.wide.ensures); held_len = c.requires.held_len }
-
-pub returns-in-Refused : goal.returns-in-Refused
-returns-in-Refused c =
-    side_no _ _ _ _ _ _ c.requires.held_len.0 c.requires.held_len.1 _ c.wide.ensures.0 _ (sym (ap filled_told c.in-Refused.is) ∙ c.fill_chunks-t.ensures.0) _
+pub returns-in_err-n : goal.returns-in_err-n
+returns-in_err-n c =
+    let p = side_no _ _ _ _ _ _ c.told-held c.requires.few _ c.in_err-n.ensures.0 c.fill_chunks.new.held in
+    let e = p.0 in
+    (search rules, p.1)
 
 pub turn_round-requires : goal.turn_round-requires
 turn_round-requires c =
-    turn_room _ _ c.args.g c.args.turned _ _ c.requires.held_len.0 c.requires.held_len.1 _ c.wide.ensures.0 _ (sym (ap filled_told c.in-Upto.is) ∙ c.fill_chunks-t.ensures.0) _ c.held-1.given c.fill_chunks-t.ensures.1
+    turn_room _ _ c.args.g c.args.turned _ _ c.told-held c.requires.few _ c.in_ok-n.ensures.0 _ c.fill_chunks.array_long c.in_ok-n.ensures.1
 
 pub returns-then-turned : goal.returns-then-turned
 returns-then-turned c =
-    side_turned _ _ _ _ _ _ c.requires.held_len.0 c.requires.held_len.1 _ c.wide.ensures.0 _ (sym (ap filled_told c.in-Upto.is) ∙ c.fill_chunks-t.ensures.0) _ c.held-1.given c.fill_chunks-t.ensures.1 c.if-turned.true _ c.held-then-turned-1.given c.turn_round.ensures
+    side_turned _ _ _ _ _ _ c.told-held c.requires.few _ c.in_ok-n.ensures.0 _ c.fill_chunks.array_long c.in_ok-n.ensures.1 c.if-turned.true _ (c.turn_round.auto.held ∙ c.fill_chunks.array_long) c.turn_round.ensures
 
-pub returns-in-Upto : goal.returns-in-Upto
-returns-in-Upto c =
-    side_stored _ _ _ _ _ _ c.requires.held_len.0 c.requires.held_len.1 _ c.wide.ensures.0 _ (sym (ap filled_told c.in-Upto.is) ∙ c.fill_chunks-t.ensures.0) _ c.held-1.given c.fill_chunks-t.ensures.1 c.if-turned.false
+pub returns-else-turned : goal.returns-else-turned
+returns-else-turned c =
+    side_stored _ _ _ _ _ _ c.told-held c.requires.few _ c.in_ok-n.ensures.0 _ c.fill_chunks.array_long c.in_ok-n.ensures.1 c.if-turned.false

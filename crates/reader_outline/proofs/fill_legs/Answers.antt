@@ -1,37 +1,24 @@
 -- `fill_legs` meets its contract. The loop's invariant: what is left, strung behind what is written, is the whole.
 -- Assumes nothing.
-use mathlib.Core.Path.{sym, ap, ◌∙◌}
-use native.Mathlib.Omega.{arith}
-use Rattle.reader_outline.specs.Told.{filled_told}
+use Rattle.std.proofs.Common.{rules}
 use Rattle.reader_outline.proofs.Legs.{legs_start, legs_no, legs_on_law, legs_end}
 use Rattle.reader_outline.proofs.fill_legs.Goals as goal
 
-pub loop-left-init : goal.loop-left-init
-loop-left-init c = legs_start _ _ _ _ _
+pub loop-i-init : goal.loop-i-init
+loop-i-init c = legs_start _ _ _ _ _ c.told-held
 
-pub fill_leg-t-requires : goal.fill_leg-t-requires
-fill_leg-t-requires c =
-    let w = c.loop-left.invariant in
-    record { ready = c.requires.ready; op_lt_count = omega (arith, w.place, c.requires.count_bound, c.loop-left-test.true); held_len = (w.same ∙ c.requires.held_len, w.room) }
+pub fill_leg-requires-clause-few : goal.fill_leg-requires-clause-few
+fill_leg-requires-clause-few c = c.loop-i.invariant.room
 
-pub shape_of-held-in-Refused : goal.shape_of-held-in-Refused
-shape_of-held-in-Refused c =
-    c.held-1.given ∙ c.loop-left.invariant.same
+pub returns-in_err-n : goal.returns-in_err-n
+returns-in_err-n c =
+    let p = legs_no _ _ _ _ _ _ _ c.loop-i.invariant c.loop-i-test.true _ c.in_err-n.ensures.0 c.fill_leg.new.held in
+    let e = p.0 in
+    (search rules, p.1)
 
-pub returns-in-Refused : goal.returns-in-Refused
-returns-in-Refused c =
-    legs_no _ _ _ _ _ _ _ _ _ c.loop-left.invariant c.loop-left-test.true _ (sym (ap filled_told c.in-Refused.is) ∙ c.fill_leg-t.ensures.0) _
-
-pub overflow_add-i : goal.overflow_add-i
-overflow_add-i c =
-    record { fits = omega (arith, c.loop-left.invariant.place, c.requires.count_bound, c.well_formed) }
-
-pub loop-left-preserved : goal.loop-left-preserved
-loop-left-preserved c =
-    legs_on_law _ _ _ _ _ _ _ _ _ c.loop-left.invariant c.loop-left-test.true _ _ c.held-1.given (sym (ap filled_told c.in-Upto.is) ∙ c.fill_leg-t.ensures.0) c.fill_leg-t.ensures.1
-
-pub shape_of-held : goal.shape_of-held
-shape_of-held c = c.loop-left.invariant.same
+pub loop-i-preserved : goal.loop-i-preserved
+loop-i-preserved c =
+    legs_on_law _ _ _ _ _ _ _ c.loop-i.invariant c.loop-i-test.true _ c.fill_leg.array_long _ c.in_ok-n.ensures.0 c.in_ok-n.ensures.1
 
 pub returns : goal.returns
-returns c = legs_end _ _ _ _ _ _ _ _ _ c.loop-left.invariant (omega arith) c.requires.held_len
+returns c = legs_end _ _ _ _ _ _ _ c.loop-i.invariant c.loop-i-test.false

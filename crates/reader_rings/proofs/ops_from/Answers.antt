@@ -1,27 +1,32 @@
--- `reader_rings::ops_from` meets its contract: the parity so far, added to what is left, is the whole.
+-- `ops_from` meets its contract: the parity so far, added to what is left, is the whole.
 -- Assumes nothing.
-use mathlib.Core.Path.{sym, ap, ◌∙◌}
 use native.Mathlib.Omega.{arith}
-use Rattle.reader_rings.proofs.RingsLaws.{ops_end, ops_no, ops_on, ops_off}
-use Rattle.answer.proofs.WalksLaws.{add_none, breaks, hits, ends, keeps}
-use Rattle.reader_rings.specs.Steps.{rounds, sum_after}
+use mathlib.Core.Path.{refl, sym, ap, ◌∙◌}
+use Rattle.std.proofs.Common.{rules}
+use Rattle.answer.specs.Answers.{ok}
+use Rattle.answer.specs.declared.Walked.{Walked}
+use Rattle.reader_rings.specs.declared.Round.{Round}
+use Rattle.reader_rings.specs.Steps.{sum_after}
+use Rattle.reader_rings.proofs.RingsLaws.{ops_start, ops_end, ops_no, ops_on, ops_off}
 use Rattle.reader_rings.proofs.ops_from.Goals as goal
 
-pub loop-left-init : goal.loop-left-init
-loop-left-init c = (add_none _, omega arith, omega arith)
+pub loop-i-init : goal.loop-i-init
+loop-i-init c = (ops_start _ _ _ _ _ _ _ _ refl, omega arith)
 
-pub returns-in-Refused : goal.returns-in-Refused
-returns-in-Refused c =
-    breaks _ _ _ c.loop-left.invariant.0 _ (ops_no _ _ _ _ _ _ _ c.loop-left-test.true _ (sym (ap rounds c.in-Refused.is) ∙ c.op_step-t.ensures.0))
+pub returns-in_err-op_step : goal.returns-in_err-op_step
+returns-in_err-op_step c =
+    let p = ops_no _ _ _ _ _ _ _ _ _ _ c.loop-i.invariant.0 (omega (arith, c.loop-i-test.true)) _ c.in_err-op_step.ensures.0 in
+    search rules
 
 pub returns-in-On : goal.returns-in-On
-returns-in-On c = hits _ _ _ c.loop-left.invariant.0 (ops_on _ _ _ _ _ _ _ c.loop-left-test.true (sym (ap rounds c.in-On.is) ∙ c.op_step-t.ensures.0))
+returns-in-On c = ops_on _ _ _ _ _ _ _ _ _ _ c.loop-i.invariant.0 (omega (arith, c.loop-i-test.true)) (ap ok (sym c.in-On.is) ∙ c.in_ok-op_step.ensures.0)
 
-pub loop-left-preserved : goal.loop-left-preserved
-loop-left-preserved c =
-    let a = ap (sum_after c.loop-left.z.sum) c.in-Off.is in
-    let b = c.op_step-t.ensures.1 in
-    (keeps _ _ _ c.loop-left.invariant.0 _ _ _ c.plus-odd.ensures (ops_off _ _ _ _ _ _ _ c.loop-left-test.true _ _ (sym (ap rounds c.in-Off.is) ∙ c.op_step-t.ensures.0)), omega arith, omega arith)
+pub loop-i-preserved : goal.loop-i-preserved
+loop-i-preserved c =
+    let sum = ap (λ (x : Walked Round). sum_after c.loop-i.z.sum (ok x)) c.in-Off.is in (
+      ops_off _ _ _ _ _ _ _ _ _ _ c.loop-i.invariant.0 (omega (arith, c.loop-i-test.true)) _ _ _ (ap ok (sym c.in-Off.is) ∙ c.in_ok-op_step.ensures.0) c.plus-odd.ensures,
+      omega (arith, sum, c.in_ok-op_step.ensures.1, c.loop-i.invariant.1),
+    )
 
 pub returns : goal.returns
-returns c = ends _ _ _ c.loop-left.invariant.0 _ (ops_end _ _ _ _ _ _ _ (omega arith))
+returns c = ops_end _ _ _ _ _ _ _ _ _ _ c.loop-i.invariant.0 (omega (arith, c.loop-i-test.false))

@@ -1,10 +1,7 @@
-use Prim.Native.Nat.{◌+◌, ◌<◌}
+use Prim.Native.Nat.{◌-◌}
 use mathlib.Core.Path.{◌≡◌}
 use Rattle.reader_room.specs.Steps.{chunks_count}
 use Rattle.reader_room.proofs.count_chunks.Given as goal
 
-abbrev pub invariant-loop-left : goal.invariant-loop-left
-invariant-loop-left l = (l.i + l.left < 0x1_0001_0000) × (chunks_count l.o l.s l.left l.i l.q l.n ≡ chunks_count l.o l.s l.count l.first l.initial.q l.sides)
-
-abbrev pub decreases-loop-left : goal.decreases-loop-left
-decreases-loop-left l = l.left
+abbrev pub invariant-loop-i : goal.invariant-loop-i
+invariant-loop-i l = chunks_count l.o l.s (l.to - l.i) l.i l.sofar.1 l.sofar.0 ≡ chunks_count l.o l.s l.fn.count l.fn.first l.fn.before l.fn.sides

@@ -1,36 +1,22 @@
 -- `chunks_need` meets its contract: a sum that goes on.
 -- Assumes nothing.
-use Prim.Native.Nat.{ℕ, ◌+◌, ◌*◌}
-use mathlib.Core.Path.{refl, sym, ap, ◌∙◌}
 use native.Mathlib.Omega.{arith}
-use Rattle.replies.specs.Replies.{needed_told}
-use Rattle.reader_stripes.proofs.Reading.{one_fewer, up_to_law, adding_start, adding_small, adding_no, adding_on, adding_end, adding_most}
+use Rattle.std.proofs.Common.{rules}
+use Rattle.reader_stripes.proofs.Reading.{adding_no, adding_on, adding_end, adding_most}
 use Rattle.reader_stripes.proofs.chunks_need.Goals as goal
 
-pub loop-left-init : goal.loop-left-init
-loop-left-init c = adding_start _ _ _ _ _ _ _ _ _ (ap (λ (k : ℕ). 5 + 3 * k) c.long.ensures) c.wide-i.ensures.0 refl
+pub returns-in_err-sum : goal.returns-in_err-sum
+returns-in_err-sum c =
+    let v = c.loop-i.invariant in
+    let p = adding_no _ _ _ _ _ _ _ _ v.1 (omega (arith, v.0, c.loop-i-test.true)) _ c.in_err-sum.ensures.0 in
+    search rules
 
-pub returns-in-Refused : goal.returns-in-Refused
-returns-in-Refused c =
-    (adding_no _ _ _ _ _ _ _ _ _ c.loop-left.invariant c.loop-left-test.true _ (sym (ap needed_told c.in-Refused.is) ∙ c.chunk_need-a.ensures.0), tt)
-
-pub overflow_add-sum-in-Numbers : goal.overflow_add-sum-in-Numbers
-overflow_add-sum-in-Numbers c =
-    let d = up_to_law _ _ _ (ap needed_told c.in-Numbers.is) c.chunk_need-a.ensures.1 in
-    record { fits = omega (arith, d, adding_small _ _ _ _ _ _ _ _ _ c.loop-left.invariant c.loop-left-test.true, c.requires.1, c.ranges.count) }
-
-pub overflow_add-i : goal.overflow_add-i
-overflow_add-i c =
-    record { fits = omega (arith, c.loop-left.invariant.place, c.ranges.first, c.ranges.count) }
-
-pub loop-left-smaller : goal.loop-left-smaller
-loop-left-smaller c = one_fewer _ c.loop-left-test.true
-
-pub loop-left-preserved : goal.loop-left-preserved
-loop-left-preserved c =
-    let d = up_to_law _ _ _ (ap needed_told c.in-Numbers.is) c.chunk_need-a.ensures.1 in
-    adding_on _ _ _ _ _ _ _ _ _ c.loop-left.invariant c.loop-left-test.true _ (sym (ap needed_told c.in-Numbers.is) ∙ c.chunk_need-a.ensures.0) (omega (arith, d, c.requires.1))
+pub loop-i-preserved : goal.loop-i-preserved
+loop-i-preserved c =
+    let v = c.loop-i.invariant in
+    (v.0, adding_on _ _ _ _ _ _ _ _ v.1 (omega (arith, v.0, c.loop-i-test.true)) _ c.in_ok-sum.ensures.0 (omega (arith, c.in_ok-sum.ensures.1, c.args.c.few)))
 
 pub returns : goal.returns
 returns c =
-    (adding_end _ _ _ _ _ _ _ _ _ c.loop-left.invariant c.loop-left-test.false, omega (arith, adding_most _ _ _ _ _ _ _ _ _ c.loop-left.invariant c.loop-left-test.false, c.ranges.count))
+    let v = c.loop-i.invariant in
+    (adding_end _ _ _ _ _ _ _ _ v.1 (omega (arith, v.0, c.loop-i-test.false)), omega (arith, adding_most _ _ _ _ _ _ _ _ v.1 (omega (arith, v.0, c.loop-i-test.false)), c.args.c.few))

@@ -1,13 +1,10 @@
--- `cut_at` meets its contract.
+-- `cut_at` meets its contract: the group as it is cut, or nothing.
 -- Assumes nothing.
-use mathlib.Core.Path.{sym, ap, ◌∙◌}
-use Rattle.reader_records.specs.Records.{told_group}
 use Rattle.reader_stripes.proofs.BuildingLaws.{cut_none, cut_is}
 use Rattle.reader_stripes.proofs.cut_at.Goals as goal
 
-pub returns-in-Refused : goal.returns-in-Refused
-returns-in-Refused c = cut_none _ _ _ _ (sym (ap told_group c.in-Refused.is) ∙ c.group_at-a.ensures)
+pub returns-in-Ok : goal.returns-in-Ok
+returns-in-Ok c = cut_is _ _ _ _ _ c.in-Ok.ensures c.of.ensures.0 c.of.ensures.1 c.of.ensures.2
 
-pub returns-in-At : goal.returns-in-At
-returns-in-At c =
-    cut_is _ _ _ _ (sym (ap told_group c.in-At.is) ∙ c.group_at-a.ensures) _ c.striping_of.ensures
+pub returns-in-Err : goal.returns-in-Err
+returns-in-Err c = cut_none _ _ _ _ _ c.in-Err.ensures c.of-in-Err.ensures.1 c.of-in-Err.ensures.2

@@ -1,11 +1,10 @@
 -- `put_all` meets its contract: the groups' entries; then what is left, laid from here on.
 -- Assumes nothing.
 use mathlib.Core.Path.{refl, ap, ◌∙◌}
-use native.Mathlib.Omega.{arith}
 use Rattle.stripes.specs.Numbers.{all_stripes}
 use Rattle.reader_stripes.proofs.Laying.{going_start, going_same, going_room, going_on, going_end, room_first}
 use Rattle.reader_stripes.proofs.Built.{groups_room, stripes_room, all_put}
-use Rattle.reader_stripes.proofs.Loops.{less, groups_all, stripes_cut, stripes_none, cut_high}
+use Rattle.reader_stripes.proofs.Loops.{groups_all, stripes_cut, stripes_none}
 use Rattle.reader_stripes.proofs.put_all.Goals as goal
 
 pub put_groups-requires : goal.put_groups-requires
@@ -16,17 +15,12 @@ pub loop-i-init : goal.loop-i-init
 loop-i-init c = going_start _ _ _ _ (ap all_stripes (groups_all _ _))
 
 pub put_stripes-q-requires : goal.put_stripes-q-requires
-put_stripes-q-requires c = (
-  (cut_high _ _ _ _ c.cut_at-c.ensures).0,
-  room_first _ _ _ _ _ (stripes_cut _ _ _ (omega (arith, c.wide-n.ensures, c.loop-i-test.true)) _ c.cut_at-c.ensures) (going_room _ _ _ _ _ _ c.loop-i.invariant (stripes_room _ _ _ c.requires _ _ c.wide-n.ensures.0 refl c.put_groups.ensures.0 _ c.put_groups.ensures.1)),
-)
-
-pub loop-i-smaller : goal.loop-i-smaller
-loop-i-smaller c = less _ _ c.loop-i-test.true
+put_stripes-q-requires c =
+    room_first _ _ _ _ _ (stripes_cut _ _ _ c.loop-i-test.true _ c.cut_at-c.ensures) (going_room _ _ _ _ _ _ c.loop-i.invariant (stripes_room _ _ _ c.requires _ _ refl refl c.put_groups.ensures.0 _ c.put_groups.ensures.1))
 
 pub loop-i-preserved : goal.loop-i-preserved
 loop-i-preserved c =
-    going_on _ _ _ _ _ _ c.loop-i.invariant (stripes_room _ _ _ c.requires _ _ c.wide-n.ensures.0 refl c.put_groups.ensures.0 _ c.put_groups.ensures.1) _ _ _ _ (stripes_cut _ _ _ (omega (arith, c.wide-n.ensures, c.loop-i-test.true)) _ c.cut_at-c.ensures) c.put_stripes-q.ensures
+    going_on _ _ _ _ _ _ c.loop-i.invariant (stripes_room _ _ _ c.requires _ _ refl refl c.put_groups.ensures.0 _ c.put_groups.ensures.1) _ _ _ _ (stripes_cut _ _ _ c.loop-i-test.true _ c.cut_at-c.ensures) c.put_stripes-q.ensures
 
 pub shape_of-numbers : goal.shape_of-numbers
 shape_of-numbers c =
@@ -34,4 +28,4 @@ shape_of-numbers c =
 
 pub returns : goal.returns
 returns c =
-    all_put _ _ _ c.requires _ _ c.wide-n.ensures.0 refl c.put_groups.ensures.0 _ c.put_groups.ensures.1 _ _ (going_end _ _ _ _ _ _ c.loop-i.invariant (stripes_none _ _ _ (omega (arith, c.wide-n.ensures, c.loop-i-test.false))))
+    all_put _ _ _ c.requires _ _ refl refl c.put_groups.ensures.0 _ c.put_groups.ensures.1 _ _ (going_end _ _ _ _ _ _ c.loop-i.invariant (stripes_none _ _ _ c.loop-i-test.false))

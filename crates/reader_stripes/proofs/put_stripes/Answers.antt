@@ -1,9 +1,9 @@
 -- `put_stripes` meets its contract: what is left, laid from here on.
 -- Assumes nothing.
-use mathlib.Core.Path.{refl}
 use native.Mathlib.Omega.{arith}
+use mathlib.Core.Path.{refl}
 use Rattle.reader_stripes.proofs.Laying.{going_start, going_same, going_room, going_on, going_end, room_first}
-use Rattle.reader_stripes.proofs.Loops.{less, stripes_all, stripes_on, stripes_off}
+use Rattle.reader_stripes.proofs.Loops.{stripes_all, stripes_on, stripes_off}
 use Rattle.reader_stripes.proofs.put_stripes.Goals as goal
 
 pub loop-i-init : goal.loop-i-init
@@ -11,17 +11,13 @@ loop-i-init c = going_start _ _ _ _ (stripes_all _ _ _ _ refl)
 
 pub put_one-q-requires : goal.put_one-q-requires
 put_one-q-requires c =
-    (c.requires.0, omega (arith, c.wide-k.ensures, c.loop-i-test.true), room_first _ _ _ _ _ (stripes_on _ _ _ _ (omega (arith, c.wide-k.ensures, c.loop-i-test.true))) (going_room _ _ _ _ _ _ c.loop-i.invariant c.requires.1))
-
-pub loop-i-smaller : goal.loop-i-smaller
-loop-i-smaller c = less _ _ c.loop-i-test.true
+    (omega (arith, c.loop-i-test.true), room_first _ _ _ _ _ (stripes_on _ _ _ _ c.loop-i-test.true) (going_room _ _ _ _ _ _ c.loop-i.invariant c.requires))
 
 pub loop-i-preserved : goal.loop-i-preserved
-loop-i-preserved c =
-    going_on _ _ _ _ _ _ c.loop-i.invariant c.requires.1 _ _ _ _ (stripes_on _ _ _ _ (omega (arith, c.wide-k.ensures, c.loop-i-test.true))) c.put_one-q.ensures
+loop-i-preserved c = going_on _ _ _ _ _ _ c.loop-i.invariant c.requires _ _ _ _ (stripes_on _ _ _ _ c.loop-i-test.true) c.put_one-q.ensures
 
 pub shape_of-numbers : goal.shape_of-numbers
 shape_of-numbers c = going_same _ _ _ _ _ _ c.loop-i.invariant
 
 pub returns : goal.returns
-returns c = going_end _ _ _ _ _ _ c.loop-i.invariant (stripes_off _ _ _ _ (omega (arith, c.wide-k.ensures, c.loop-i-test.false)))
+returns c = going_end _ _ _ _ _ _ c.loop-i.invariant (stripes_off _ _ _ _ c.loop-i-test.false)

@@ -6,6 +6,3 @@ use Rattle.reader_stripes.proofs.put_stripes.Given as goal
 
 abbrev pub invariant-loop-i : goal.invariant-loop-i
 invariant-loop-i l = Going l.initial.numbers l.initial.q (stripes_from l.c.striping (boxes_of l.o l.s l.c) l.c.striping.k 0) (stripes_from l.c.striping (boxes_of l.o l.s l.c) (l.c.striping.k - l.i) l.i) l.q l.numbers
-
-abbrev pub decreases-loop-i : goal.decreases-loop-i
-decreases-loop-i l = l.k - l.i

@@ -1,61 +1,67 @@
 -- `read` meets its contract: the number of places, the room for the position, then the entry.
 -- Assumes nothing.
-use mathlib.Core.Path.{sym, ap, ap₂, ◌∙◌}
-use lib.IntN.{ℤ}
-use lib.ListN.{length, set}
+use Rattle.std.proofs.Common.{rules}
 use mir.Syntax.{w32}
+use mir.Val.{to_z, of_z}
 use mir.ValLaws.{to_z-of_z}
-use Rattle.answer.specs.Answers.{Answer, ok, refused, ◌then◌, left}
-use Rattle.answer.proofs.CheckLaws.{told_yes, told_no}
+use mathlib.Core.Path.{◌≡◌, ap, ap₂, ◌∙◌}
+use mathlib.Core.List.{List, ◌∷◌, ◌++◌}
+use lib.IntN.{ℤ}
+use lib.ListN.{length, drop}
+use Rattle.std.proofs.lemmas.Result.{err_from_is_err_and}
+use Rattle.answer.specs.Answers.{Answer, ok, ◌then◌, left}
 use Rattle.entries.specs.Entry.{Entry}
 use Rattle.entries.specs.Reading.{head_of}
-use Rattle.entry_bytes.specs.Told.{entry_told}
 use Rattle.tzb_journal.specs.Journal.{journal_read, position_of}
-use Rattle.tzb_journal.proofs.JournalLaws.{offered_fits, read_no, read_short, read_as, position_set, position_kept}
+use Rattle.tzb_journal.proofs.JournalLaws.{offered_fits, offered_yes, offered_no, read_no, read_short, read_as, position_set, position_kept}
 use native.Mathlib.Omega.{arith}
-use Rattle.std.proofs.lemmas.Bool.{not_from_true}
-use Rattle.std.proofs.lemmas.Bool.{not_from_false}
 use Rattle.tzb_journal.proofs.read.Goals as goal
 
-pub returns-then-not-is_offered : goal.returns-then-not-is_offered
-returns-then-not-is_offered c =
+pub returns-in_err-claim : goal.returns-in_err-claim
+returns-in_err-claim c =
     let a = c.args in
-    let n = length a.position.now in
-    let m = length a.zones.now in
-    let e = read_no a.places a.bytes.now n m (told_no _ _ c.is_offered.ensures (not_from_false _ c.if-not-is_offered.true)) in
-    record { result_value = ap refused c.refuse.ensures ∙ ap (λ (x : Answer Entry). x then λ e. ok (head_of e)) e; memory = (ap (λ (x : Answer Entry). left a.position.now (x then λ e. ok (position_of e))) e, ap (λ (x : Answer Entry). left a.zones.now (x then λ e. ok e.zones)) e) }
+    let p = err_from_is_err_and c.from_residual.result c.from_residual.ensures.1 in
+    let h = offered_no _ _ c.is_offered.ensures _ c.in_err-claim.ensures in
+    let e = read_no a.places a.bytes.now (length a.position.now) (length a.zones.now) h.0 in
+    record { result_value = rw (p.1, p.2, h.1) (ap (λ (x : Answer Entry). x then λ e. ok (head_of e)) e); memory = (ap (λ (x : Answer Entry). left a.position.now (x then λ e. ok (position_of e))) e, ap (λ (x : Answer Entry). left a.zones.now (x then λ e. ok e.zones)) e) }
 
 pub overflow_cast-places : goal.overflow_cast-places
-overflow_cast-places c = omega (arith, offered_fits _ (told_yes _ _ c.is_offered.ensures (not_from_true _ c.if-not-is_offered.false)))
+overflow_cast-places c = omega (arith, offered_fits _ _ c.is_offered.ensures c.in_ok-claim.ensures)
 
 pub returns-then-position-lt2 : goal.returns-then-position-lt2
 returns-then-position-lt2 c =
     let a = c.args in
-    let n = length a.position.now in
-    let m = length a.zones.now in
-    let e = read_short a.places a.bytes.now n m (told_yes _ _ c.is_offered.ensures (not_from_true _ c.if-not-is_offered.false)) c.if-position-lt2.true _ c.why_unread.ensures in
+    let e = read_short a.places a.bytes.now (length a.position.now) (length a.zones.now) (offered_yes _ _ c.is_offered.ensures c.in_ok-claim.ensures) c.if-position-lt2.true _ c.why_unread.ensures in
     record { result_value = ap (λ (x : Answer Entry). x then λ e. ok (head_of e)) e; memory = (ap (λ (x : Answer Entry). left a.position.now (x then λ e. ok (position_of e))) e, ap (λ (x : Answer Entry). left a.zones.now (x then λ e. ok e.zones)) e) }
 
 pub overflow_cast-places-2 : goal.overflow_cast-places-2
-overflow_cast-places-2 c = omega (arith, offered_fits _ (told_yes _ _ c.is_offered.ensures (not_from_true _ c.if-not-is_offered.false)))
+overflow_cast-places-2 c = omega (arith, offered_fits _ _ c.is_offered.ensures c.in_ok-claim.ensures)
 
-pub returns-in-Refused : goal.returns-in-Refused
-returns-in-Refused c =
+pub returns-in_err-q : goal.returns-in_err-q
+returns-in_err-q c =
     let a = c.args in
     let n = length a.position.now in
     let m = length a.zones.now in
-    let e = read_as a.places a.bytes.now n m (told_yes _ _ c.is_offered.ensures (not_from_true _ c.if-not-is_offered.false)) c.if-position-lt2.false in
-    let told = sym (ap entry_told c.in-Refused.is) ∙ c.read_entry-a.ensures.result_value ∙ ap (λ (x : Answer Entry). x then λ e. ok (head_of e)) e in
-    record { result_value = told; memory = (position_kept (journal_read a.places a.bytes.now n m) a.position.now _ told, c.read_entry-a.ensures.memory ∙ ap (λ (x : Answer Entry). left a.zones.now (x then λ e. ok e.zones)) e) }
+    let p = err_from_is_err_and c.from_residual-in_err-q.result c.from_residual-in_err-q.ensures.1 in
+    let e = read_as a.places a.bytes.now n m (offered_yes _ _ c.is_offered.ensures c.in_ok-claim.ensures) c.if-position-lt2.false in
+    let told = c.in_err-q.ensures.result_value ∙ ap (λ (x : Answer Entry). x then λ e. ok (head_of e)) e in
+    record { result_value = rw (p.1, p.2) told; memory = (position_kept (journal_read a.places a.bytes.now n m) a.position.now _ told, c.read_entry.ensures.memory ∙ ap (λ (x : Answer Entry). left a.zones.now (x then λ e. ok e.zones)) e) }
 
-pub returns-in-Is : goal.returns-in-Is
-returns-in-Is c =
+pub returns : goal.returns
+returns c =
     let a = c.args in
     let n = length a.position.now in
     let m = length a.zones.now in
-    let e = read_as a.places a.bytes.now n m (told_yes _ _ c.is_offered.ensures (not_from_true _ c.if-not-is_offered.false)) c.if-position-lt2.false in
-    let q = c.in-Is.q in
-    let told = sym (ap entry_told c.in-Is.is) ∙ c.read_entry-a.ensures.result_value ∙ ap (λ (x : Answer Entry). x then λ e. ok (head_of e)) e in
-    let x = to_z-of_z w32 q.x (record { sfits = c.struct_told-1.given.0.1 }) in
-    let y = to_z-of_z w32 q.y (record { sfits = c.struct_told-in-Is-1.given.1.0.1 }) in
-    record { result_value = told; memory = (ap₂ (λ (u v : ℤ). set (set a.position.now 0 u) 1 v) x y ∙ position_set (journal_read a.places a.bytes.now n m) a.position.now q _ _ told c.if-position-lt2.false, c.read_entry-a.ensures.memory ∙ ap (λ (x : Answer Entry). left a.zones.now (x then λ e. ok e.zones)) e) }
+    let e = read_as a.places a.bytes.now n m (offered_yes _ _ c.is_offered.ensures c.in_ok-claim.ensures) c.if-position-lt2.false in
+    let q = c.in_ok-q.q in
+    let x : to_z w32 (of_z w32 q.x) ≡ q.x = search (rules, to_z-of_z) in
+    let y : to_z w32 (of_z w32 q.y) ≡ q.y = search (rules, to_z-of_z) in
+    let told = c.in_ok-q.ensures.result_value ∙ ap (λ (x : Answer Entry). x then λ e. ok (head_of e)) e in
+    record {
+      result_value = told;
+      memory = (
+        ap (λ (l : List ℤ). l ++ drop 2 a.position.now) c.copy_from_slice.ensures.after ∙ ap₂ (λ (u v : ℤ). u ∷ v ∷ drop 2 a.position.now) x y
+            ∙ position_set (journal_read a.places a.bytes.now n m) a.position.now q _ _ told,
+        c.read_entry.ensures.memory ∙ ap (λ (x : Answer Entry). left a.zones.now (x then λ e. ok e.zones)) e,
+      );
+    }

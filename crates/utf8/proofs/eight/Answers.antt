@@ -10,4 +10,4 @@ use Rattle.utf8.proofs.eight.Goals as goal
 pub returns : goal.returns
 returns c = λ t.
     let g = c.args in
-    untopped g.s.now (λ i. (c.shared_slice_known-1.given i).fits) 8 g.i (ap (λ (x : ℕ). bit_and x (tops 8)) (sym c.u64_at.ensures) ∙ eqb-true _ _ t)
+    untopped g.s.now (λ i. (c.type_inv.s i).fits) 8 g.i (ap (λ (x : ℕ). bit_and x (tops 8)) (sym c.at.ensures) ∙ eqb-true _ _ t)

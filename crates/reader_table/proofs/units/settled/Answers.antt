@@ -7,13 +7,13 @@ use Rattle.std.proofs.Common.{rules}
 use Rattle.reader_table.proofs.units.settled.Goals as goal
 
 pub loop-base-init : goal.loop-base-init
-loop-base-init c = (search rules, refl, search rules, omega arith, c.placed_run-n.ensures.1, split_start _ _ _ _ (omega arith))
+loop-base-init c = (refl, search rules, omega arith, c.placed_run-n.ensures.1, split_start _ _ _ _ (omega arith))
 
 pub loop-base-preserved : goal.loop-base-preserved
 loop-base-preserved c =
     let l = c.loop-base.invariant in
     let r = c.split_in-n.ensures in
-    (search rules, search rules, omega arith, omega arith, placed_fewer _ _ _ l.4 r.0, split_join _ _ _ _ _ _ l.5 r.0 r.1)
+    (search rules, omega arith, omega arith, placed_fewer _ _ _ l.3 r.0, split_join _ _ _ _ _ _ l.4 r.0 r.1)
 
 pub returns : goal.returns
-returns c = settle _ _ _ c.loop-base.invariant.0 c.loop-base.invariant.4 c.loop-base.invariant.5 (omega arith)
+returns c = settle _ _ _ c.args.t.headed c.loop-base.invariant.3 c.loop-base.invariant.4 (omega arith)

@@ -21,7 +21,7 @@ slice_bounds-split_with-end c = length-replicate {A = ℕ} 0x1_0000 0
 
 pub split_with-requires : goal.split_with-requires
 split_with-requires c =
-    (c.requires.0, c.requires.1, c.requires.2, map-small _ (length-replicate {A = ℕ} 0x1_0000 0))
+    (c.requires.0, c.requires.1, map-small _ (length-replicate {A = ℕ} 0x1_0000 0))
 
 pub returns : goal.returns
 returns c =

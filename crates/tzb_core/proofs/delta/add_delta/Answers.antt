@@ -2,7 +2,7 @@
 -- Assumes nothing.
 use Rattle.std.proofs.Common.{◌≡◌, ℤ, ◌+ℤ◌, sym, ap, ◌∙◌, w32, w64, SFits, to_z, of_z}
 use mir.ValLaws.{to_z-of_z}
-use Rattle.answer.specs.Answers.{ok, refused}
+use Rattle.answer.specs.Answers.{ok}
 use Rattle.chunks.specs.Delta.{fits32}
 use Rattle.chunks.proofs.Sums.{widen, wide_eq, sums_fit, fits_small}
 use Rattle.chunks.proofs.DeltaLaws.{sum_fits, sum_over}
@@ -33,4 +33,4 @@ pub returns : goal.returns
 unfolding fits32
 returns c =
     let a = c.ranges in
-    ap refused c.refuse.ensures ∙ sum_over _ _ (sym (ap fits32 (held _ _ a.prev a.delta)) ∙ c.if-x.false)
+    c.fail.ensures ∙ sum_over _ _ (sym (ap fits32 (held _ _ a.prev a.delta)) ∙ c.if-x.false)

@@ -1,5 +1,5 @@
 -- `varint::varint_slow` meets its contract. The loop's invariant: what is left to read, below it what was read, is the number; the unit with the digits left makes 32 bits.
--- The measure is how far the unit is from the fifth digit's. Assumes nothing.
+-- Assumes nothing.
 use Rattle.std.proofs.Common.{◌≡◌, ℕ, ◌+◌, ◌-◌, ◌*◌, ◌<◌, ◌≤◌, false, ◌&&◌, nat_eq, nat_lt, refl, ◌∙◌, arith}
 use Rattle.varints.proofs.Digits.{rest_out, rest_more, lim, lim_down, room, unit_fits, turn_high, turn_zero, turn_end, turn_fits, turn_more}
 use Rattle.tzb_core.proofs.varint.varint_slow.Goals as goal
@@ -14,54 +14,50 @@ on_fits n u k b w i o l h =
 pub loop-at-init : goal.loop-at-init
 loop-at-init c = (2, refl, c.requires, refl)
 
-pub returns-then-s-at : goal.returns-then-s-at
-returns-then-s-at c = c.refused.ensures ∙ rest_out _ _ _ _ _ c.if-s-at.true ∙ c.loop-at.invariant.3
-
 pub returns-then-unit-b : goal.returns-then-unit-b
 returns-then-unit-b c =
     let l = c.loop-at in
-    c.refused-then-unit-b.ensures
-    ∙ turn_high _ _ _ _ _ c.if-s-at.false c.wide-b.ensures.0 _ l.invariant.1 c.if-unit-b.true
+    c.fail.ensures
+    ∙ turn_high _ _ _ _ _ c.loop-at-test.true refl _ l.invariant.1 c.if-unit-b.true
     ∙ l.invariant.3
 
 pub returns-then-b-eq0 : goal.returns-then-b-eq0
 returns-then-b-eq0 c =
     let l = c.loop-at in
-    c.refused-then-b-eq0.ensures
-    ∙ turn_zero _ _ _ _ _ c.if-s-at.false c.wide-b.ensures.0 _ l.invariant.1 c.if-unit-b.false c.if-b-lt128.true c.if-b-eq0.true
+    c.fail-then-b-eq0.ensures
+    ∙ turn_zero _ _ _ _ _ c.loop-at-test.true refl _ l.invariant.1 c.if-unit-b.false c.if-b-lt128.true c.if-b-eq0.true
     ∙ l.invariant.3
 
-pub overflow_mul-unit : goal.overflow_mul-unit
-overflow_mul-unit c =
+pub overflow_mul-result : goal.overflow_mul-result
+overflow_mul-result c =
     let l = c.loop-at in
     omega (arith, turn_fits l.n l.unit l.invariant.0 _ l.invariant.1 l.invariant.2 c.if-unit-b.false c.if-b-lt128.true)
 
-pub overflow_add-n : goal.overflow_add-n
-overflow_add-n c =
+pub overflow_add-result : goal.overflow_add-result
+overflow_add-result c =
     let l = c.loop-at in
     omega (arith, turn_fits l.n l.unit l.invariant.0 _ l.invariant.1 l.invariant.2 c.if-unit-b.false c.if-b-lt128.true)
 
 pub returns-then-b-lt128 : goal.returns-then-b-lt128
 returns-then-b-lt128 c =
     let l = c.loop-at in
-    c.digits_of.ensures
-    ∙ turn_end _ _ _ _ _ c.if-s-at.false c.wide-b.ensures.0 _ l.invariant.1 c.if-unit-b.false c.if-b-lt128.true c.if-b-eq0.false
+    turn_end _ _ _ _ _ c.loop-at-test.true refl _ l.invariant.1 c.if-unit-b.false c.if-b-lt128.true c.if-b-eq0.false
     ∙ l.invariant.3
 
 pub overflow_mul-n : goal.overflow_mul-n
 overflow_mul-n c =
     let l = c.loop-at in
-    omega (arith, on_fits l.n l.unit l.invariant.0 _ l.invariant.1 l.invariant.2 c.if-unit-b.false c.if-b-lt128.false c.wide-b.ensures.1)
+    omega (arith, on_fits l.n l.unit l.invariant.0 _ l.invariant.1 l.invariant.2 c.if-unit-b.false c.if-b-lt128.false (omega arith))
 
-pub overflow_add-n-in-loop-at : goal.overflow_add-n-in-loop-at
-overflow_add-n-in-loop-at c =
+pub overflow_add-n : goal.overflow_add-n
+overflow_add-n c =
     let l = c.loop-at in
-    omega (arith, on_fits l.n l.unit l.invariant.0 _ l.invariant.1 l.invariant.2 c.if-unit-b.false c.if-b-lt128.false c.wide-b.ensures.1)
+    omega (arith, on_fits l.n l.unit l.invariant.0 _ l.invariant.1 l.invariant.2 c.if-unit-b.false c.if-b-lt128.false (omega arith))
 
-pub overflow_mul-unit-in-loop-at : goal.overflow_mul-unit-in-loop-at
-overflow_mul-unit-in-loop-at c =
+pub overflow_mul-unit : goal.overflow_mul-unit
+overflow_mul-unit c =
     let l = c.loop-at in
-    omega (arith, on_fits l.n l.unit l.invariant.0 _ l.invariant.1 l.invariant.2 c.if-unit-b.false c.if-b-lt128.false c.wide-b.ensures.1)
+    omega (arith, on_fits l.n l.unit l.invariant.0 _ l.invariant.1 l.invariant.2 c.if-unit-b.false c.if-b-lt128.false (omega arith))
 
 pub loop-at-preserved : goal.loop-at-preserved
 loop-at-preserved c =
@@ -69,6 +65,9 @@ loop-at-preserved c =
     let m = turn_more l.unit l.invariant.0 _ l.invariant.1 c.if-unit-b.false c.if-b-lt128.false in (
       l.invariant.0 - 1,
       lim_down l.unit l.invariant.0 m l.invariant.1,
-      (on_fits l.n l.unit l.invariant.0 _ l.invariant.1 l.invariant.2 c.if-unit-b.false c.if-b-lt128.false c.wide-b.ensures.1).1,
-      rest_more _ _ _ _ _ c.if-s-at.false c.wide-b.ensures.0 _ m c.if-b-lt128.false ∙ l.invariant.3,
+      (on_fits l.n l.unit l.invariant.0 _ l.invariant.1 l.invariant.2 c.if-unit-b.false c.if-b-lt128.false (omega arith)).1,
+      rest_more _ _ _ _ _ c.loop-at-test.true refl _ m c.if-b-lt128.false ∙ l.invariant.3,
     )
+
+pub returns : goal.returns
+returns c = c.fail-2.ensures ∙ rest_out _ _ _ _ _ c.loop-at-test.false ∙ c.loop-at.invariant.3

@@ -1,2 +1,0 @@
--- What the code's enum says of an entry.
-pub mod Told

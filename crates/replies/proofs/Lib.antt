@@ -1,2 +1,0 @@
--- What is told of an answer tells the answer.
-pub mod One

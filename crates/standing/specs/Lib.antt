@@ -1,0 +1,1 @@
+-- Nothing is defined here: the laws of proofs/ are over other crates' definitions.
