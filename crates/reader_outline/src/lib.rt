@@ -186,8 +186,8 @@ fn close_ring(held: &mut [i32; 20_000], k: usize) -> Answer<usize>
     Ok(k + 1)
 }
 
-// The positions of ring `ring` into lent numbers, two a position: 48 where there are over 10,000.
-pub fn ring_positions(o: Opened, s: &[u8], ring: usize, held: &mut [i32; 20_000]) -> Answer<usize>
+// The positions of ring `ring` into an array, two a position: 48 where there are over 10,000.
+fn fill_ring(o: Opened, s: &[u8], ring: usize, held: &mut [i32; 20_000]) -> Answer<usize>
     requires ready { Ready o s.now }
     requires ring_lt_count { ring < o.rings.count }
     ensures { (result ≡ few_enough (positions_at o s.now ring)) × Keeps held.new (positions_at o s.now ring) }
@@ -195,6 +195,19 @@ pub fn ring_positions(o: Opened, s: &[u8], ring: usize, held: &mut [i32; 20_000]
     let v = reader_records::ring_at(o, s, ring)?;
     let n = fill_legs(o, s, v.first as usize, v.count, held)?;
     close_ring(held, n)
+}
+
+// The positions of ring `ring` into lent numbers, two a position: 48 where there are over 10,000.
+pub fn ring_positions(o: Opened, s: &[u8], ring: usize, held: &mut [i32]) -> Answer<usize>
+    requires ready { Ready o s.now }
+    requires ring_lt_count { ring < o.rings.count }
+    requires held_len { length held.old ≡ 20_000 }
+    ensures { (result ≡ few_enough (positions_at o s.now ring)) × Keeps held.new (positions_at o s.now ring) }
+{
+    let Some(room) = held.as_mut_array() else {
+        unreachable!()
+    };
+    fill_ring(o, s, ring, room)
 }
 
 // The product of two coordinates.
@@ -249,10 +262,11 @@ pub fn outline_of(
     s: &[u8],
     ring: usize,
     hole: bool,
-    held: &mut [i32; 20_000],
+    held: &mut [i32],
 ) -> Answer<(usize, bool)>
     requires ready { Ready o s.now }
     requires ring_lt_count { ring < o.rings.count }
+    requires held_len { length held.old ≡ 20_000 }
     ensures result_value { result ≡ outline_at o s.now ring hole }
     ensures memory { Keeps held.new (positions_at o s.now ring) }
 {

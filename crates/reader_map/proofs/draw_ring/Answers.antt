@@ -16,7 +16,7 @@ pub write_ring-requires : goal.write_ring-requires
 write_ring-requires c =
     let e = c.in_ok-k.ensures.result_value in
     let few = outline_few _ _ _ _ _ _ e in
-    (outline_some _ _ _ _ _ _ e, few, omega (arith, c.outline_of.array_long), c.requires.2)
+    (outline_some _ _ _ _ _ _ e, few, omega (arith, c.outline_of.auto.held, c.told-held), c.requires.2)
 
 pub returns : goal.returns
 returns c =

@@ -14,7 +14,7 @@ returns-in_err-n c =
 pub drawn-requires : goal.drawn-requires
 drawn-requires c =
     let n = held_few _ _ c.requires.ready _ c.requires.ring_lt_count _ _ c.in_ok-n.ensures.0 c.in_ok-n.ensures.1 in
-    record { n_bound = (n, omega (arith, c.ring_positions.array_long)); n_value = held_domain _ _ c.requires.ready _ c.requires.ring_lt_count _ _ c.in_ok-n.ensures.0 c.in_ok-n.ensures.1 }
+    record { n_bound = (n, omega (arith, n, c.ring_positions.auto.held, c.requires.held_len)); n_value = held_domain _ _ c.requires.ready _ c.requires.ring_lt_count _ _ c.in_ok-n.ensures.0 c.in_ok-n.ensures.1 }
 
 pub returns : goal.returns
 returns c =

@@ -1,8 +1,8 @@
--- `ring_positions` meets its contract: the record, which a sound file has, then the legs, then the ring closed.
+-- `fill_ring` meets its contract: the record, which a sound file has, then the legs, then the ring closed.
 -- Assumes nothing.
 use Rattle.std.proofs.Common.{rules}
 use Rattle.reader_outline.proofs.Legs.{ring_there, ops_there, ring_no, ring_room, ring_closed}
-use Rattle.reader_outline.proofs.ring_positions.Goals as goal
+use Rattle.reader_outline.proofs.fill_ring.Goals as goal
 
 pub returns-in_err-v : goal.returns-in_err-v
 returns-in_err-v c = absurd (ring_there _ _ c.requires.ready _ c.requires.ring_lt_count _ c.in_err-v.ensures)
