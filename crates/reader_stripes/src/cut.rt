@@ -10,19 +10,20 @@ use stripes::Striping;
 #[derive(Clone, Copy)]
 pub struct Cut {
     pub first: u32,
-    pub count: u16,
+    pub count: u32,
     pub striping: Striping,
     ghost high: { 0 < striping.height },
     ghost few: { striping.k ≤ 256 },
+    ghost chunks: { count ≤ 65_535 },
 }
 
 impl Cut {
-    pub fn of(first: u32, count: u16, b: BBox) -> Cut
+    pub(crate) fn of(first: u32, count: u16, b: BBox) -> Cut
         ensures { (result.first ≡ first) × (result.count ≡ count) × (result.striping ≡ striping_of b count) }
     {
         Cut {
             first,
-            count,
+            count: u32::from(count),
             striping: stripes::striping_of(b, count),
         }
     }

@@ -15,7 +15,7 @@ mod cut;
 
 use answer::Answer;
 use boxes::BBox;
-use cut::Cut;
+pub use cut::Cut;
 use opened::Opened;
 use stripes::Striping;
 
@@ -47,7 +47,7 @@ fn chunks_need(o: Opened, s: &[u8], group: BBox, c: Cut) -> Answer<u64>
 {
     let from = c.first as usize;
     let mut sum = 5 + 3 * u64::from(c.striping.k);
-    for i in from..from + usize::from(c.count) {
+    for i in from..from + c.count as usize {
         sum += chunk_need(o, s, group, c, i)?;
     }
     Ok(sum)
@@ -172,7 +172,7 @@ fn put_chunks(o: Opened, s: &[u8], c: Cut, stripe: u32, numbers: &mut [u32], fro
     for j in 0..c.count {
         let b = box_read(o, s, first + j as usize);
         if stripes::stands_in(c.striping, stripe, b) {
-            numbers[at] = j as u32;
+            numbers[at] = j;
             at += 1;
         }
     }

@@ -19,4 +19,4 @@ loop-i-preserved c =
 pub returns : goal.returns
 returns c =
     let v = c.loop-i.invariant in
-    (adding_end _ _ _ _ _ _ _ _ v.1 (omega (arith, v.0, c.loop-i-test.false)), omega (arith, adding_most _ _ _ _ _ _ _ _ v.1 (omega (arith, v.0, c.loop-i-test.false)), c.args.c.few))
+    (adding_end _ _ _ _ _ _ _ _ v.1 (omega (arith, v.0, c.loop-i-test.false)), omega (arith, adding_most _ _ _ _ _ _ _ _ v.1 (omega (arith, v.0, c.loop-i-test.false)), c.args.c.few, c.args.c.chunks))
