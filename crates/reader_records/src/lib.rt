@@ -10,7 +10,7 @@ ghost use Rattle.opened.specs.Widths.{list_wide, ring_wide, group_wide, chunk_wi
 use answer::Answer;
 use boxes::BBox;
 use fields::Number;
-use opened::{Directory, Opened};
+use opened::Opened;
 use plane::I32Point;
 
 // A zone with its polygons, a polygon with its rings.
@@ -66,25 +66,25 @@ trait Record: Copy {
     ghost narrow: { WIDE ≤ 64 };
 }
 
-// kept: widths up to 64 keep the sum from wrapping, and places are asked in range of three readers: each is one call away from the test.
-// Where record `index` of `width` bytes stands.
+// kept: widths up to 64 keep the sum from wrapping, and places are asked in range of three readers: each is one call away from the test. A directory's two numbers are handed on one by one: a record by value made lookups a fifth slower.
+// Where record `index` of `width` bytes stands, in a directory of `count` records from `off` on.
 #[tactic(auto, unfolding(crate::specs::Records::record_at))]
-fn record_at(s: &[u8], d: Directory, width: usize, index: usize) -> Answer<usize>
+fn record_at(s: &[u8], off: u32, count: u32, width: usize, index: usize) -> Answer<usize>
     requires { width ≤ 64 }
-    ensures { result ≡ record_at s.now d width index }
+    ensures { result ≡ record_at s.now (directory off count) width index }
 {
-    answer::claim(34, index < d.count as usize)?;
-    let at = d.off as usize + index * width;
+    answer::claim(34, index < count as usize)?;
+    let at = off as usize + index * width;
     answer::claim(44, at + width <= s.len())?;
     Ok(at)
 }
 
 // Record `index` of a directory, if it keeps its rule.
 #[tactic(auto, unfolding(crate::specs::Records::ruled))]
-fn record_as<R: Record>(s: &[u8], d: Directory, below: u32, index: usize) -> Answer<R>
-    ensures { result ≡ ruled (record_at s.now d R.WIDE index) (R.reading s.now) (R.rule below) 34 }
+fn record_as<R: Record>(s: &[u8], off: u32, count: u32, below: u32, index: usize) -> Answer<R>
+    ensures { result ≡ ruled (record_at s.now (directory off count) R.WIDE index) (R.reading s.now) (R.rule below) 34 }
 {
-    let at = record_at(s, d, R::WIDE, index)?;
+    let at = record_at(s, off, count, R::WIDE, index)?;
     let v = R::read(s, at);
     answer::claim(34, v.keeps(below))?;
     Ok(v)
@@ -153,21 +153,21 @@ impl Record for ListRecord {
 pub fn list_at(s: &[u8], off: u32, count: u32, below: u32, index: usize) -> Answer<ListRecord>
     ensures { result ≡ list_at s.now (directory off count) below index }
 {
-    record_as(s, Directory { off, count }, below, index)
+    record_as(s, off, count, below, index)
 }
 
 #[tactic(auto, unfolding(crate::specs::Records::list_at))]
 pub fn tz_at(o: Opened, s: &[u8], index: usize) -> Answer<ListRecord>
     ensures { result ≡ tz_at o s.now index }
 {
-    record_as(s, o.zones, o.polys.count, index)
+    record_as(s, o.zones.off, o.zones.count, o.polys.count, index)
 }
 
 #[tactic(auto, unfolding(crate::specs::Records::list_at))]
 pub fn poly_at(o: Opened, s: &[u8], index: usize) -> Answer<ListRecord>
     ensures { result ≡ poly_at o s.now index }
 {
-    record_as(s, o.polys, o.rings.count, index)
+    record_as(s, o.polys.off, o.polys.count, o.rings.count, index)
 }
 
 impl Record for RingRecord {
@@ -201,7 +201,7 @@ impl Record for RingRecord {
 pub fn ring_at(o: Opened, s: &[u8], index: usize) -> Answer<RingRecord>
     ensures { result ≡ ring_at o s.now index }
 {
-    record_as(s, o.rings, o.ops.count, index)
+    record_as(s, o.rings.off, o.rings.count, o.ops.count, index)
 }
 
 // The points of a ring's groups, less the number of groups, are its own.
@@ -217,7 +217,7 @@ pub fn count_rule(v: RingRecord, sum: usize) -> bool
 pub fn op_at(o: Opened, s: &[u8], index: usize) -> Answer<usize>
     ensures { result ≡ op_at o s.now index }
 {
-    let at = record_at(s, o.ops, opened::OP_WIDE, index)?;
+    let at = record_at(s, o.ops.off, o.ops.count, opened::OP_WIDE, index)?;
     let word = u32::at(s, at) as usize;
     answer::claim(35, word % 0x8000_0000 < o.groups.count as usize)?;
     Ok(word)
@@ -273,7 +273,7 @@ impl Record for GroupRecord {
 pub fn group_place(o: Opened, s: &[u8], index: usize) -> Answer<usize>
     ensures { result ≡ group_place o s.now index }
 {
-    let at = record_at(s, o.groups, opened::GROUP_WIDE, index)?;
+    let at = record_at(s, o.groups.off, o.groups.count, opened::GROUP_WIDE, index)?;
     answer::claim(34, group_rule(o.chunks.count, group_in(s, at)))?;
     Ok(at)
 }
@@ -282,7 +282,7 @@ pub fn group_place(o: Opened, s: &[u8], index: usize) -> Answer<usize>
 pub fn group_at(o: Opened, s: &[u8], index: usize) -> Answer<GroupRecord>
     ensures { result ≡ group_at o s.now index }
 {
-    record_as(s, o.groups, o.chunks.count, index)
+    record_as(s, o.groups.off, o.groups.count, o.chunks.count, index)
 }
 
 // The chunk record that stands at a tested place.
@@ -330,5 +330,5 @@ impl Record for ChunkRecord {
 pub fn chunk_at(o: Opened, s: &[u8], index: usize) -> Answer<ChunkRecord>
     ensures { result ≡ chunk_at o s.now index }
 {
-    record_as(s, o.chunks, 0, index)
+    record_as(s, o.chunks.off, o.chunks.count, 0, index)
 }
