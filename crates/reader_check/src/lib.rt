@@ -12,6 +12,7 @@ ghost use Rattle.reader_check.specs.FullCheck.{Chunk, met, records_hold, chunks_
 ghost use Rattle.answer.specs.Answers.{holds, answered};
 
 use opened::Opened;
+use reader_cover::Part;
 use reader_records::{ListRecord, RingRecord};
 
 // ---- F2: a zone, a polygon, an op meets its rule; a ring does, and its points add.
@@ -92,13 +93,7 @@ fn group_holds(o: Opened, s: &[u8], index: usize) -> bool
 fn ring_covers(o: Opened, s: &[u8], v: RingRecord) -> bool
     ensures { result ≡ ring_covers o s.now v }
 {
-    let b = v.bbox;
-    let groups = u32::from(v.count);
-    reader_cover::parts_fit(
-        v.first,
-        groups,
-        move |j| reader_cover::group_under(o, s, b, j),
-    )
+    reader_cover::parts_fit(o, s, Part::Group(v.bbox), v.first, v.count)
 }
 
 #[tactic(auto, unfolding(answer::specs::Answers::holds))]
@@ -112,13 +107,7 @@ fn ring_holds(o: Opened, s: &[u8], index: usize) -> bool
 fn poly_covers(o: Opened, s: &[u8], v: ListRecord) -> bool
     ensures { result ≡ poly_covers o s.now v }
 {
-    let b = v.bbox;
-    let rings = u32::from(v.count);
-    reader_cover::parts_fit(
-        v.first,
-        rings,
-        move |j| reader_cover::ring_under(o, s, b, j),
-    )
+    reader_cover::parts_fit(o, s, Part::Ring(v.bbox), v.first, v.count)
 }
 
 #[tactic(auto, unfolding(answer::specs::Answers::holds))]
@@ -132,13 +121,7 @@ fn poly_holds(o: Opened, s: &[u8], index: usize) -> bool
 fn zone_covers(o: Opened, s: &[u8], v: ListRecord) -> bool
     ensures { result ≡ zone_covers o s.now v }
 {
-    let b = v.bbox;
-    let polys = u32::from(v.count);
-    reader_cover::parts_fit(
-        v.first,
-        polys,
-        move |j| reader_cover::poly_under(o, s, b, j),
-    )
+    reader_cover::parts_fit(o, s, Part::Polygon(v.bbox), v.first, v.count)
 }
 
 #[tactic(auto, unfolding(answer::specs::Answers::holds))]
@@ -155,10 +138,10 @@ fn zone_holds(o: Opened, s: &[u8], index: usize) -> bool
 fn records_hold(o: Opened, s: &[u8]) -> bool
     ensures { result ≡ records_hold o s.now }
 {
-    reader_cover::parts_fit(0, o.zones.count, move |i| zone_there(o, s, i))
-        && reader_cover::parts_fit(0, o.polys.count, move |i| poly_there(o, s, i))
-        && reader_cover::parts_fit(0, o.ops.count, move |i| op_there(o, s, i))
-        && reader_cover::parts_fit(0, o.rings.count, move |i| ring_adds(o, s, i))
+    reader_cover::each_passes(0, o.zones.count, move |i| zone_there(o, s, i))
+        && reader_cover::each_passes(0, o.polys.count, move |i| poly_there(o, s, i))
+        && reader_cover::each_passes(0, o.ops.count, move |i| op_there(o, s, i))
+        && reader_cover::each_passes(0, o.rings.count, move |i| ring_adds(o, s, i))
 }
 
 // The first demand of F4.
@@ -166,7 +149,7 @@ fn records_hold(o: Opened, s: &[u8]) -> bool
 fn chunks_cover(o: Opened, s: &[u8]) -> bool
     ensures { result ≡ met o s.now Chunk }
 {
-    reader_cover::parts_fit(0, o.chunks.count, move |i| chunk_covers(o, s, i))
+    reader_cover::each_passes(0, o.chunks.count, move |i| chunk_covers(o, s, i))
 }
 
 // F3: a box that covers a chunk's points says that they decode, so no chunk is read where all are covered.
@@ -175,7 +158,7 @@ fn chunks_decode(o: Opened, s: &[u8], covered: bool) -> bool
     requires { covered ≡ met o s.now Chunk }
     ensures { result ≡ chunks_decode o s.now }
 {
-    covered || reader_cover::parts_fit(0, o.chunks.count, move |i| chunk_decodes(o, s, i))
+    covered || reader_cover::each_passes(0, o.chunks.count, move |i| chunk_decodes(o, s, i))
 }
 
 // F2, document 02's part.
@@ -184,7 +167,7 @@ fn rings_have_room(o: Opened, s: &[u8]) -> bool
     requires { (records_hold o s.now ≡ true) × (chunks_decode o s.now ≡ true) }
     ensures { result ≡ rings_have_room o s.now }
 {
-    reader_cover::parts_fit(0, o.rings.count, move |i| ring_has_room(o, s, i))
+    reader_cover::each_passes(0, o.rings.count, move |i| ring_has_room(o, s, i))
 }
 
 // F4, where its first demand is known.
@@ -193,7 +176,7 @@ fn chunk_boxes_cover(o: Opened, s: &[u8], covered: bool) -> bool
     requires { covered ≡ met o s.now Chunk }
     ensures { result ≡ chunk_boxes_cover o s.now }
 {
-    covered && reader_cover::parts_fit(0, o.groups.count, move |i| group_joined(o, s, i))
+    covered && reader_cover::each_passes(0, o.groups.count, move |i| group_joined(o, s, i))
 }
 
 // F5.
@@ -201,7 +184,7 @@ fn chunk_boxes_cover(o: Opened, s: &[u8], covered: bool) -> bool
 fn groups_cover(o: Opened, s: &[u8]) -> bool
     ensures { result ≡ groups_cover o s.now }
 {
-    reader_cover::parts_fit(0, o.groups.count, move |i| group_holds(o, s, i))
+    reader_cover::each_passes(0, o.groups.count, move |i| group_holds(o, s, i))
 }
 
 // F6.
@@ -209,9 +192,9 @@ fn groups_cover(o: Opened, s: &[u8]) -> bool
 fn boxes_cover(o: Opened, s: &[u8]) -> bool
     ensures { result ≡ boxes_cover o s.now }
 {
-    reader_cover::parts_fit(0, o.rings.count, move |i| ring_holds(o, s, i))
-        && reader_cover::parts_fit(0, o.polys.count, move |i| poly_holds(o, s, i))
-        && reader_cover::parts_fit(0, o.zones.count, move |i| zone_holds(o, s, i))
+    reader_cover::each_passes(0, o.rings.count, move |i| ring_holds(o, s, i))
+        && reader_cover::each_passes(0, o.polys.count, move |i| poly_holds(o, s, i))
+        && reader_cover::each_passes(0, o.zones.count, move |i| zone_holds(o, s, i))
 }
 
 // kept: a number, 0 for none, as `lowest_broken` has it, of which the theorems of the demands speak.

@@ -14,6 +14,8 @@ use Rattle.reader_chunks.specs.Chunks.{first_at, chunk_points}
 use Rattle.shapes.specs.Shapes.{covers}
 use Rattle.reader_cover.specs.All.{all}
 use Rattle.plane.specs.Segment.{same_point}
+use Rattle.reader_cover.specs.declared.Part.{Part}
+use Rattle.reader_cover.specs.declared.Part.TheVariants as P
 
 -- the group that op j names
 unfoldable pub group_of_op : Opened → List ℕ → ℕ → Answer GroupRecord
@@ -75,3 +77,12 @@ poly_covers o s v = all (ring_under o s v.bbox) v.count v.first
 
 unfoldable pub zone_covers : Opened → List ℕ → ListRecord → Bool
 zone_covers o s v = all (poly_under o s v.bbox) v.count v.first
+
+-- ---- one part under its whole, of each kind
+-- what is asked of each part of something larger
+abbrev pub part_fits : Opened → List ℕ → Part → ℕ → Bool
+part_fits o s (P.Chunk b) = chunk_under o s b
+part_fits o s (P.Group b) = group_under o s b
+part_fits o s (P.Ring b) = ring_under o s b
+part_fits o s (P.Polygon b) = poly_under o s b
+part_fits o s P.Joint = joint_covers o s

@@ -6,7 +6,7 @@ ghost use Rattle.plane.specs.Lines.{last_of};
 ghost use Rattle.boxes.specs.Box.{in_box};
 ghost use Rattle.shapes.specs.Shapes.{covers};
 ghost use Rattle.reader_chunks.specs.Chunks.{first_at, chunk_points};
-ghost use Rattle.reader_cover.specs.Cover.{points_add, sum_of_ops, joint_covers, joints_cover, chunk_under, group_under, ring_under, poly_under, ends_fit, group_covers, group_of_op};
+ghost use Rattle.reader_cover.specs.Cover.{points_add, sum_of_ops, joint_covers, joints_cover, chunk_under, group_under, ring_under, poly_under, ends_fit, group_covers, group_of_op, part_fits};
 ghost use Rattle.answer.specs.Answers.{holds};
 ghost use Rattle.reader_cover.specs.All.{all};
 ghost use Rattle.plane.specs.Segment.{same_point};
@@ -16,6 +16,22 @@ use boxes::BBox;
 use opened::Opened;
 use plane::I32Point;
 use reader_records::{GroupRecord, RingRecord};
+
+// kept: a case for each test, as `part_fits` has it, of which the promise of `parts_fit` speaks.
+// What is asked of each part of something larger.
+#[derive(Clone, Copy)]
+pub enum Part {
+    // The box covers that of a chunk.
+    Chunk(BBox),
+    // The box covers that of the group that an op names.
+    Group(BBox),
+    // The box covers that of a ring.
+    Ring(BBox),
+    // The box covers that of a polygon.
+    Polygon(BBox),
+    // A chunk's box covers the next chunk's first point.
+    Joint,
+}
 
 // The box covers the other.
 #[tactic(auto, unfolding(shapes::specs::Shapes::covers))]
@@ -109,7 +125,7 @@ fn joint_covers(o: Opened, s: &[u8], index: usize) -> bool
 }
 
 // Each of `count` records or parts, from `first` on, passes the test.
-pub fn parts_fit<F: Fn(usize) -> bool>(first: u32, count: u32, fits: F) -> bool
+pub fn each_passes<F: Fn(usize) -> bool>(first: u32, count: u32, fits: F) -> bool
     ghost test: { ℕ → Bool }
     requires callable { (j : ℕ) → first ≤ j → j < first + count → F.pre fits j }
     requires decides { (j : ℕ) (r : Bool) → F.post fits j r → r ≡ test j }
@@ -125,6 +141,20 @@ pub fn parts_fit<F: Fn(usize) -> bool>(first: u32, count: u32, fits: F) -> bool
     true
 }
 
+// Each of `count` parts, from `first` on.
+pub fn parts_fit(o: Opened, s: &[u8], part: Part, first: u32, count: u16) -> bool
+    ensures { result ≡ all (part_fits o s.now part) count first }
+{
+    let n = u32::from(count);
+    match part {
+        Part::Chunk(b) => each_passes(first, n, move |j| chunk_under(o, s, b, j)),
+        Part::Group(b) => each_passes(first, n, move |j| group_under(o, s, b, j)),
+        Part::Ring(b) => each_passes(first, n, move |j| ring_under(o, s, b, j)),
+        Part::Polygon(b) => each_passes(first, n, move |j| poly_under(o, s, b, j)),
+        Part::Joint => each_passes(first, n, move |j| joint_covers(o, s, j)),
+    }
+}
+
 // ---- a group
 
 // Within a group, each chunk's box but the last's covers the next chunk's first point.
@@ -132,11 +162,7 @@ pub fn parts_fit<F: Fn(usize) -> bool>(first: u32, count: u32, fits: F) -> bool
 pub fn joints_cover(o: Opened, s: &[u8], v: GroupRecord) -> bool
     ensures { result ≡ joints_cover o s.now v }
 {
-    parts_fit(
-        v.first,
-        u32::from(v.count.saturating_sub(1)),
-        move |j| joint_covers(o, s, j),
-    )
+    parts_fit(o, s, Part::Joint, v.first, v.count.saturating_sub(1))
 }
 
 // The point is the first of chunk `index`.
@@ -168,12 +194,7 @@ fn ends_fit(o: Opened, s: &[u8], v: GroupRecord) -> bool
 fn chunks_under(o: Opened, s: &[u8], v: GroupRecord) -> bool
     ensures { result ≡ all (chunk_under o s.now v.bbox) v.count v.first }
 {
-    let b = v.bbox;
-    parts_fit(
-        v.first,
-        u32::from(v.count),
-        move |j| chunk_under(o, s, b, j),
-    )
+    parts_fit(o, s, Part::Chunk(v.bbox), v.first, v.count)
 }
 
 // The group's box covers its chunks' boxes; its entry and exit are its first and last point.

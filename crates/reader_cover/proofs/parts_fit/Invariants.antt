@@ -1,7 +1,17 @@
-use Prim.Native.Nat.{◌-◌}
-use mathlib.Core.Path.{◌≡◌}
-use Rattle.reader_cover.specs.All.{all}
+use Rattle.reader_cover.specs.Cover.{chunk_under, group_under, ring_under, poly_under, joint_covers}
 use Rattle.reader_cover.proofs.parts_fit.Given as goal
 
-abbrev pub invariant-loop-j : goal.invariant-loop-j
-invariant-loop-j g l = all g.test (l.to - l.j) l.j ≡ all g.test l.count l.first
+abbrev pub ghost-each_passes : goal.ghost-each_passes
+ghost-each_passes a = chunk_under a.fits.0 a.fits.1.now a.fits.2
+
+abbrev pub ghost-each_passes-2 : goal.ghost-each_passes-2
+ghost-each_passes-2 a = group_under a.fits.0 a.fits.1.now a.fits.2
+
+abbrev pub ghost-each_passes-3 : goal.ghost-each_passes-3
+ghost-each_passes-3 a = ring_under a.fits.0 a.fits.1.now a.fits.2
+
+abbrev pub ghost-each_passes-4 : goal.ghost-each_passes-4
+ghost-each_passes-4 a = poly_under a.fits.0 a.fits.1.now a.fits.2
+
+abbrev pub ghost-each_passes-5 : goal.ghost-each_passes-5
+ghost-each_passes-5 a = joint_covers a.fits.0 a.fits.1.now

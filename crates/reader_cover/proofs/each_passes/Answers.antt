@@ -1,11 +1,10 @@
--- `reader_cover::parts_fit` meets its contract: what is left from part j on passes as the whole does.
+-- `reader_cover::each_passes` meets its contract: what is left from part j on passes as the whole does.
 -- Assumes nothing.
 use mathlib.Core.Path.{refl}
 use Rattle.answer.proofs.CheckLaws.{told_yes, told_no}
 use Rattle.reader_cover.proofs.AllLaws.{all_start, all_yes, all_no, all_end}
 use Rattle.std.proofs.lemmas.Bool.{not_from_true, not_from_false}
-use native.Mathlib.Omega.{arith}
-use Rattle.reader_cover.proofs.parts_fit.Goals as goal
+use Rattle.reader_cover.proofs.each_passes.Goals as goal
 
 pub loop-j-init : goal.loop-j-init
 loop-j-init g c = all_start g.test _ _ _ _ refl refl

@@ -1,5 +1,0 @@
-use Rattle.reader_cover.specs.Cover.{group_under}
-use Rattle.reader_check.proofs.ring_covers.Given as goal
-
-abbrev pub ghost-parts_fit : goal.ghost-parts_fit
-ghost-parts_fit a = group_under a.fits.0 a.fits.1.now a.fits.2
