@@ -28,7 +28,7 @@ fn in_span(least: i32, greatest: i32, x: f64) -> bool
 fn between(least: i32, greatest: i32, x: i32) -> bool
     ensures { result ≡ (le_z least x && le_z x greatest) }
 {
-    least <= x && x <= greatest
+    (least <= x) & (x <= greatest)
 }
 
 impl BBox {
@@ -55,7 +55,7 @@ impl BBox {
     pub fn ordered(self) -> bool
         ensures { result ≡ ordered self }
     {
-        self.minx <= self.maxx && self.miny <= self.maxy
+        (self.minx <= self.maxx) & (self.miny <= self.maxy)
     }
 
     // Ordered, with both corners in the domain.
@@ -63,7 +63,7 @@ impl BBox {
     pub fn in_domain(self) -> bool
         ensures { result ≡ box_in_domain self }
     {
-        self.ordered() && point_in_domain(self.least()) && point_in_domain(self.greatest())
+        self.ordered() & (point_in_domain(self.least()) & point_in_domain(self.greatest()))
     }
 
     #[tactic(auto, unfolding(crate::specs::Box::contains))]
@@ -94,7 +94,7 @@ impl BBox {
 pub fn point_in_domain(q: I32Point) -> bool
     ensures { result ≡ in_domain q }
 {
-    between(-18_000_000, 18_000_000, q.x) && between(-9_000_000, 9_000_000, q.y)
+    between(-18_000_000, 18_000_000, q.x) & between(-9_000_000, 9_000_000, q.y)
 }
 
 // The box covers the point.
@@ -102,7 +102,7 @@ pub fn point_in_domain(q: I32Point) -> bool
 pub fn in_box(b: BBox, q: I32Point) -> bool
     ensures { result ≡ in_box b q }
 {
-    between(b.minx, b.maxx, q.x) && between(b.miny, b.maxy, q.y)
+    between(b.minx, b.maxx, q.x) & between(b.miny, b.maxy, q.y)
 }
 
 #[tactic(auto, unfolding(plane::specs::Segment::same_point))]
