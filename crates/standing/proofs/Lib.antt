@@ -1,4 +1,7 @@
 -- Laws that pages name and no proof cites any more, a module for each crate whose definitions they are over.
+pub mod Answer
+pub mod Plane
+pub mod Replies
 pub mod Boxes
 pub mod Fields
 pub mod Texts
