@@ -77,6 +77,7 @@ fn has_zones_form(places: u8, q: I32Point, zones: &[u32]) -> bool
         && all_different(zones)
 }
 
+#[inline(always)]
 fn is_formed(places: u8, q: I32Point, zones: &[u32], reason: u32) -> bool
     ensures { result ≡ formed places (entry q zones.now reason) }
 {

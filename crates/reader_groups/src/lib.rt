@@ -109,6 +109,7 @@ fn joined_to(o: Opened, s: &[u8], p: Point, c: Reached, n: ChunkRecord) -> Walk<
 
 // Past the chunk c, which another follows: that one is reached.
 #[tactic(auto, using(crate::proofs::Remembering::chunk_index, crate::proofs::Remembering::own_next, crate::proofs::Remembering::kept_at), unfolding(crate::specs::Groups::pass_at, answer::specs::Walks::add))]
+#[inline(always)]
 fn pass_at(o: Opened, s: &[u8], p: Point, c: Reached) -> Walk<Reached>
     requires { Kept c.first (own_first o s.now c.index c.record) }
     ensures { (passed result ≡ pass_at o s.now p c.index c.record) × Hands o s.now (c.index + 1) result }

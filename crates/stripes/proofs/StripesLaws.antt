@@ -1,9 +1,9 @@
 -- What follows from the definitions of stripes: a height's stripe is one of the group's, and the greater height has no lesser one; a box stands in the stripe of each of its heights.
 -- Assumes nothing.
-use Prim.Native.Nat.{ℕ, zero, suc, ◌-◌, ◌/◌, ◌≤◌, ◌<◌, min, max}
+use Prim.Native.Nat.{ℕ, zero, suc, ◌-◌, ◌*◌, ◌/◌, ◌≤◌, ◌<◌, min, max}
 use native.Mathlib.Omega.{arith}
-use native.Mathlib.Nat.{div-zero, div-mul-le_self, le-div_iff_mul-le, mul-le-mul_right}
-use mathlib.Core.Path.{◌≡◌, refl, sym}
+use native.Mathlib.Nat.{div-zero, div-mul-le_self, le-div_iff_mul-le, mul-le-mul_right, min-eq_right, mul_comm}
+use mathlib.Core.Path.{◌≡◌, refl, sym, ◌∙◌}
 use mathlib.Core.Bool.{true}
 use borrow.Author.Tests.{lt-ltb, le-ltb, le-leb}
 use lib.IntN.{ℤ}
@@ -11,7 +11,7 @@ use lib.Signed.{le_z}
 use Rattle.basics.specs.Truth.{and_i}
 use Rattle.boxes.specs.declared.BBox.{BBox}
 use Rattle.stripes.specs.declared.Striping.{Striping}
-use Rattle.stripes.specs.Stripes.{stripe_count, striping_of, stripe_of, stands_in}
+use Rattle.stripes.specs.Stripes.{stripe_count, above, striping_of, stripe_of, stands_in}
 use Rattle.stripes.proofs.Heights.{above_rises}
 
 div_rises : (a b d : ℕ) → a ≤ b → a / d ≤ b / d
@@ -26,6 +26,14 @@ module _ (t : Striping) (y : ℤ) where
   pub stripe_below : 0 < t.k → stripe_of t y < t.k
   unfolding stripe_of
   stripe_below h = omega arith
+
+  -- at the group's height and above it
+  pub stripe_last : (up last : ℕ) → up ≡ above t.least y → t.height ≤ up → last ≡ t.k - 1 → 0 < t.height → 0 < t.k → (last ≡ stripe_of t y) × (last < t.k)
+  unfolding stripe_of
+  stripe_last up last e h l p q =
+      let k : t.height ≤ above t.least y = omega (arith, e, h) in
+      let m : t.k ≤ above t.least y * t.k / t.height = (le-div_iff_mul-le {k = t.height} {x = t.k} p).1 (omega (arith, mul-le-mul_right t.k k, mul_comm t.height t.k)) in
+      (l ∙ sym (min-eq_right (omega arith)), omega arith)
 
 pub stripe_rises : (t : Striping) (a b : ℤ) → le_z a b ≡ true → stripe_of t a ≤ stripe_of t b
 unfolding stripe_of

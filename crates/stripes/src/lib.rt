@@ -24,13 +24,19 @@ fn height_above(least: i32, y: i32) -> u32
 
 // The stripe that a height lies in.
 // kept: a group of one chunk has no stripes and an entry of lent numbers may have no height, so `Striping` can hold neither fact
-#[tactic(auto, unfolding(crate::specs::Stripes::stripe_of))]
+// kept: the group's greatest height is told without a division, which costs more than all else here: a box that bounds its group ends there.
+#[tactic(auto, using(crate::proofs::StripesLaws::stripe_last), unfolding(crate::specs::Stripes::stripe_of))]
 pub fn stripe_of(t: Striping, y: i32) -> u32
     requires { (0 < t.height) × (0 < t.k) }
     ensures { (result ≡ stripe_of t y) × (result < t.k) }
 {
-    let share = u64::from(height_above(t.least, y)) * u64::from(t.k) / u64::from(t.height);
-    share.min(u64::from(t.k - 1)) as u32
+    let up = height_above(t.least, y);
+    let last = t.k - 1;
+    if t.height <= up {
+        return last;
+    }
+    let share = u64::from(up) * u64::from(t.k) / u64::from(t.height);
+    share.min(u64::from(last)) as u32
 }
 
 // How many stripes a group of that many chunks has.
