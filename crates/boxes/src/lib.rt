@@ -24,6 +24,7 @@ fn in_span(least: i32, greatest: i32, x: f64) -> bool
     x >= least as f64 && x <= greatest as f64
 }
 
+// kept: tests of whole numbers are joined by &, here and in the records' rules (reader_records): the compiler then makes few tests of several at once. Joined by &&, containment in a file of 65,535 small groups took a third longer.
 // The same of whole numbers.
 fn between(least: i32, greatest: i32, x: i32) -> bool
     ensures { result ≡ (le_z least x && le_z x greatest) }

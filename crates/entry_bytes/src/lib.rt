@@ -10,7 +10,7 @@ ghost use Rattle.fields.specs.Row.{row_bytes, row_in};
 ghost use Rattle.fields.specs.Stores.{Laid};
 ghost use Rattle.answer.specs.Answers.{outcome, left, ◌then◌, ok};
 ghost use Rattle.entries.specs.Entry.{entry, unused, places_of};
-ghost use Rattle.entries.specs.Forms.{all_below, among, all_different, placed, zones_form, formed, laid_of, write_of};
+ghost use Rattle.entries.specs.Forms.{all_below, all_different, placed, zones_form, formed, laid_of, write_of};
 ghost use Rattle.entries.specs.Reading.{all_unused, of_forms, entry_is, read_of, head_of};
 
 use answer::Answer;
@@ -27,21 +27,14 @@ pub fn all_below(zones: &[u32]) -> bool
     zones.iter().all(|zone| *zone < 65535)
 }
 
-// kept: not `contains` of the library, which is made for long rows: an entry has three zones at most, and its checks took half as long again.
-#[tactic(auto, unfolding(entries::specs::Forms::among, answer::specs::Checks::same))]
-fn is_among(zone: u32, zones: &[u32]) -> bool
-    ensures { result ≡ among zone zones.now }
-{
-    zones.iter().any(|other| *other == zone)
-}
-
 // Whether no zone is among those behind it.
+
 fn all_different(zones: &[u32]) -> bool
     ensures { result ≡ all_different zones.now }
 {
     let mut rest = zones;
     while let Some((zone, behind)) = rest.split_first() {
-        if is_among(*zone, behind) {
+        if behind.contains(zone) {
             return false;
         }
         rest = behind;
@@ -77,7 +70,6 @@ fn has_zones_form(places: u8, q: I32Point, zones: &[u32]) -> bool
         && all_different(zones)
 }
 
-#[inline(always)]
 fn is_formed(places: u8, q: I32Point, zones: &[u32], reason: u32) -> bool
     ensures { result ≡ formed places (entry q zones.now reason) }
 {

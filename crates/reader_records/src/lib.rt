@@ -119,7 +119,7 @@ fn point_in(s: &[u8], at: usize) -> I32Point
 fn spans(b: BBox, first: u32, count: u16, below: u32) -> bool
     ensures { result ≡ (box_in_domain b && fits_below first count below) }
 {
-    b.in_domain() && 0 < count && first as usize + usize::from(count) <= below as usize
+    b.in_domain() & ((0 < count) & (first as usize + usize::from(count) <= below as usize))
 }
 
 impl Record for ListRecord {
@@ -244,8 +244,7 @@ pub fn group_rule(below: u32, v: GroupRecord) -> bool
     ensures { result ≡ group_rule below v }
 {
     spans(v.bbox, v.first, v.count, below)
-        && boxes::point_in_domain(v.entry)
-        && boxes::point_in_domain(v.exit)
+        & (boxes::point_in_domain(v.entry) & boxes::point_in_domain(v.exit))
 }
 
 impl Record for GroupRecord {
