@@ -403,7 +403,7 @@ END
   unset TZB_HOST
 }
 
-# Today's archive has no jump table, and tomorrow's may. Where there is none, a function with one is put beside the others.
+# An archive may have a jump table or none. Where there is none, a function with one is put beside the others.
 with_table() {
   "${prefix}ar" p "$room/whole.a" >"$room/whole.o"
   [ -z "$(moved_table "$room/whole.o")" ] || return 0
